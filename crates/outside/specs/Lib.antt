@@ -1,0 +1,4 @@
+pub mod Causes
+pub mod Contents
+pub mod Cells
+pub mod Pictures
