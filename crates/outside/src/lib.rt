@@ -3,11 +3,13 @@
 #![tactic(auto)]
 
 mod error;
+mod picture;
 mod shelf;
 mod sink;
 mod source;
 
 pub use error::StoreError;
+pub use picture::{Content, Picture, PictureFile};
 pub use shelf::Shelf;
 pub use sink::Sink;
 pub use source::{Got, MemFile, Source};
