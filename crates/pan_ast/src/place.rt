@@ -1,0 +1,25 @@
+ghost use Rattle.std.specs.Prelude.{◌≡◌, IfOk};
+
+use small_types::Text;
+use std::alloc::AllocError;
+
+/// A place in a file. Lines and columns count from 1, columns in characters. Copies share the file's name.
+#[derive(Clone, Drop, PartialEq, Eq)]
+pub struct Place {
+    pub file: Text,
+    pub line: u32,
+    pub column: u32,
+}
+
+impl Place {
+    /// The same place, its file's name shared.
+    pub fn share(&self) -> Result<Place, AllocError>
+        ensures { IfOk result (λ p. p ≡ self.now) }
+    {
+        Ok(Place {
+            file: self.file.share()?,
+            line: self.line,
+            column: self.column,
+        })
+    }
+}
