@@ -1,2 +1,4 @@
+pub mod Keeping
 pub mod Order
 pub mod Places
+pub mod Silent

@@ -1,5 +1,10 @@
+pub mod Absent
+pub mod Calls
 pub mod Causes
 pub mod Contents
 pub mod Cells
+pub mod Kept
 pub mod Pictures
+pub mod Reels
+pub mod FileNames
 pub mod Files

@@ -1,0 +1,31 @@
+-- A tree as JSON.
+use Rattle.std.specs.Prelude.{ℕ, List, [], ◌∷◌, ◌++◌}
+use Rattle.serde_json.specs.Data.{Data, null, boolean, number, string, array, object, Members, no_members, member}
+use Rattle.serde_json.specs.Data as js
+use Rattle.serde_json.specs.Find.{of_integer}
+use Rattle.serde_json.specs.Written.{compact_text}
+use Rattle.path_tree.specs.Plain.{Plain, dict, list, text, long, undef, Items, no_items, item, Fields, no_fields, field}
+use Rattle.path_tree.specs.Plain as plain
+
+-- an undef or a null is written as null; no profile holds one
+abbrev mutual
+  pub json : Plain → Data
+  json (dict fs) = object (fields_json fs)
+  json (list ts) = array (items_json ts)
+  json (text bs) = string bs
+  json (long z) = number (of_integer z)
+  json (plain.boolean b) = boolean b
+  json undef = null
+  json plain.null = null
+
+  pub items_json : Items → js.Items
+  items_json no_items = js.no_items
+  items_json (item t ts) = js.item (json t) (items_json ts)
+
+  pub fields_json : Fields → Members
+  fields_json no_fields = no_members
+  fields_json (field k t fs) = member k (json t) (fields_json fs)
+
+-- one line of compact JSON, and a line feed
+abbrev pub profile_of : Plain → List ℕ
+profile_of t = compact_text (json t) ++ 10 ∷ []

@@ -1,0 +1,182 @@
+ghost use Rattle.std.specs.Prelude.{◌≡◌, ◌++◌, ◌∷◌, [], IfOk, IfErr, IsErrAnd, MatchOption, Ok, Err, true, false, string_bytes, codes};
+ghost use Rattle.std.specs.IoError.{error_kind};
+ghost use Rattle.outside.specs.Absent.{says_absent};
+
+use small_types::Text;
+use std::alloc::{AllocError, Global};
+use std::fs::{DirEntry, File, ReadDir};
+use std::io::{ErrorKind, Read, Write};
+use std::rt::Files;
+use std::{fs, io};
+
+/// The most entries that a listing passes over.
+const MOST_ENTRIES: u64 = 1_000_000;
+
+/// The path of a name below a folder.
+pub(crate) fn path_below(alloc: Global, root: &str, name: &str) -> Result<String, AllocError>
+    ensures { IfOk result (λ path. string_bytes path ≡ root.now ++ codes "/" ++ name.now) }
+{
+    let mut path = String::from_str(alloc, root)?;
+    path.push('/')?;
+    path.push_str(name)?;
+    Ok(path)
+}
+
+/// None where the error says that no file is there: none has the name, or a folder has it, or one of the
+/// folders on the way to it is a file.
+fn unless_absent<T>(outcome: io::Result<T>) -> io::Result<Option<T>>
+    ensures ok { IfOk result (λ found. MatchOption found (IsErrAnd outcome (λ e. says_absent (error_kind e) ≡ true)) (λ value. outcome ≡ Ok value)) }
+    ensures err { IfErr result (λ e. (outcome ≡ Err e) × (says_absent (error_kind e) ≡ false)) }
+{
+    match outcome {
+        Ok(value) => Ok(Some(value)),
+        Err(error) => match error.kind() {
+            ErrorKind::NotFound | ErrorKind::NotADirectory | ErrorKind::IsADirectory => Ok(None),
+            _ => Err(error),
+        },
+    }
+}
+
+/// A walk through a folder and all folders below it.
+#[derive(Drop)]
+struct Walk {
+    alloc: Global,
+    /// The regular files so far, by their paths from the root.
+    names: Vec<Text>,
+    /// The folders still to list, by their paths from the root, each with a slash at its end.
+    folders: Vec<String>,
+    entries: u64,
+}
+
+impl Walk {
+    fn new(alloc: Global) -> Walk {
+        Walk {
+            alloc,
+            names: Vec::new(alloc),
+            folders: Vec::new(alloc),
+            entries: 0,
+        }
+    }
+
+    /// Takes the entries of the folder with this path from the root.
+    fn list<R: Files + AllocGlobal + Clone + Drop>(
+        &mut self,
+        folder: &str,
+        entries: ReadDir<R, Global>,
+    ) -> io::Result<()> {
+        for entry in entries {
+            if self.entries >= MOST_ENTRIES {
+                return Err(io::Error::other("too many entries"));
+            }
+            self.entries += 1;
+            self.take(folder, &entry?)?;
+        }
+        Ok(())
+    }
+
+    /// Takes a regular file or a folder, and leaves out everything else, links among it.
+    fn take<R: Files>(&mut self, folder: &str, entry: &DirEntry<R, Global>) -> io::Result<()> {
+        let Some(kind) = unless_absent(entry.file_type())? else {
+            return Ok(());
+        };
+        let mut name = String::from_str(self.alloc, folder)?;
+        name.push_str(entry.file_name())?;
+        if kind.is_dir() {
+            name.push('/')?;
+            self.folders.push(name)?;
+        } else if kind.is_file() {
+            self.names.push(Text::new(self.alloc, name.as_str())?)?;
+        }
+        Ok(())
+    }
+}
+
+/// The regular files of a folder and of all folders below it, by their paths from it, in byte order. A link
+/// at the root is followed, and none below it.
+pub(crate) fn files_below<R: Files + AllocGlobal + Clone + Drop>(
+    rt: &R,
+    root: &str,
+) -> io::Result<Vec<Text>> {
+    let mut walk = Walk::new(rt.alloc());
+    walk.list("", fs::read_dir(rt, root)?)?;
+    for _ in 0..u64::MAX {
+        let Some(folder) = walk.folders.pop() else {
+            break;
+        };
+        let path = path_below(rt.alloc(), root, folder.as_str())?;
+        if let Some(entries) = unless_absent(fs::read_dir(rt, path.as_str()))? {
+            walk.list(folder.as_str(), entries)?;
+        }
+    }
+    let mut names = walk.names;
+    names.sort()?;
+    Ok(names)
+}
+
+/// Reads the first `most` bytes of a file. False where no file is there.
+pub(crate) fn read_file<R: Files + AllocGlobal>(
+    rt: &R,
+    path: &str,
+    most: u64,
+    into: &mut Vec<u8>,
+) -> io::Result<bool> {
+    into.clear();
+    let Some(file) = unless_absent(File::open(rt, path))? else {
+        return Ok(false);
+    };
+    let read = unless_absent(file.take(most).read_to_end(into))?;
+    Ok(read.is_some())
+}
+
+/// Puts a file in one step: the bytes are written to a hidden file beside it, which then takes its name.
+/// The folders are made where they are missing. After a failure the hidden file is removed.
+pub(crate) fn put_file<R: Files + AllocGlobal>(rt: &R, path: &str, bytes: &[u8]) -> io::Result<()> {
+    let (folder, name) = path.rsplit_once('/').unwrap_or((".", path));
+    let hidden = hidden_beside(rt.alloc(), folder, name)?;
+    let file = create_file(rt, folder, hidden.as_str())?;
+    let put = write_and_rename(rt, file, hidden.as_str(), path, bytes);
+    if put.is_err() {
+        let _ = fs::remove_file(rt, hidden.as_str());
+    }
+    put
+}
+
+fn hidden_beside(alloc: Global, folder: &str, name: &str) -> Result<String, AllocError>
+    ensures { IfOk result (λ hidden. string_bytes hidden ≡ folder.now ++ codes "/." ++ name.now ++ codes ".new") }
+{
+    let mut hidden = path_below(alloc, folder, ".")?;
+    hidden.push_str(name)?;
+    hidden.push_str(".new")?;
+    Ok(hidden)
+}
+
+fn create_file<R: Files>(rt: &R, folder: &str, path: &str) -> io::Result<R::File> {
+    match unless_absent(File::create(rt, path))? {
+        Some(file) => Ok(file),
+        None => {
+            fs::create_dir_all(rt, folder)?;
+            File::create(rt, path)
+        }
+    }
+}
+
+fn write_and_rename<R: Files>(
+    rt: &R,
+    mut file: R::File,
+    hidden: &str,
+    path: &str,
+    bytes: &[u8],
+) -> io::Result<()> {
+    file.write_all(bytes)?;
+    drop(file);
+    fs::rename(rt, hidden, path)
+}
+
+/// Removes a file, where it is there.
+pub(crate) fn remove_file(rt: &impl Files, path: &str) -> io::Result<()> {
+    match fs::remove_file(rt, path) {
+        Err(error) if error.kind() == ErrorKind::NotFound => Ok(()),
+        Err(error) if error.kind() == ErrorKind::NotADirectory => Ok(()),
+        removed => removed,
+    }
+}

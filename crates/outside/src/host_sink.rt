@@ -1,0 +1,52 @@
+ghost use Rattle.std.specs.Prelude.{◌≡◌, OnOk, OnErr, None};
+ghost use Rattle.std.specs.Io.KnownBytes.{Appends as WriterAppends};
+ghost use Rattle.outside.specs.Causes.{HasCause};
+ghost use Rattle.outside.specs.Contents.{Appends, AppendsPart};
+
+use crate::error::StoreError;
+use crate::faults::Faults;
+use crate::sink::Sink;
+use std::io::Write;
+
+/// A writer of the host, as standard output. It tells nothing of what it holds.
+#[derive(Drop)]
+pub struct HostSink<W: Write + Drop> {
+    writer: W,
+    faults: Faults,
+}
+
+impl<W: Write + Drop> HostSink<W> {
+    pub fn new(writer: W) -> HostSink<W>
+        ensures { result.faults.count ≡ 0 }
+    {
+        HostSink {
+            writer,
+            faults: Faults::new(),
+        }
+    }
+}
+
+impl<W: Write + Drop> Sink for HostSink<W> {
+    ghost use Rattle.std.specs.Prelude.{None};
+
+    ghost held = { λ _. None };
+
+    ghost fault_count = { λ s. s.faults.count };
+
+    fn faults(&self) -> u64 {
+        self.faults.count()
+    }
+
+    // The writer may tell what it holds, as one in memory does.
+    fn write(&mut self, bytes: &[u8]) -> Result<(), StoreError>
+        ensures ok { OnOk result (Appends None bytes.now None) }
+        ensures err { OnErr result (AppendsPart None bytes.now None) }
+        ensures cause { HasCause self.old.faults.count self.new.faults.count result }
+        ensures written { OnOk result (WriterAppends (W.contents self.old.writer) (W.contents self.new.writer) bytes.now) }
+    {
+        match self.writer.write_all(bytes) {
+            Ok(()) => Ok(()),
+            Err(error) => Err(self.faults.judge(&error)),
+        }
+    }
+}

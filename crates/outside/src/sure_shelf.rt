@@ -1,0 +1,125 @@
+ghost use Rattle.std.specs.Prelude.{◌≡◌, IfOk, option_copied};
+ghost use Rattle.outside.specs.Kept.{kept, without};
+
+use crate::error::StoreError;
+use crate::shelf::Shelf;
+use small_types::{Bytes, Text};
+use std::alloc::{AllocError, Global};
+use std::marker::Model;
+
+/// A name of a shelf in memory, with its bytes.
+#[derive(Debug, Drop)]
+pub struct Held {
+    pub name: Text,
+    pub bytes: Bytes,
+}
+
+/// A shelf in memory. No call fails.
+#[derive(Debug, Drop)]
+pub struct SureShelf {
+    alloc: Global,
+    held: Vec<Held>,
+}
+
+impl Model for SureShelf {
+    ghost use Rattle.std.specs.Prelude.{List};
+    ghost use Rattle.outside.specs.declared.sure_shelf.Held.{Held};
+
+    ghost Value = { List Held };
+
+    ghost view = { λ s. s.held.items };
+}
+
+fn find<'a>(held: &'a [Held], name: &str) -> Option<&'a [u8]>
+    ensures { option_copied result ≡ kept held.now name.now }
+{
+    for each in held {
+        if each.name.as_str() == name {
+            return Some(each.bytes.as_slice());
+        }
+    }
+    None
+}
+
+/// The entries with other names.
+fn take_out(alloc: Global, held: &[Held], name: &str) -> Result<Vec<Held>, AllocError>
+    ensures { IfOk result (λ rest. rest.items ≡ without name.now held.now) }
+{
+    let mut rest = Vec::new(alloc);
+    for each in held {
+        if each.name.as_str() != name {
+            let name = each.name.share()?;
+            let bytes = Bytes::from_slice(alloc, each.bytes.as_slice())?;
+            rest.push(Held { name, bytes })?;
+        }
+    }
+    Ok(rest)
+}
+
+impl SureShelf {
+    /// A shelf that holds these. Of several with one name the first counts.
+    pub fn new(alloc: Global, held: Vec<Held>) -> SureShelf
+        ensures { result ≡ held.items }
+    {
+        SureShelf { alloc, held }
+    }
+
+    /// What the shelf holds.
+    pub fn held(&self) -> &[Held]
+        ensures { result.now ≡ self.now }
+    {
+        &self.held
+    }
+}
+
+impl Shelf for SureShelf {
+    ghost use Rattle.outside.specs.Kept.{cell_of};
+
+    ghost cell = { cell_of };
+
+    ghost fault_count = { λ _. 0 };
+
+    fn faults(&self) -> u64 {
+        0
+    }
+
+    fn open_root(&mut self, _root: &str) -> Result<(), StoreError> {
+        Ok(())
+    }
+
+    #[tactic(auto, using(crate::proofs::Keeping::names_kept))]
+    fn names(&mut self, into: &mut Vec<Text>) -> Result<(), StoreError> {
+        into.clear();
+        for each in &self.held {
+            into.push(each.name.share()?)?;
+        }
+        Ok(())
+    }
+
+    fn read(&mut self, name: &str, most: usize, into: &mut Vec<u8>) -> Result<bool, StoreError> {
+        into.clear();
+        match find(&self.held, name) {
+            Some(bytes) => {
+                into.extend_from_slice(&bytes[..bytes.len().min(most)])?;
+                Ok(true)
+            }
+            None => Ok(false),
+        }
+    }
+
+    #[tactic(auto, using(crate::proofs::Keeping::cell_put))]
+    fn put(&mut self, name: &str, bytes: &[u8]) -> Result<(), StoreError> {
+        let mut rest = take_out(self.alloc, &self.held, name)?;
+        let name = Text::new(self.alloc, name)?;
+        let bytes = Bytes::from_slice(self.alloc, bytes)?;
+        rest.push(Held { name, bytes })?;
+        self.held = rest;
+        Ok(())
+    }
+
+    #[tactic(auto, using(crate::proofs::Keeping::cell_without))]
+    fn remove(&mut self, name: &str) -> Result<(), StoreError> {
+        self.held = take_out(self.alloc, &self.held, name)?;
+        Ok(())
+    }
+}

@@ -1,0 +1,3 @@
+object template h;
+'/a/b' = 1;
+'/a/c' = 'x';

@@ -1,0 +1,10 @@
+pub mod Ascii
+pub mod Clean
+pub mod CleanLines
+pub mod CleanTexts
+pub mod Digits
+pub mod FirstWord
+pub mod Runs
+pub mod Steps
+pub mod TextSteps
+pub mod Values

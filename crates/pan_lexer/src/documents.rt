@@ -1,0 +1,123 @@
+ghost use Rattle.std.specs.Prelude.{◌≡◌, ◌≤◌, ◌<◌, ◌+◌, ◌^◌, length, IfOk, IfSome, true};
+ghost use Rattle.std.specs.List.{prefix_len};
+ghost use Rattle.pan_lexer.specs.Bytes.{is_tab};
+ghost use Rattle.pan_lexer.specs.Fronts.{label_end, label_line, lines, line_end, document, document_lines, document_of, Fits};
+
+use crate::bytes::{begins_word, behind, starts, tab_len, word_len};
+use crate::parts::Front;
+use pan_ast::Code;
+use small_types::Bytes;
+use std::alloc::{AllocError, Global};
+
+/// The line end behind a label; the end of the file is one too.
+fn label_end(bytes: &[u8]) -> Option<usize>
+    ensures value { result ≡ label_end bytes.now }
+    ensures fits { IfSome result (λ n. n ≤ length bytes.now) }
+{
+    let [first, rest @ ..] = bytes else {
+        return Some(0);
+    };
+    if *first == 10 {
+        Some(1)
+    } else if *first == 13 && starts(10, rest) {
+        Some(2)
+    } else {
+        None
+    }
+}
+
+/// The bytes of the line of the label, if it stands here.
+fn label_line(label: &[u8], bytes: &[u8]) -> Option<usize>
+    requires { length label.now < 2 ^ 32 }
+    ensures value { result ≡ label_line label.now bytes.now }
+    ensures fits { IfSome result (λ n. n ≤ length bytes.now) }
+{
+    if !bytes.starts_with(label) {
+        return None;
+    }
+    match label_end(&bytes[label.len()..]) {
+        Some(n) => Some(label.len() + n),
+        None => None,
+    }
+}
+
+/// The bytes of the lines before the line of the label, and of that line.
+fn lines(label: &[u8], bytes: &[u8]) -> Option<(usize, usize)>
+    requires { length label.now < 2 ^ 32 }
+    ensures value { result ≡ lines label.now true bytes.now }
+    ensures fits { IfSome result (λ r. r.0 + r.1 ≤ length bytes.now) }
+{
+    let mut i = 0;
+    let mut at_start = true;
+    while i < bytes.len() {
+        if at_start {
+            if let Some(k) = label_line(label, behind(bytes, i)) {
+                return Some((i, k));
+            }
+        }
+        at_start = bytes[i] == 10;
+        i += 1;
+    }
+    None
+}
+
+/// The line end before the lines.
+fn line_end(bytes: &[u8]) -> Option<usize>
+    ensures value { result ≡ line_end bytes.now }
+    ensures within { IfSome result (λ n. n ≤ length bytes.now) }
+{
+    let [first, rest @ ..] = bytes else {
+        return None;
+    };
+    if *first == 10 {
+        Some(1)
+    } else if *first == 13 && starts(10, rest) {
+        Some(2)
+    } else {
+        None
+    }
+}
+
+/// A here-document of this label, with `gap` bytes from the `;` to the lines.
+fn document_of(alloc: Global, label: &[u8], gap: usize, bytes: &[u8]) -> Result<Front, AllocError>
+    requires label { length label.now < 2 ^ 32 }
+    requires gap { gap + length bytes.now < 2 ^ 32 }
+    ensures value { IfOk result (λ f. f ≡ document_of (length label.now) gap bytes.now (lines label.now true bytes.now)) }
+    ensures fits { IfOk result (λ f. Fits (length label.now + 3 + gap + length bytes.now) f) }
+{
+    match lines(label, bytes) {
+        Some((n, k)) => {
+            let value = Bytes::from_slice(alloc, &bytes[..n])?;
+            Ok(Front::Document(value, label.len() + 2, gap + n + k))
+        }
+        None => Ok(Front::Bad(Code::OpenText, 0)),
+    }
+}
+
+/// A here-document of this label, after its `;`.
+fn document_lines(alloc: Global, label: &[u8], bytes: &[u8]) -> Result<Front, AllocError>
+    requires label { length label.now < 2 ^ 32 }
+    requires bytes { length bytes.now < 2 ^ 32 }
+    ensures value { IfOk result (λ f. f ≡ document_lines label.now (prefix_len is_tab bytes.now) bytes.now) }
+    ensures fits { IfOk result (λ f. Fits (length label.now + 3 + length bytes.now) f) }
+{
+    let gap = tab_len(bytes);
+    match line_end(&bytes[gap..]) {
+        Some(n) => document_of(alloc, label, gap + n, &bytes[gap + n..]),
+        None => Ok(Front::Bad(Code::BadCharacter, 0)),
+    }
+}
+
+/// A here-document, after its `<<`.
+pub fn document(alloc: Global, bytes: &[u8]) -> Result<Front, AllocError>
+    requires { length bytes.now < 2 ^ 32 }
+    ensures value { IfOk result (λ f. f ≡ document bytes.now) }
+    ensures fits { IfOk result (λ f. Fits (2 + length bytes.now) f) }
+{
+    let n = word_len(bytes);
+    if begins_word(bytes) && starts(b';', &bytes[n..]) {
+        document_lines(alloc, &bytes[..n], &bytes[n + 1..])
+    } else {
+        Ok(Front::Bad(Code::BadCharacter, 0))
+    }
+}

@@ -1,0 +1,81 @@
+ghost use Rattle.std.specs.Prelude.{◌≡◌, ◌≤◌, ◌<◌, ◌^◌, length, IfOk};
+ghost use Rattle.pan_lexer.specs.Fronts.{sign_len, sign, front, Fits};
+
+use crate::annotations::annotation;
+use crate::bytes::{
+    behind, blank_len, comment_len, is_blank, is_digit, is_name_byte, is_single_sign,
+    is_word_start, may_be_doubled, may_have_equals, name_len, starts, starts_twice, word_len,
+};
+use crate::documents::document;
+use crate::numbers::int;
+use crate::parts::{Front, SkipKind};
+use crate::texts::{double, single, text_of};
+use pan_ast::{Code, TokenKind};
+use std::alloc::{AllocError, Global};
+
+/// The bytes of a sign, and 0 for none.
+fn sign_len(bytes: &[u8]) -> usize
+    ensures value { result ≡ sign_len bytes.now }
+    ensures fits { result ≤ length bytes.now }
+{
+    let [first, rest @ ..] = bytes else {
+        return 0;
+    };
+    if is_single_sign(*first) {
+        1
+    } else if may_have_equals(*first) {
+        if starts(b'=', rest) { 2 } else { 1 }
+    } else if may_be_doubled(*first) {
+        if starts(*first, rest) { 2 } else { 1 }
+    } else if *first == b'.' && starts(b'.', rest) {
+        2
+    } else {
+        0
+    }
+}
+
+/// A sign.
+fn sign(bytes: &[u8]) -> Front
+    ensures value { result ≡ sign bytes.now }
+    ensures fits { Fits (length bytes.now) result }
+{
+    let n = sign_len(bytes);
+    if n == 0 {
+        Front::Bad(Code::BadCharacter, 0)
+    } else {
+        Front::Written(TokenKind::Sign, n)
+    }
+}
+
+/// What stands at the front of a text, where a Name may stand or where it may not.
+pub fn front(alloc: Global, naming: bool, bytes: &[u8]) -> Result<Front, AllocError>
+    requires { length bytes.now < 2 ^ 31 }
+    ensures value { IfOk result (λ f. f ≡ front naming bytes.now) }
+    ensures fits { IfOk result (λ f. Fits (length bytes.now) f) }
+{
+    let [first, rest @ ..] = bytes else {
+        return Ok(Front::Bad(Code::BadCharacter, 0));
+    };
+    let first = *first;
+    if is_blank(first) {
+        Ok(Front::Skip(SkipKind::Blank, 1 + blank_len(rest)))
+    } else if first == b'#' {
+        Ok(Front::Skip(SkipKind::Comment, 1 + comment_len(rest)))
+    } else if first == b'@' {
+        Ok(annotation(rest))
+    } else if naming && is_name_byte(first) {
+        Ok(Front::Written(TokenKind::Name, 1 + name_len(rest)))
+    } else if is_word_start(first) {
+        Ok(Front::Written(TokenKind::Word, 1 + word_len(rest)))
+    } else if is_digit(first) {
+        Ok(int(bytes))
+    } else if first == b'\'' {
+        Ok(text_of(single(alloc, rest)?, rest))
+    } else if first == b'"' {
+        Ok(text_of(double(alloc, rest)?, rest))
+    } else if starts_twice(b'<', bytes) {
+        document(alloc, behind(rest, 1))
+    } else {
+        Ok(sign(bytes))
+    }
+}

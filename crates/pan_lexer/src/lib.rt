@@ -1,0 +1,22 @@
+//! The bytes of a template file to its tokens.
+//!
+//! The lexical rules stand in specs/: `Fronts` says what stands at the front of a text, piece by piece, and
+//! `Lexed` what tokens, or which fault, that makes of a file.
+//!
+//! In reading order: `parts` (what the parts hand on to each other), `bytes` (kinds of bytes and runs of them),
+//! `annotations`, `numbers`, `texts` and `documents` (the longer pieces), `fronts` (what stands at the front of
+//! a text), `lexing` (the tokens of a file), `objects` (whether a file is an object template).
+#![tactic(auto)]
+
+mod annotations;
+mod bytes;
+mod documents;
+mod fronts;
+mod lexing;
+mod numbers;
+mod objects;
+mod parts;
+mod texts;
+
+pub use lexing::{LexError, lex};
+pub use objects::is_object;

@@ -1,0 +1,245 @@
+-- A publication, step by step.
+use Rattle.std.proofs.Common.{◌≡◌, ℕ, Bool, true, false, List, [], ◌∷◌, Option, Some, None, is_some, IfSome, not, nat_eq, if◌then◌else◌, ◌&&◌, ◌||◌, ◌⊎◌, inl, inr, refl, sym, ap, subst, ◌∙◌, rules, arith}
+use Rattle.std.specs.Prelude.{Result, Ok, Err, OnOk, OnErr, IfOk, IfErr, drop, length, ◌<◌, ◌+◌, get_or}
+use Rattle.std.specs.Str.{bytes_eq}
+use Rattle.std.specs.List.{list_any}
+use Rattle.std.specs.List.Sorted.{IsPermutation}
+use Rattle.std.proofs.lemmas.List.Sorted.{list_any-IsPermutation}
+use Rattle.std.specs.Prelude.{cond}
+use Rattle.std.proofs.lemmas.Slice.Eq.{bytes_eq-Decides}
+use Rattle.std.proofs.lemmas.Grind.{common_steps}
+use Rattle.outside.specs.Cells.{Cell, given, Opens, Gives}
+use Rattle.pan_top.specs.declared.publish.Want.{Want}
+use Rattle.pan_top.specs.declared.status.End.{End}
+use Rattle.pan_top.specs.declared.status.End.TheVariants as E
+use Rattle.pan_top.specs.Ends.{is_file_of, IsEndAt, IsPublishingEnd}
+use Rattle.pan_top.specs.Shelves.{is_own, wanted, proper, published, goes, swept, cleared, put_where, placed, Leaves, Stopped, Underway, Names, Lists}
+
+-- A step that is a part of what is left leads on, and each name stands as at the start or as in the end.
+pub going_on : (left rest step : List ℕ → Cell → Cell) (target start now new : List ℕ → Cell) → ((n : List ℕ) (c : Cell) → rest n (step n c) ≡ left n c) → ((n : List ℕ) (c : Cell) → (step n c ≡ c) ⊎ (step n c ≡ left n c)) → Underway left target start now → ((n : List ℕ) → new n ≡ step n (now n)) → Underway rest target start new
+going_on left rest step target start now new leads either u made = record {
+  leads = λ n. ap (λ c. rest n c) (made n) ∙ leads n (now n) ∙ u.leads n;
+  stands = λ n. elim (either n (now n)) as (λ _. (new n ≡ start n) ⊎ (new n ≡ target n)) [
+    | inl same ↦ elim (u.stands n) as (λ _. (new n ≡ start n) ⊎ (new n ≡ target n)) [ inl s ↦ inl (made n ∙ same ∙ s) | inr t ↦ inr (made n ∙ same ∙ t) ]
+    | inr done ↦ inr (made n ∙ done ∙ u.leads n)
+  ];
+}
+
+pub at_start : (left : List ℕ → Cell → Cell) (start : List ℕ → Cell) → ((n : List ℕ) → Underway left (λ m. left m (start m)) start start)
+at_start left start n = record { leads = λ m. refl; stands = λ m. inl refl }
+
+apart_by : (name n : List ℕ) → is_own name ≡ true → is_own n ≡ false → (b : Bool) → bytes_eq name n ≡ b → b ≡ false
+apart_by name n own other false is = refl
+apart_by name n own other true is = let e : name ≡ n = (bytes_eq-Decides name n).0 is in let f : true ≡ false = sym own ∙ ap is_own e ∙ other in cc
+
+-- two names that differ in being own
+pub apart : (name n : List ℕ) → is_own name ≡ true → is_own n ≡ false → bytes_eq name n ≡ false
+apart name n own other = apart_by name n own other (bytes_eq name n) refl
+
+-- a call that failed on a name leaves the run under way, but for names that are open
+left_at : (is_open : List ℕ → Bool) (left will : List ℕ → Cell → Cell) (start now new : List ℕ → Cell) (name : List ℕ) → ((n : List ℕ) (c : Cell) → is_own n ≡ false → will n c ≡ c) → is_own name ≡ true → Underway left (λ n. will n (start n)) start now → Opens now name new → ((n : List ℕ) → is_open n ≡ false → bytes_eq name n ≡ false) → Leaves is_open will start new
+left_at is_open left will start now new name keeps own u opens covers = record {
+  others = λ n other. opens n (apart name n own other) ∙ (elim (u.stands n) as (λ _. now n ≡ start n) [ inl s ↦ s | inr t ↦ t ∙ keeps n (start n) other ]);
+  own = λ n closed. elim (u.stands n) as (λ _. (new n ≡ start n) ⊎ (new n ≡ will n (start n))) [ inl s ↦ inl (opens n (covers n closed) ∙ s) | inr t ↦ inr (opens n (covers n closed) ∙ t) ];
+}
+
+covers_by : (m name n : List ℕ) (b : Bool) → is_file_of m name ≡ true → is_file_of m n ≡ false → bytes_eq name n ≡ b → b ≡ false
+covers_by m name n false file closed is = refl
+covers_by m name n true file closed is = let e : name ≡ n = (bytes_eq-Decides name n).0 is in let f : true ≡ false = sym file ∙ ap (is_file_of m) e ∙ closed in cc
+
+pub left_early : (e : End) (left will : List ℕ → Cell → Cell) (start now new : List ℕ → Cell) (name : List ℕ) → ((n : List ℕ) (c : Cell) → is_own n ≡ false → will n c ≡ c) → is_own name ≡ true → Underway left (λ n. will n (start n)) start now → Opens now name new → IsEndAt name e → Stopped e will start new
+left_early E.Source left will start now new name keeps own u opens at = absurd at
+left_early E.Shelf left will start now new name keeps own u opens at = absurd at
+left_early (E.Publishing m) left will start now new name keeps own u opens at = left_at (is_file_of m) left will start now new name keeps own u opens (λ n closed. covers_by m name n (bytes_eq name n) at closed refl)
+left_early E.Out left will start now new name keeps own u opens at = absurd at
+left_early E.Memory left will start now new name keeps own u opens at = (name, left_at (bytes_eq name) left will start now new name keeps own u opens (λ n closed. closed))
+
+pub publishing_from_at : (n : List ℕ) (e : End) → IsEndAt n e → IsPublishingEnd e
+publishing_from_at n E.Source at = at
+publishing_from_at n E.Shelf at = at
+publishing_from_at n (E.Publishing m) at = tt
+publishing_from_at n E.Out at = at
+publishing_from_at n E.Memory at = tt
+
+-- what holds of what is left behind, whatever names are open, holds after an end
+pub stopped_by : (e : End) (left will : List ℕ → Cell → Cell) (now start new : List ℕ → Cell) → IsPublishingEnd e → ((is_open : List ℕ → Bool) → Leaves is_open left now new → Leaves is_open will start new) → Stopped e left now new → Stopped e will start new
+stopped_by E.Source left will now start new kind go stopped = absurd kind
+stopped_by E.Shelf left will now start new kind go stopped = absurd kind
+stopped_by (E.Publishing m) left will now start new kind go stopped = go (is_file_of m) stopped
+stopped_by E.Out left will now start new kind go stopped = absurd kind
+stopped_by E.Memory left will now start new kind go stopped = (stopped.0, go (bytes_eq stopped.0) stopped.1)
+
+-- before a publication and after it
+pub before_all : (will : List ℕ → Cell → Cell) (old new : List ℕ → Cell) → ((n : List ℕ) → new n ≡ old n) → Stopped E.Memory will old new
+before_all will old new same = ([], record { others = λ n other. same n; own = λ n closed. inl (same n) })
+
+pub after_all : (will : List ℕ → Cell → Cell) (old new : List ℕ → Cell) → ((n : List ℕ) (c : Cell) → is_own n ≡ false → will n c ≡ c) → ((n : List ℕ) → new n ≡ will n (old n)) → Stopped E.Memory will old new
+after_all will old new keeps done = ([], record { others = λ n other. done n ∙ keeps n (old n) other; own = λ n closed. inr (done n) })
+
+-- the set of wanted names grows with each want
+pub names_step : (b held : Bool) (bytes : List ℕ) (rest : Option (List ℕ)) → (cond b true held || is_some rest) ≡ (held || is_some (if b then Some bytes else rest))
+names_step true true bytes rest = refl
+names_step true false bytes rest = refl
+names_step false held bytes rest = refl
+
+-- clearing
+sweep_twice : (b a g : Bool) (c : Cell) → (if a && g then given None (if b && g then given None c else c) else (if b && g then given None c else c)) ≡ (if (b || a) && g then given None c else c)
+sweep_twice true true true None = refl
+sweep_twice true true true (Some x) = refl
+sweep_twice true true false c = refl
+sweep_twice true false true c = refl
+sweep_twice true false false c = refl
+sweep_twice false true true c = refl
+sweep_twice false true false c = refl
+sweep_twice false false true c = refl
+sweep_twice false false false c = refl
+
+sweep_either : (b a g : Bool) (c : Cell) → ((if b && g then given None c else c) ≡ c) ⊎ ((if b && g then given None c else c) ≡ (if (b || a) && g then given None c else c))
+sweep_either true a true c = inr refl
+sweep_either true a false c = inl refl
+sweep_either false a g c = inl refl
+
+-- only the name itself goes
+swept_by : (m n : List ℕ) (ws : List Want) (c : Cell) (b g : Bool) → bytes_eq m n ≡ b → goes ws m ≡ g → (if g then (if b then given None c else c) else c) ≡ (if b && goes ws n then given None c else c)
+swept_by m n ws c true true is gone = rw (sym (ap (goes ws) ((bytes_eq-Decides m n).0 is)) ∙ gone) refl
+swept_by m n ws c true false is gone = rw (sym (ap (goes ws) ((bytes_eq-Decides m n).0 is)) ∙ gone) refl
+swept_by m n ws c false true is gone = refl
+swept_by m n ws c false false is gone = refl
+
+pub clear_step : (m : List ℕ) (ms : List (List ℕ)) (ws : List Want) (target start now new : List ℕ → Cell) → Underway (cleared (m ∷ ms) ws) target start now → ((n : List ℕ) → new n ≡ swept m ws n (now n)) → Underway (cleared ms ws) target start new
+clear_step m ms ws target start now new u made = going_on (cleared (m ∷ ms) ws) (cleared ms ws) (λ n c. if bytes_eq m n && goes ws n then given None c else c) target start now new (λ n c. sweep_twice (bytes_eq m n) (list_any (λ k. bytes_eq k n) ms) (goes ws n) c) (λ n c. sweep_either (bytes_eq m n) (list_any (λ k. bytes_eq k n) ms) (goes ws n) c) u (λ n. made n ∙ swept_by m n ws (now n) (bytes_eq m n) (goes ws m) refl refl)
+
+keeps_by : (a own g : Bool) (c : Cell) → own ≡ false → (if a && (own && g) then given None c else c) ≡ c
+keeps_by a true g c other = cc
+keeps_by true false g c other = refl
+keeps_by false false g c other = refl
+
+pub cleared_keeps : (names : List (List ℕ)) (ws : List Want) (n : List ℕ) (c : Cell) → is_own n ≡ false → cleared names ws n c ≡ c
+cleared_keeps names ws n c other = keeps_by (list_any (λ k. bytes_eq k n) names) (is_own n) (not (is_some (wanted ws n))) c other
+
+-- placing
+place_twice : (b : Bool) (bytes : List ℕ) (rest : Option (List ℕ)) (c : Cell) → (b ≡ true → rest ≡ None) → put_where rest (if b then given (Some bytes) c else c) ≡ put_where (if b then Some bytes else rest) c
+place_twice true bytes rest c none = rw (none refl) refl
+place_twice false bytes rest c none = refl
+
+place_either : (b : Bool) (bytes : List ℕ) (rest : Option (List ℕ)) (c : Cell) → ((if b then given (Some bytes) c else c) ≡ c) ⊎ ((if b then given (Some bytes) c else c) ≡ put_where (if b then Some bytes else rest) c)
+place_either true bytes rest c = inr refl
+place_either false bytes rest c = inl refl
+
+and_left : (a b : Bool) → (a && b) ≡ true → a ≡ true
+and_left true b h = refl
+and_left false b h = h
+
+and_right : (a b : Bool) → (a && b) ≡ true → b ≡ true
+and_right true b h = h
+and_right false b h = cc
+
+not_some : (o : Option (List ℕ)) → not (is_some o) ≡ true → o ≡ None
+not_some None h = refl
+not_some (Some x) h = cc
+
+pub proper_own : (w : Want) (ws : List Want) → proper (w ∷ ws) ≡ true → is_own w.name ≡ true
+proper_own w ws h = and_left (is_own w.name) (not (is_some (wanted ws w.name))) (and_left (is_own w.name && not (is_some (wanted ws w.name))) (proper ws) h)
+
+pub proper_rest : (w : Want) (ws : List Want) → proper (w ∷ ws) ≡ true → proper ws ≡ true
+proper_rest w ws h = and_right (is_own w.name && not (is_some (wanted ws w.name))) (proper ws) h
+
+proper_once : (w : Want) (ws : List Want) → proper (w ∷ ws) ≡ true → wanted ws w.name ≡ None
+proper_once w ws h = not_some (wanted ws w.name) (and_right (is_own w.name) (not (is_some (wanted ws w.name))) (and_left (is_own w.name && not (is_some (wanted ws w.name))) (proper ws) h))
+
+pub place_step : (w : Want) (ws : List Want) (target start now new : List ℕ → Cell) → proper (w ∷ ws) ≡ true → Underway (placed (w ∷ ws)) target start now → Gives now w.name (Some w.bytes) new → Underway (placed ws) target start new
+place_step w ws target start now new ok u made = going_on (placed (w ∷ ws)) (placed ws) (λ n c. if bytes_eq w.name n then given (Some w.bytes) c else c) target start now new (λ n c. place_twice (bytes_eq w.name n) w.bytes (wanted ws n) c (λ same. ap (wanted ws) (sym ((bytes_eq-Decides w.name n).0 same)) ∙ proper_once w ws ok)) (λ n c. place_either (bytes_eq w.name n) w.bytes (wanted ws n) c) u made
+
+pub wanted_own : (ws : List Want) (n : List ℕ) → proper ws ≡ true → is_own n ≡ false → wanted ws n ≡ None
+wanted_own [] n ok other = refl
+wanted_own (w ∷ ws) n ok other = rw (apart w.name n (proper_own w ws ok) other) (wanted_own ws n (proper_rest w ws ok) other)
+
+pub placed_keeps : (ws : List Want) → proper ws ≡ true → (n : List ℕ) (c : Cell) → is_own n ≡ false → placed ws n c ≡ c
+placed_keeps ws ok n c other = rw (wanted_own ws n ok other) refl
+
+-- the two halves together
+both_by : (own : Bool) (want : Option (List ℕ)) (known : Bool) (c : Cell) → (own ≡ false → want ≡ None) → IfSome c (λ content. is_some content ≡ known) → put_where want (if known && (own && not (is_some want)) then given None c else c) ≡ (if own then given want c else c)
+both_by false want true c none knows = rw (none refl) refl
+both_by false want false c none knows = rw (none refl) refl
+both_by true None true c none knows = refl
+both_by true None false None none knows = refl
+both_by true None false (Some None) none knows = refl
+both_by true None false (Some (Some b)) none knows = cc
+both_by true (Some b) true c none knows = refl
+both_by true (Some b) false c none knows = refl
+
+pub published_both : (names : List (List ℕ)) (ws : List Want) (n : List ℕ) (c : Cell) → proper ws ≡ true → IfSome c (λ content. is_some content ≡ list_any (λ m. bytes_eq m n) names) → placed ws n (cleared names ws n c) ≡ published ws n c
+published_both names ws n c ok knows = both_by (is_own n) (wanted ws n) (list_any (λ m. bytes_eq m n) names) c (λ other. wanted_own ws n ok other) knows
+
+either_by : (a own : Bool) (want : Option (List ℕ)) (c : Cell) → ((if a && (own && not (is_some want)) then given None c else c) ≡ c) ⊎ ((if a && (own && not (is_some want)) then given None c else c) ≡ (if own then given want c else c))
+either_by false own want c = inl refl
+either_by true false want c = inl refl
+either_by true true None c = inr refl
+either_by true true (Some b) c = inl refl
+
+pub cleared_either : (names : List (List ℕ)) (ws : List Want) (n : List ℕ) (c : Cell) → (cleared names ws n c ≡ c) ⊎ (cleared names ws n c ≡ published ws n c)
+cleared_either names ws n c = either_by (list_any (λ m. bytes_eq m n) names) (is_own n) (wanted ws n) c
+
+pub clearing_ended : (is_open : List ℕ → Bool) (names : List (List ℕ)) (ws : List Want) (old new : List ℕ → Cell) → Leaves is_open (cleared names ws) old new → Leaves is_open (published ws) old new
+clearing_ended is_open names ws old new l = record {
+  others = l.others;
+  own = λ n closed. elim (l.own n closed) as (λ _. (new n ≡ old n) ⊎ (new n ≡ published ws n (old n))) [
+    | inl s ↦ inl s
+    | inr t ↦ elim (cleared_either names ws n (old n)) as (λ _. (new n ≡ old n) ⊎ (new n ≡ published ws n (old n))) [ inl s ↦ inl (t ∙ s) | inr d ↦ inr (t ∙ d) ]
+  ];
+}
+
+pub placing_ended : (is_open : List ℕ → Bool) (names : List (List ℕ)) (ws : List Want) (old mid new : List ℕ → Cell) → proper ws ≡ true → ((n : List ℕ) → IfSome (old n) (λ content. is_some content ≡ list_any (λ m. bytes_eq m n) names)) → ((n : List ℕ) → mid n ≡ cleared names ws n (old n)) → Leaves is_open (placed ws) mid new → Leaves is_open (published ws) old new
+placing_ended is_open names ws old mid new ok knows clear l = record {
+  others = λ n other. l.others n other ∙ clear n ∙ cleared_keeps names ws n (old n) other;
+  own = λ n closed. elim (l.own n closed) as (λ _. (new n ≡ old n) ⊎ (new n ≡ published ws n (old n))) [
+    | inl s ↦ elim (cleared_either names ws n (old n)) as (λ _. (new n ≡ old n) ⊎ (new n ≡ published ws n (old n))) [ inl e ↦ inl (s ∙ clear n ∙ e) | inr d ↦ inr (s ∙ clear n ∙ d) ]
+    | inr t ↦ inr (t ∙ ap (placed ws n) (clear n) ∙ published_both names ws n (old n) ok (knows n))
+  ];
+}
+
+-- a result that fails says what a failure says
+pub on_err : {T E : Type 0} {P : Type 0} (r : Result T E) → P → OnErr r P
+on_err (Ok x) p = tt
+on_err (Err e) p = p
+
+pub on_ok : {T E : Type 0} {P Q : Type 0} (r : Result T E) → OnOk r P → (P → Q) → OnOk r Q
+on_ok (Ok x) p f = f p
+on_ok (Err e) p f = tt
+
+pub on_err_map : {T E : Type 0} {P Q : Type 0} (r : Result T E) → OnErr r P → (P → Q) → OnErr r Q
+on_err_map (Ok x) p f = tt
+on_err_map (Err e) p f = f p
+
+pub published_ok : (names : List (List ℕ)) (ws : List Want) (old next new : List ℕ → Cell) → proper ws ≡ true → Lists names old → ((n : List ℕ) → next n ≡ cleared names ws n (old n)) → ((n : List ℕ) → new n ≡ placed ws n (next n)) → (n : List ℕ) → new n ≡ published ws n (old n)
+published_ok names ws old next new ok knows clear place n = place n ∙ ap (placed ws n) (clear n) ∙ published_both names ws n (old n) ok (knows n)
+
+-- a list of names in another order is a list of the same names
+pub lists_again : (items names : List (List ℕ)) (cell : List ℕ → Cell) → IsPermutation items names → Lists items cell → Lists names cell
+lists_again items names cell moved lists n = subst (λ b. IfSome (cell n) (λ content. is_some content ≡ b)) (list_any-IsPermutation (λ m. bytes_eq m n) items names moved) (lists n)
+
+published_by : (own : Bool) (want : Option (List ℕ)) (c : Cell) → own ≡ false → (if own then given want c else c) ≡ c
+published_by true want c other = cc
+published_by false want c other = refl
+
+pub published_keeps : (ws : List Want) (n : List ℕ) (c : Cell) → is_own n ≡ false → published ws n c ≡ c
+published_keeps ws n c other = published_by (is_own n) (wanted ws n) c other
+
+-- what two facts say of an error together
+pub if_err_both : {T E : Type 0} (P Q R : E → Type 0) (r : Result T E) → IfErr r P → IfErr r Q → ((e : E) → P e → Q e → R e) → IfErr r R
+if_err_both P Q R (Ok x) p q both = tt
+if_err_both P Q R (Err e) p q both = both e p q
+
+leaves_from : (is_open : List ℕ → Bool) (will : List ℕ → Cell → Cell) (old mid new : List ℕ → Cell) → ((n : List ℕ) → mid n ≡ old n) → Leaves is_open will mid new → Leaves is_open will old new
+leaves_from is_open will old mid new same l = record {
+  others = λ n other. l.others n other ∙ same n;
+  own = λ n closed. elim (l.own n closed) as (λ _. (new n ≡ old n) ⊎ (new n ≡ will n (old n))) [ inl s ↦ inl (s ∙ same n) | inr t ↦ inr (t ∙ ap (will n) (same n)) ];
+}
+
+-- what an end left behind of a shelf that had not changed before
+pub stopped_from : (e : End) (will : List ℕ → Cell → Cell) (old mid new : List ℕ → Cell) → ((n : List ℕ) → mid n ≡ old n) → Stopped e will mid new → Stopped e will old new
+stopped_from E.Source will old mid new same stopped = λ n. stopped n ∙ same n
+stopped_from E.Shelf will old mid new same stopped = λ n. stopped n ∙ same n
+stopped_from (E.Publishing m) will old mid new same stopped = leaves_from (is_file_of m) will old mid new same stopped
+stopped_from E.Out will old mid new same stopped = λ n. stopped n ∙ ap (will n) (same n)
+stopped_from E.Memory will old mid new same stopped = (stopped.0, leaves_from (bytes_eq stopped.0) will old mid new same stopped.1)

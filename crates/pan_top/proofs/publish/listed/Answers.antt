@@ -1,0 +1,6 @@
+use Rattle.std.proofs.Common.{◌≡◌}
+use Rattle.pan_top.proofs.Shelving.{lists_again}
+use Rattle.pan_top.proofs.publish.listed.Goals as goal
+
+pub returns-clause-ok : goal.returns-clause-ok
+returns-clause-ok g c = lists_again _ _ _ c.in_ok-sort.ensures.permutation c.in-Ok.ensures.ok

@@ -1,0 +1,9 @@
+pub mod Ends
+pub mod Commands
+pub mod Shelves
+pub mod Scans
+pub mod Objects
+pub mod Answers
+pub mod Reports
+pub mod Session
+pub mod Templates

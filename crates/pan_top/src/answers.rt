@@ -1,0 +1,151 @@
+ghost use Rattle.std.specs.Prelude.{◌≡◌, ◌≤◌, ◌++◌, [], true, length, IfSome, IfOk, OnOk, map, count_by, option_map};
+ghost use Rattle.outside.specs.Files.{has_short_content, are_short};
+ghost use Rattle.pan_top.specs.Answers.{Object, object_of, is_object_file, with_outcome, answer_of, answers_of, wants_with, wants_of, is_fault};
+
+use crate::compile::{Outcome, compile};
+use crate::publish::Want;
+use outside::{Content, PictureFile};
+use pan_lexer::is_object;
+use path_tree::is_name;
+use small_types::Text;
+use std::alloc::{AllocError, Global};
+use std::collections::BTreeMap;
+
+/// What stands under an object's name.
+#[derive(Drop)]
+pub struct Answer {
+    pub name: Text,
+    pub outcome: Outcome,
+}
+
+/// An object of a picture: its name, and the text of its template.
+#[derive(Clone, Copy)]
+struct Object<'a> {
+    name: &'a str,
+    text: &'a [u8],
+}
+
+/// The object that a file is the template of.
+fn object_in(file: &PictureFile) -> Option<Object<'_>>
+    ensures object { option_map (λ o. record { name = o.name.now; text = o.text.now }) result ≡ object_of file.now }
+    ensures short { has_short_content file.now.content ≡ true → IfSome result (λ o. length o.text.now ≤ 1000000) }
+{
+    let Some(name) = file.name.as_str().strip_suffix(".pan") else {
+        return None;
+    };
+    let Content::Bytes(text) = &file.content else {
+        return None;
+    };
+    if is_name(name.as_bytes()) && is_object(text.as_slice()) {
+        return Some(Object {
+            name,
+            text: text.as_slice(),
+        });
+    }
+    None
+}
+
+fn is_object_file(file: &PictureFile) -> bool
+    ensures { result ≡ is_object_file file.now }
+{
+    object_in(file).is_some()
+}
+
+/// How many objects a picture has.
+pub fn count_objects(files: &[PictureFile]) -> usize
+    ensures { result ≡ count_by is_object_file files.now }
+{
+    files.iter().filter(|file| is_object_file(file)).count()
+}
+
+/// Compiles the object of a file, where it has one.
+fn add_outcome(
+    alloc: Global,
+    outcomes: &mut BTreeMap<Text, Outcome>,
+    file: &PictureFile,
+) -> Result<(), AllocError>
+    requires { has_short_content file.now.content ≡ true }
+    ensures { OnOk result (outcomes.new.entries ≡ with_outcome outcomes.old.entries file.now) }
+{
+    let Some(object) = object_in(file) else {
+        return Ok(());
+    };
+    let outcome = compile(alloc, object.name, object.text)?;
+    outcomes.insert(Text::new(alloc, object.name)?, outcome)?;
+    Ok(())
+}
+
+fn in_order(alloc: Global, outcomes: BTreeMap<Text, Outcome>) -> Result<Vec<Answer>, AllocError>
+    ensures { IfOk result (λ made. made.items ≡ map answer_of outcomes.entries) }
+{
+    let mut made = Vec::with_capacity(alloc, outcomes.len())?;
+    for (name, outcome) in outcomes {
+        made.push(Answer { name, outcome })?;
+    }
+    Ok(made)
+}
+
+/// Compiles each object of a picture. The answers stand in byte order of names.
+pub fn answers(alloc: Global, files: &[PictureFile]) -> Result<Vec<Answer>, AllocError>
+    requires { are_short files.now ≡ true }
+    ensures { IfOk result (λ made. made.items ≡ answers_of files.now) }
+{
+    let mut outcomes = BTreeMap::new(alloc);
+    for file in files {
+        add_outcome(alloc, &mut outcomes, file)?;
+    }
+    in_order(alloc, outcomes)
+}
+
+fn joined(alloc: Global, name: &str, suffix: &str) -> Result<Text, AllocError>
+    ensures { IfOk result (λ t. t ≡ name.now ++ suffix.now) }
+{
+    let mut text = String::from_str(alloc, name)?;
+    text.push_str(suffix)?;
+    Text::new(alloc, text.as_str())
+}
+
+/// What the profile of an object wants on the shelf.
+fn want(alloc: Global, made: &mut Vec<Want>, answer: Answer) -> Result<(), AllocError>
+    ensures { OnOk result (made.new.items ≡ made.old.items ++ wants_with answer.name answer.outcome []) }
+{
+    let Answer { name, outcome } = answer;
+    match outcome {
+        Outcome::Profile(json, dep) => {
+            made.push(Want {
+                name: joined(alloc, name.as_str(), ".json")?,
+                bytes: json,
+            })?;
+            made.push(Want {
+                name: joined(alloc, name.as_str(), ".dep")?,
+                bytes: dep,
+            })?;
+        }
+        Outcome::Fault(_fault) => {}
+    }
+    Ok(())
+}
+
+/// What the profiles among the answers want on the shelf.
+pub fn wants(alloc: Global, answers: Vec<Answer>) -> Result<Vec<Want>, AllocError>
+    ensures { IfOk result (λ made. made.items ≡ wants_of answers.items) }
+{
+    let mut made = Vec::new(alloc);
+    for answer in answers {
+        want(alloc, &mut made, answer)?;
+    }
+    Ok(made)
+}
+
+fn is_fault(answer: &Answer) -> bool
+    ensures { result ≡ is_fault answer.now }
+{
+    matches!(answer.outcome, Outcome::Fault(_))
+}
+
+/// How many answers are faults.
+pub fn count_faults(answers: &[Answer]) -> usize
+    ensures { result ≡ count_by is_fault answers.now }
+{
+    answers.iter().filter(|answer| is_fault(answer)).count()
+}

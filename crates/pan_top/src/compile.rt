@@ -1,0 +1,171 @@
+ghost use Rattle.std.specs.Prelude.{◌≡◌, ◌≢◌, ◌≤◌, ◌++◌, IfOk, IfErr, OnOk, Ok, Err, codes, length};
+ghost use Rattle.path_tree.specs.Plain as plain;
+ghost use Rattle.pan_top.specs.Objects.{literal_tree, fault_of, put_at, assigned, tree_after, tree_of_template, tree_of, file_of, outcome_of, dependencies_of, IsFault};
+ghost use Rattle.pan_top.specs.declared.compile.CompileError.TheVariants.{Memory};
+
+use crate::template::{Assignment, Literal, TemplateError, template};
+use json_profile::profile_text;
+use pan_ast::{Code, Fault};
+use pan_lexer::{LexError, lex};
+use path_tree::{PutError, Refused, Tree};
+use small_types::{Bytes, Text};
+use std::alloc::{AllocError, AllocFailed, Global};
+
+/// What compiling an object gives.
+#[derive(Drop)]
+pub enum Outcome {
+    /// The bytes of its profile, and of its dependency file.
+    Profile(Bytes, Bytes),
+    Fault(Fault),
+}
+
+/// Why an object has no profile.
+#[derive(Drop)]
+pub enum CompileError {
+    Fault(Fault),
+    Memory,
+}
+
+impl From<AllocError> for CompileError {
+    ghost from_gives = { λ _ e. e ≡ Memory };
+
+    fn from(_e: AllocError) -> CompileError {
+        CompileError::Memory
+    }
+}
+
+impl<T: Drop> From<AllocFailed<T>> for CompileError {
+    ghost from_gives = { λ _ e. e ≡ Memory };
+
+    fn from(_e: AllocFailed<T>) -> CompileError {
+        CompileError::Memory
+    }
+}
+
+/// The tree of a literal. A text may be too large for one.
+fn literal_tree(alloc: Global, literal: &Literal) -> Result<Tree, PutError>
+    ensures ok { IfOk result (λ t. literal_tree literal.now ≡ Ok t) }
+    ensures err { IfErr result (λ e. e ≢ PutError.Memory → literal_tree literal.now ≡ Err e) }
+    ensures set { IfOk result (λ t. t ≢ plain.null) }
+{
+    match literal {
+        Literal::Text(text) => match Tree::text(alloc, text.as_str()) {
+            Ok(tree) => Ok(tree),
+            Err(Refused::TooLarge) => Err(PutError::TooLarge),
+            Err(_) => Err(PutError::Memory),
+        },
+        Literal::Long(value) => Ok(Tree::long(*value)),
+        Literal::Boolean(value) => Ok(Tree::boolean(*value)),
+    }
+}
+
+/// The fault of an assignment that is refused, at its statement.
+fn fault_of(alloc: Global, assignment: &Assignment, refusal: PutError) -> Result<Fault, AllocError>
+    ensures { IfOk result (λ f. f ≡ fault_of assignment.now refusal) }
+{
+    let place = assignment.place.share()?;
+    match refusal {
+        PutError::ThroughProperty(_) | PutError::KeyInList | PutError::IndexInDict => Fault::new(
+            alloc,
+            Code::BadPath,
+            place,
+            assignment.path.as_str(),
+        ),
+        PutError::TooLarge | PutError::TooHigh | PutError::Memory => Fault::new(
+            alloc,
+            Code::TooLarge,
+            place,
+            "",
+        ),
+    }
+}
+
+/// Puts the value of an assignment into the tree.
+fn assign(alloc: Global, tree: &mut Tree, assignment: &Assignment) -> Result<(), CompileError>
+    ensures ok { OnOk result (assigned assignment.now tree.old ≡ Ok tree.new) }
+    ensures err { IfErr result (IsFault (assigned assignment.now tree.old)) }
+{
+    match put(alloc, tree, assignment) {
+        Ok(()) => Ok(()),
+        Err(PutError::Memory) => Err(CompileError::Memory),
+        Err(refusal) => Err(CompileError::Fault(fault_of(alloc, assignment, refusal)?)),
+    }
+}
+
+fn put(alloc: Global, tree: &mut Tree, assignment: &Assignment) -> Result<(), PutError>
+    ensures ok { OnOk result (put_at assignment.now tree.old (literal_tree assignment.now.value) ≡ Ok tree.new) }
+    ensures err { IfErr result (λ e. e ≢ PutError.Memory → put_at assignment.now tree.old (literal_tree assignment.now.value) ≡ Err e) }
+{
+    let value = literal_tree(alloc, &assignment.value)?;
+    tree.put(alloc, assignment.terms.as_slice(), value)
+}
+
+/// The tree after assignments in order.
+fn tree_after(alloc: Global, assignments: &[Assignment]) -> Result<Tree, CompileError>
+    ensures ok { IfOk result (λ t. tree_after assignments.now (plain.dict plain.no_fields) ≡ Ok t) }
+    ensures err { IfErr result (IsFault (tree_after assignments.now (plain.dict plain.no_fields))) }
+{
+    let mut tree = Tree::empty_dict(alloc)?;
+    for assignment in assignments {
+        assign(alloc, &mut tree, assignment)?;
+    }
+    Ok(tree)
+}
+
+/// The tree of an object.
+fn tree_of(alloc: Global, name: &str, file: &Text, text: &[u8]) -> Result<Tree, CompileError>
+    requires short { length text.now ≤ 1000000 }
+    requires file { file.now ≡ file_of name.now }
+    ensures ok { IfOk result (λ t. tree_of name.now text.now ≡ Ok t) }
+    ensures err { IfErr result (IsFault (tree_of name.now text.now)) }
+{
+    let tokens = match lex(alloc, text, file) {
+        Ok(tokens) => tokens,
+        Err(LexError::Fault(fault)) => return Err(CompileError::Fault(fault)),
+        Err(LexError::Memory) => return Err(CompileError::Memory),
+    };
+    match template(alloc, name, tokens.as_slice()) {
+        Ok(assignments) => tree_after(alloc, &assignments),
+        Err(TemplateError::NotBuilt(place)) => Err(CompileError::Fault(Fault::new(
+            alloc,
+            Code::NotBuilt,
+            place,
+            "",
+        )?)),
+        Err(TemplateError::Memory) => Err(CompileError::Memory),
+    }
+}
+
+fn file_of(alloc: Global, name: &str) -> Result<Text, AllocError>
+    ensures { IfOk result (λ file. file ≡ file_of name.now) }
+{
+    let mut file = String::from_str(alloc, name)?;
+    file.push_str(".pan")?;
+    Text::new(alloc, file.as_str())
+}
+
+/// The lines of an object's dependency file.
+fn dependencies_of(alloc: Global, file: &str) -> Result<Bytes, AllocError>
+    ensures { IfOk result (λ lines. lines ≡ codes "template " ++ file.now ++ codes "\n") }
+{
+    let mut lines = Vec::from_slice(alloc, b"template ")?;
+    lines.extend_from_slice(file.as_bytes())?;
+    lines.push(b'\n')?;
+    Ok(Bytes::from_vec(lines))
+}
+
+/// Compiles an object.
+pub fn compile(alloc: Global, name: &str, text: &[u8]) -> Result<Outcome, AllocError>
+    requires { length text.now ≤ 1000000 }
+    ensures { IfOk result (λ o. o ≡ outcome_of name.now text.now) }
+{
+    let file = file_of(alloc, name)?;
+    match tree_of(alloc, name, &file, text) {
+        Ok(tree) => {
+            let profile = Bytes::from_vec(profile_text(alloc, &tree)?);
+            Ok(Outcome::Profile(profile, dependencies_of(alloc, file.as_str())?))
+        }
+        Err(CompileError::Fault(fault)) => Ok(Outcome::Fault(fault)),
+        Err(CompileError::Memory) => Err(AllocError),
+    }
+}

@@ -1,0 +1,253 @@
+ghost use Rattle.std.specs.Prelude.{◌≡◌, ◌≤◌, ◌⊎◌, ℕ, List, IfOk, IfErr, OnOk, OnErr, IfSome, Option, Some, None, true, false, codes, option_map, nat_eq, if◌then◌else◌};
+ghost use Rattle.outside.specs.Causes.{Rose};
+ghost use Rattle.outside.specs.Contents.{Appends, AppendsPart};
+ghost use Rattle.outside.specs.Pictures.{next_picture, later_pictures};
+ghost use Rattle.outside.specs.Files.{is_rising};
+ghost use Rattle.pan_top.specs.Commands.{is_command};
+ghost use Rattle.pan_top.specs.Scans.{scanned_of};
+ghost use Rattle.pan_top.specs.Shelves.{Stopped, Lists, proper};
+ghost use Rattle.pan_top.specs.Session.{Session, line_alone, build_of, round_of, scanned_session, session_of, Finished, WritesEarly, Says, Comes, Concludes, IsSessions, IsBuilds, IsUsage, IsUsageEnd, Completes, Takes};
+ghost use Rattle.pan_top.specs.Answers.{wants_of};
+ghost use Rattle.pan_top.specs.Reports.{report_of};
+ghost use Rattle.pan_top.specs.Ends.{Caused, IsOutEnd, IsShelfEnd, IsSourceEnd, IsRoundEnd, status_of, line_of};
+ghost use Rattle.pan_top.specs.declared.status.Status.{Status};
+
+use crate::answers::{Answer, answers, count_faults, count_objects, wants};
+use crate::publish::{listed, publish};
+use crate::report::report;
+use crate::scan::scan;
+use crate::status::{End, Status};
+use crate::words::command;
+use outside::{Picture, Shelf, Sink, Source, StoreError};
+use small_types::Text;
+use std::alloc::{AllocError, Global};
+
+/// The most objects of a picture.
+const MAX_OBJECTS: usize = 10_000;
+
+fn write<O: Sink>(out: &mut O, text: &[u8]) -> Result<(), End>
+    ensures ok { OnOk result (Appends (O.held out.old) text.now (O.held out.new)) }
+    ensures err { OnErr result (AppendsPart (O.held out.old) text.now (O.held out.new)) }
+    ensures kind { IfErr result IsOutEnd }
+    ensures cause { Caused Status.OutFault (O.fault_count out.old) (O.fault_count out.new) result }
+{
+    match out.write(text) {
+        Ok(()) => Ok(()),
+        Err(StoreError::Failed) => Err(End::Out),
+        Err(StoreError::Memory) => Err(End::Memory),
+    }
+}
+
+fn open_source<S: Source>(source: &mut S, root: &str) -> Result<(), End>
+    ensures coming { S.coming source.new ≡ S.coming source.old }
+    ensures kind { IfErr result IsSourceEnd }
+    ensures cause { Caused Status.SourceFault (S.fault_count source.old) (S.fault_count source.new) result }
+{
+    match source.open_root(root) {
+        Ok(()) => Ok(()),
+        Err(StoreError::Failed) => Err(End::Source),
+        Err(StoreError::Memory) => Err(End::Memory),
+    }
+}
+
+fn open_shelf<H: Shelf>(shelf: &mut H, root: &str) -> Result<(), End>
+    ensures same { (n : List ℕ) → H.cell shelf.new n ≡ H.cell shelf.old n }
+    ensures kind { IfErr result IsShelfEnd }
+    ensures cause { Caused Status.ShelfFault (H.fault_count shelf.old) (H.fault_count shelf.new) result }
+{
+    match shelf.open_root(root) {
+        Ok(()) => Ok(()),
+        Err(StoreError::Failed) => Err(End::Shelf),
+        Err(StoreError::Memory) => Err(End::Memory),
+    }
+}
+
+/// A session that ends with a line.
+fn end_with_line<O: Sink>(out: &mut O, line: &[u8], status: Status) -> Result<Status, End>
+    ensures status { IfOk result (λ reached. reached ≡ status) }
+    ensures ok { OnOk result (Appends (O.held out.old) line.now (O.held out.new)) }
+    ensures err { OnErr result (AppendsPart (O.held out.old) line.now (O.held out.new)) }
+    ensures kind { IfErr result IsOutEnd }
+    ensures cause { Caused Status.OutFault (O.fault_count out.old) (O.fault_count out.new) result }
+{
+    write(out, line)?;
+    Ok(status)
+}
+
+fn build_status(faults: usize) -> Status
+    ensures { result ≡ (if nat_eq faults 0 then Status.Clean else Status.SomeFaults) }
+{
+    if faults == 0 {
+        return Status::Clean;
+    }
+    Status::SomeFaults
+}
+
+/// Publishes the profiles among the answers, and then writes the report.
+fn build<H: Shelf, O: Sink>(
+    alloc: Global,
+    answers: Vec<Answer>,
+    listed: &[Text],
+    shelf: &mut H,
+    out: &mut O,
+) -> Result<Status, End>
+    requires proper { proper (wants_of answers.items) ≡ true }
+    requires listed { Lists listed.now (H.cell shelf.old) }
+    ensures ok { IfOk result (λ status. Finished (build_of answers.items) status (O.held out.old) (O.held out.new) (H.cell shelf.old) (H.cell shelf.new)) }
+    ensures own { IfOk result IsBuilds }
+    ensures text { IfErr result (λ e. WritesEarly (report_of answers.items) e (O.held out.old) (O.held out.new)) }
+    ensures shelf { IfErr result (λ e. Stopped e (build_of answers.items).shelf (H.cell shelf.old) (H.cell shelf.new)) }
+    ensures kind { IfErr result IsRoundEnd }
+    ensures shelf_cause { Caused Status.ShelfFault (H.fault_count shelf.old) (H.fault_count shelf.new) result }
+    ensures out_cause { Caused Status.OutFault (O.fault_count out.old) (O.fault_count out.new) result }
+{
+    let text = report(alloc, &answers)?;
+    let status = build_status(count_faults(&answers));
+    let wants = wants(alloc, answers)?;
+    publish(alloc, shelf, listed, &wants)?;
+    end_with_line(out, &text, status)
+}
+
+/// One build over a scanned picture.
+fn round<H: Shelf, O: Sink>(
+    alloc: Global,
+    picture: &Picture,
+    listed: &[Text],
+    shelf: &mut H,
+    out: &mut O,
+) -> Result<Status, End>
+    requires { Lists listed.now (H.cell shelf.old) }
+    ensures ok { IfOk result (λ status. Finished (round_of picture.now) status (O.held out.old) (O.held out.new) (H.cell shelf.old) (H.cell shelf.new)) }
+    ensures own { IfOk result IsBuilds }
+    ensures text { IfErr result (λ e. WritesEarly (round_of picture.now).text e (O.held out.old) (O.held out.new)) }
+    ensures shelf { IfErr result (λ e. Stopped e (round_of picture.now).shelf (H.cell shelf.old) (H.cell shelf.new)) }
+    ensures kind { IfErr result IsRoundEnd }
+    ensures shelf_cause { Caused Status.ShelfFault (H.fault_count shelf.old) (H.fault_count shelf.new) result }
+    ensures out_cause { Caused Status.OutFault (O.fault_count out.old) (O.fault_count out.new) result }
+{
+    if count_objects(picture.files()) > MAX_OBJECTS {
+        return end_with_line(out, b"too much\n", Status::TooMuch);
+    }
+    let answers = answers(alloc, picture.files())?;
+    build(alloc, answers, listed, shelf, out)
+}
+
+/// Scans the source, and builds what was scanned.
+fn scan_and_build<S: Source, H: Shelf, O: Sink>(
+    alloc: Global,
+    source: &mut S,
+    listed: &[Text],
+    shelf: &mut H,
+    out: &mut O,
+) -> Result<Status, End>
+    requires { Lists listed.now (H.cell shelf.old) }
+    ensures ok { IfOk result (λ status. IfSome (S.coming source.old) (λ ps. Finished (scanned_session (scanned_of (next_picture ps))) status (O.held out.old) (O.held out.new) (H.cell shelf.old) (H.cell shelf.new))) }
+    ensures own { IfOk result IsBuilds }
+    ensures text { IfErr result (λ e. IfSome (S.coming source.old) (λ ps. WritesEarly (scanned_session (scanned_of (next_picture ps))).text e (O.held out.old) (O.held out.new))) }
+    ensures shelf { IfErr result (λ e. IfSome (S.coming source.old) (λ ps. Stopped e (scanned_session (scanned_of (next_picture ps))).shelf (H.cell shelf.old) (H.cell shelf.new))) }
+    ensures taken { OnOk result (S.coming source.new ≡ option_map later_pictures (S.coming source.old)) }
+    ensures perhaps { (S.coming source.new ≡ S.coming source.old) ⊎ (S.coming source.new ≡ option_map later_pictures (S.coming source.old)) }
+    ensures source_cause { Caused Status.SourceFault (S.fault_count source.old) (S.fault_count source.new) result }
+    ensures shelf_cause { Caused Status.ShelfFault (H.fault_count shelf.old) (H.fault_count shelf.new) result }
+    ensures out_cause { Caused Status.OutFault (O.fault_count out.old) (O.fault_count out.new) result }
+{
+    let Some(picture) = scan(alloc, source)? else {
+        return end_with_line(out, b"too much\n", Status::TooMuch);
+    };
+    round(alloc, &picture, listed, shelf, out)
+}
+
+/// The session, by the words.
+fn run<S: Source, H: Shelf, O: Sink>(
+    alloc: Global,
+    words: &[Text],
+    source: &mut S,
+    shelf: &mut H,
+    out: &mut O,
+) -> Result<Status, End>
+    ensures ok { IfOk result (λ status. IfSome (S.coming source.old) (λ ps. Finished (session_of words.now (next_picture ps)) status (O.held out.old) (O.held out.new) (H.cell shelf.old) (H.cell shelf.new))) }
+    ensures own { IfOk result IsSessions }
+    ensures text { IfErr result (λ e. IfSome (S.coming source.old) (λ ps. WritesEarly (session_of words.now (next_picture ps)).text e (O.held out.old) (O.held out.new))) }
+    ensures shelf { IfErr result (λ e. IfSome (S.coming source.old) (λ ps. Stopped e (session_of words.now (next_picture ps)).shelf (H.cell shelf.old) (H.cell shelf.new))) }
+    ensures usage { IfOk result (λ status. IsUsage (is_command words.now) status) }
+    ensures quiet { IfErr result (λ e. is_command words.now ≡ false → IsOutEnd e) }
+    ensures taken { IfOk result (λ status. Takes status (S.coming source.old) (S.coming source.new)) }
+    ensures perhaps { (S.coming source.new ≡ S.coming source.old) ⊎ (S.coming source.new ≡ option_map later_pictures (S.coming source.old)) }
+    ensures source_cause { Caused Status.SourceFault (S.fault_count source.old) (S.fault_count source.new) result }
+    ensures shelf_cause { Caused Status.ShelfFault (H.fault_count shelf.old) (H.fault_count shelf.new) result }
+    ensures out_cause { Caused Status.OutFault (O.fault_count out.old) (O.fault_count out.new) result }
+{
+    let Some(folders) = command(words) else {
+        return end_with_line(out, b"usage fault\n", Status::Usage);
+    };
+    open_source(source, folders.source)?;
+    open_shelf(shelf, folders.out)?;
+    let listed = listed(alloc, shelf)?;
+    scan_and_build(alloc, source, &listed, shelf, out)
+}
+
+/// The line of an end.
+fn line(alloc: Global, end: &End) -> Result<Vec<u8>, AllocError>
+    ensures { IfOk result (λ line. line.items ≡ line_of end.now) }
+{
+    let mut line = Vec::new(alloc);
+    match end {
+        End::Source => line.extend_from_slice(b"source fault\n")?,
+        End::Shelf => line.extend_from_slice(b"shelf fault\n")?,
+        End::Publishing(object) => {
+            line.extend_from_slice(b"shelf fault ")?;
+            line.extend_from_slice(object.as_str().as_bytes())?;
+            line.extend_from_slice(b"\n")?;
+        }
+        End::Out | End::Memory => {}
+    }
+    Ok(line)
+}
+
+/// Writes the line of an end, and gives the status.
+fn conclude<O: Sink>(alloc: Global, end: &End, out: &mut O) -> Status
+    ensures status { Concludes end.now result }
+    ensures text { (text : List ℕ) (old : Option (List ℕ)) → WritesEarly text end.now old (O.held out.old) → Says text result end.now old (O.held out.new) }
+    ensures later { O.fault_count out.old ≤ O.fault_count out.new }
+    ensures cause { result ≡ Status.OutFault → (status_of end.now ≡ Status.OutFault) ⊎ Rose (O.fault_count out.old) (O.fault_count out.new) }
+{
+    match end {
+        End::Out => return Status::OutFault,
+        End::Memory => return Status::Memory,
+        End::Source | End::Shelf | End::Publishing(_) => {}
+    }
+    let Ok(line) = line(alloc, end) else {
+        return Status::Memory;
+    };
+    match write(out, &line) {
+        Ok(()) => end.status(),
+        Err(refused) => refused.status(),
+    }
+}
+
+/// The compiler: compiles the templates of a source into profiles on a shelf, and writes a report.
+///
+/// The words are the program's, without its name. What the call writes, what it leaves on the shelf and its
+/// status are those of the words' session with the source's next picture; a fault of a device, and want of
+/// memory, end it early.
+pub fn pan<S: Source, H: Shelf, O: Sink>(
+    alloc: Global,
+    words: &[Text],
+    source: &mut S,
+    shelf: &mut H,
+    out: &mut O,
+) -> Status
+    ensures session { IfSome (S.coming source.old) (λ ps. Comes (session_of words.now (next_picture ps)) result (O.held out.old) (O.held out.new) (H.cell shelf.old) (H.cell shelf.new)) }
+    ensures taken { Takes result (S.coming source.old) (S.coming source.new) }
+    ensures usage { result ≡ Status.Usage → is_command words.now ≡ false }
+    ensures no_command { is_command words.now ≡ false → IsUsageEnd result }
+    ensures source_cause { result ≡ Status.SourceFault → Rose (S.fault_count source.old) (S.fault_count source.new) }
+    ensures shelf_cause { result ≡ Status.ShelfFault → Rose (H.fault_count shelf.old) (H.fault_count shelf.new) }
+    ensures out_cause { result ≡ Status.OutFault → Rose (O.fault_count out.old) (O.fault_count out.new) }
+    ensures complete { (Rose (S.fault_count source.old) (S.fault_count source.new) → ⊥) → (Rose (H.fault_count shelf.old) (H.fault_count shelf.new) → ⊥) → (Rose (O.fault_count out.old) (O.fault_count out.new) → ⊥) → Completes result }
+{
+    match run(alloc, words, source, shelf, out) {
+        Ok(status) => status,
+        Err(end) => conclude(alloc, &end, out),
+    }
+}

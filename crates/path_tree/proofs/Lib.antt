@@ -1,0 +1,17 @@
+pub mod Ascii
+pub mod Splits
+pub mod Pieces
+pub mod Numbers
+pub mod TermTexts
+pub mod Places
+pub mod Sizes
+pub mod Plans
+pub mod Externals
+pub mod Filling
+pub mod Whole
+pub mod Made
+pub mod Changes
+pub mod Kept
+pub mod Steps
+pub mod Entries
+pub mod Smaller

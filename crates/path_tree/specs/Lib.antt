@@ -1,0 +1,13 @@
+pub mod Grammar
+pub mod Escape
+pub mod Paths
+pub mod Reading
+pub mod Plain
+pub mod Find
+pub mod Put
+pub mod Remove
+pub mod View
+pub mod Kept
+pub mod Code
+pub mod Falls
+pub mod Place

@@ -1,0 +1,182 @@
+ghost use Rattle.std.specs.Prelude.{◌≡◌, ◌==◌, ◌↔◌, true, false, IfOk, OnOk, IsErrOf};
+ghost use Rattle.std.specs.Cmp.Lexicographic.{slice_cmp, pointwise};
+ghost use Rattle.std.specs.Cmp.Rules.{comparing};
+ghost use Rattle.std.specs.List.{list_all};
+ghost use Rattle.std.specs.Ordering.{nat_cmp, as_partial_cmp};
+ghost use Rattle.std.specs.Str.{IsAscii, IsUtf8};
+ghost use Rattle.std.proofs.Common.{rules};
+ghost use Rattle.path_tree.specs.Grammar.{is_digit, is_key, is_key_byte, is_letter};
+ghost use Rattle.path_tree.specs.declared.key.KeyError.TheVariants.{Memory};
+
+use small_types::Text;
+use std::alloc::{AllocError, Global};
+use std::cmp::Ordering;
+use std::marker::Model;
+use std::str;
+
+/// A key of a dict: 1 to 1,000 bytes, an ASCII letter or `_`, then letters, digits or any of `_ . + -`.
+/// Contracts see the list of its bytes. Copies share one text in memory.
+#[derive(Debug, Drop)]
+pub struct Key {
+    text: Text,
+}
+
+impl Model for Key {
+    ghost use Rattle.std.specs.Prelude.{◌≡◌, ℕ, List, true};
+    ghost use Rattle.path_tree.specs.Grammar.{is_key};
+
+    ghost Value = { List ℕ };
+
+    ghost view = { λ k. k.text };
+
+    ghost invariant = { λ k. is_key k.text ≡ true };
+}
+
+/// Why a text is no key.
+#[derive(Clone, Copy, Debug, PartialEq, Eq)]
+pub enum KeyError {
+    /// It does not follow the grammar of keys.
+    BadKey,
+    /// There was no memory for the key.
+    Memory,
+}
+
+impl From<AllocError> for KeyError {
+    ghost from_gives = { λ _ e. e ≡ Memory };
+
+    fn from(_e: AllocError) -> KeyError {
+        KeyError::Memory
+    }
+}
+
+pub(crate) fn is_letter(c: u8) -> bool
+    ensures { result ≡ is_letter c }
+{
+    (65 <= c && c <= 90) || (97 <= c && c <= 122)
+}
+
+pub(crate) fn is_digit(c: u8) -> bool
+    ensures { result ≡ is_digit c }
+{
+    48 <= c && c <= 57
+}
+
+pub(crate) fn is_key_byte(c: u8) -> bool
+    ensures { result ≡ is_key_byte c }
+{
+    is_letter(c) || is_digit(c) || c == b'_' || c == b'.' || c == b'+' || c == b'-'
+}
+
+pub(crate) fn are_key_bytes(bytes: &[u8]) -> bool
+    ensures { result ≡ list_all is_key_byte bytes.now }
+{
+    bytes.iter().all(|c| is_key_byte(*c))
+}
+
+/// Whether the bytes are those of a key.
+pub fn is_key(bytes: &[u8]) -> bool
+    ensures { result ≡ is_key bytes.now }
+{
+    let [first, rest @ ..] = bytes else {
+        return false;
+    };
+    (is_letter(*first) || *first == b'_') && are_key_bytes(rest) && rest.len() < 1000
+}
+
+/// Bytes below 128 as a text.
+pub(crate) fn ascii_text(bytes: &[u8]) -> &str
+    requires { IsAscii bytes.now }
+    ensures { result.now ≡ bytes.now }
+{
+    match str::from_utf8(bytes) {
+        Ok(text) => text,
+        Err(_) => unreachable!(),
+    }
+}
+
+impl Key {
+    /// The key of a text. `BadKey` exactly where the text is no key.
+    pub fn parse(alloc: Global, text: &str) -> Result<Key, KeyError>
+        ensures value { IfOk result (λ k. k ≡ text.now) }
+        ensures ok { OnOk result (is_key text.now ≡ true) }
+        ensures bad { IsErrOf result KeyError.BadKey ↔ (is_key text.now ≡ false) }
+    {
+        if !is_key(text.as_bytes()) {
+            return Err(KeyError::BadKey);
+        }
+        let text = Text::new(alloc, text)?;
+        Ok(Key { text })
+    }
+
+    /// The key of bytes that are those of a key.
+    pub(crate) fn from_bytes(alloc: Global, bytes: &[u8]) -> Result<Key, AllocError>
+        requires { is_key bytes.now ≡ true }
+        ensures { IfOk result (λ k. k ≡ bytes.now) }
+    {
+        let text = Text::new(alloc, ascii_text(bytes))?;
+        Ok(Key { text })
+    }
+
+    /// Its text.
+    pub fn as_str(&self) -> &str
+        ensures text { result.now ≡ self.now }
+        ensures key { is_key self.now ≡ true }
+        ensures utf8 { IsUtf8 self.now }
+    {
+        self.text.as_str()
+    }
+
+    /// The same key, with its text shared.
+    pub fn share(&self) -> Result<Key, AllocError>
+        ensures { IfOk result (λ k. k ≡ self.now) }
+    {
+        let text = self.text.share()?;
+        Ok(Key { text })
+    }
+}
+
+impl Clone for Key {
+    ghost is_clone = { λ k copy. copy ≡ k };
+
+    fn clone(&self) -> Result<Key, AllocError> {
+        self.share()
+    }
+}
+
+impl PartialEq for Key {
+    ghost eq = { pointwise ◌==◌ };
+
+    ghost laws = { Prim.search (comparing, rules) };
+
+    fn eq(&self, other: &Key) -> bool {
+        self.as_str() == other.as_str()
+    }
+}
+
+impl Eq for Key {
+    ghost laws = { Prim.search (comparing, rules) };
+}
+
+impl PartialOrd for Key {
+    ghost partial_cmp = { as_partial_cmp (slice_cmp nat_cmp) };
+
+    ghost laws = { Prim.search (comparing, rules) };
+
+    fn partial_cmp(&self, other: &Key) -> Option<Ordering> {
+        Some(self.cmp(other))
+    }
+}
+
+impl Ord for Key {
+    ghost cmp = { slice_cmp nat_cmp };
+
+    ghost total = { Prim.search (comparing, rules) };
+
+    ghost matches_partial_cmp = { Prim.search (comparing, rules) };
+
+    ghost matches_eq = { Prim.search (comparing, rules) };
+
+    fn cmp(&self, other: &Key) -> Ordering {
+        self.as_str().cmp(other.as_str())
+    }
+}

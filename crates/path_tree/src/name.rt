@@ -1,0 +1,170 @@
+ghost use Rattle.std.specs.Prelude.{◌≡◌, ◌==◌, ◌↔◌, ◌∷◌, [], true, false, IfOk, OnOk, IsErrOf};
+ghost use Rattle.std.specs.Cmp.Lexicographic.{slice_cmp, pointwise};
+ghost use Rattle.std.specs.Cmp.Rules.{comparing};
+ghost use Rattle.std.specs.List.{list_all, slice_split};
+ghost use Rattle.std.specs.Ordering.{nat_cmp, as_partial_cmp};
+ghost use Rattle.std.specs.Str.{IsUtf8};
+ghost use Rattle.std.proofs.Common.{rules};
+ghost use Rattle.path_tree.specs.Grammar.{is_dots, is_name, is_segment};
+ghost use Rattle.path_tree.specs.declared.name.NameError.TheVariants.{Memory};
+
+use crate::bytes::first_of;
+use crate::key::{are_key_bytes, ascii_text};
+use small_types::Text;
+use std::alloc::{AllocError, Global};
+use std::cmp::Ordering;
+use std::marker::Model;
+
+/// A template name: 1 to 200 bytes, segments joined by `/`, each of one or more of `A-Z a-z 0-9 _ . + -`
+/// and none equal to `.` or `..`. Contracts see the list of its bytes. Copies share one text in memory.
+#[derive(Debug, Drop)]
+pub struct Name {
+    text: Text,
+}
+
+impl Model for Name {
+    ghost use Rattle.std.specs.Prelude.{◌≡◌, ℕ, List, true};
+    ghost use Rattle.path_tree.specs.Grammar.{is_name};
+
+    ghost Value = { List ℕ };
+
+    ghost view = { λ k. k.text };
+
+    ghost invariant = { λ k. is_name k.text ≡ true };
+}
+
+/// Why a text is no template name.
+#[derive(Clone, Copy, Debug, PartialEq, Eq)]
+pub enum NameError {
+    /// It does not follow the grammar of template names.
+    BadName,
+    /// There was no memory for the name.
+    Memory,
+}
+
+impl From<AllocError> for NameError {
+    ghost from_gives = { λ _ e. e ≡ Memory };
+
+    fn from(_e: AllocError) -> NameError {
+        NameError::Memory
+    }
+}
+
+fn is_dots(bytes: &[u8]) -> bool
+    ensures { result ≡ is_dots bytes.now }
+{
+    match bytes {
+        [first] => *first == b'.',
+        [first, second] => *first == b'.' && *second == b'.',
+        _ => false,
+    }
+}
+
+fn is_segment(bytes: &[u8]) -> bool
+    ensures { result ≡ is_segment bytes.now }
+{
+    0 < bytes.len() && are_key_bytes(bytes) && !is_dots(bytes)
+}
+
+fn are_segments(bytes: &[u8]) -> bool
+    ensures { result ≡ list_all is_segment (slice_split (λ c. c == 47) bytes.now) }
+{
+    match first_of(b'/', b'/', bytes) {
+        None => is_segment(bytes),
+        Some(at) => is_segment(&bytes[..at]) && are_segments(&bytes[at + 1..]),
+    }
+}
+
+/// Whether the bytes are those of a template name.
+pub fn is_name(bytes: &[u8]) -> bool
+    ensures { result ≡ is_name bytes.now }
+{
+    bytes.len() <= 200 && are_segments(bytes)
+}
+
+impl Name {
+    /// The template name of a text. `BadName` exactly where the text is no template name.
+    pub fn parse(alloc: Global, text: &str) -> Result<Name, NameError>
+        ensures value { IfOk result (λ k. k ≡ text.now) }
+        ensures ok { OnOk result (is_name text.now ≡ true) }
+        ensures bad { IsErrOf result NameError.BadName ↔ (is_name text.now ≡ false) }
+    {
+        if !is_name(text.as_bytes()) {
+            return Err(NameError::BadName);
+        }
+        let text = Text::new(alloc, text)?;
+        Ok(Name { text })
+    }
+
+    /// The name of bytes that are those of a template name.
+    pub(crate) fn from_bytes(alloc: Global, bytes: &[u8]) -> Result<Name, AllocError>
+        requires { is_name bytes.now ≡ true }
+        ensures { IfOk result (λ k. k ≡ bytes.now) }
+    {
+        let text = Text::new(alloc, ascii_text(bytes))?;
+        Ok(Name { text })
+    }
+
+    /// Its text.
+    pub fn as_str(&self) -> &str
+        ensures text { result.now ≡ self.now }
+        ensures name { is_name self.now ≡ true }
+        ensures utf8 { IsUtf8 self.now }
+    {
+        self.text.as_str()
+    }
+
+    /// The same name, with its text shared.
+    pub fn share(&self) -> Result<Name, AllocError>
+        ensures { IfOk result (λ k. k ≡ self.now) }
+    {
+        let text = self.text.share()?;
+        Ok(Name { text })
+    }
+}
+
+impl Clone for Name {
+    ghost is_clone = { λ k copy. copy ≡ k };
+
+    fn clone(&self) -> Result<Name, AllocError> {
+        self.share()
+    }
+}
+
+impl PartialEq for Name {
+    ghost eq = { pointwise ◌==◌ };
+
+    ghost laws = { Prim.search (comparing, rules) };
+
+    fn eq(&self, other: &Name) -> bool {
+        self.as_str() == other.as_str()
+    }
+}
+
+impl Eq for Name {
+    ghost laws = { Prim.search (comparing, rules) };
+}
+
+impl PartialOrd for Name {
+    ghost partial_cmp = { as_partial_cmp (slice_cmp nat_cmp) };
+
+    ghost laws = { Prim.search (comparing, rules) };
+
+    fn partial_cmp(&self, other: &Name) -> Option<Ordering> {
+        Some(self.cmp(other))
+    }
+}
+
+impl Ord for Name {
+    ghost cmp = { slice_cmp nat_cmp };
+
+    ghost total = { Prim.search (comparing, rules) };
+
+    ghost matches_partial_cmp = { Prim.search (comparing, rules) };
+
+    ghost matches_eq = { Prim.search (comparing, rules) };
+
+    fn cmp(&self, other: &Name) -> Ordering {
+        self.as_str().cmp(other.as_str())
+    }
+}

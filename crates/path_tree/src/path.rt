@@ -1,0 +1,355 @@
+ghost use Rattle.std.specs.Prelude.{◌≡◌, ◌≢◌, ◌∷◌, ◌++◌, [], ◌↔◌, ◌<◌, ◌+◌, ◌==◌, ◌&&◌, IfOk, IfErr, IfSome, OnOk, if◌then◌else◌, false, true, IsErrOf, MatchResult, MatchOption, Ok, Err, Some, None, is_some, option_map, option_copied, slice_index, length, string_bytes};
+ghost use Rattle.std.specs.List.{list_all};
+ghost use Rattle.path_tree.specs.Grammar.{is_digit, is_index, is_name, number_of};
+ghost use Rattle.path_tree.specs.Paths.{first_of, in_braces, key_term, braced_term, term_of, terms_at, terms_below, absolute_at, path_of, path_text, path_with, pieces, relative, relative_or_external, external, terms_text, term_text};
+ghost use Rattle.path_tree.specs.Reading.{IsRead, optional_pieces, piece_length};
+ghost use Rattle.path_tree.specs.declared.path.PathError.TheVariants.{Memory};
+ghost use Rattle.path_tree.specs.declared.path.PutError.TheVariants as put_error;
+ghost use Rattle.path_tree.specs.declared.path.Anchor.TheVariants as anchor;
+
+use crate::bytes::first_of;
+use crate::escaping::escape_bytes;
+use crate::key::{Key, KeyError, is_digit, is_key};
+use crate::name::{Name, is_name};
+use small_types::Seq;
+use std::alloc::{AllocError, AllocFailed, Global};
+
+/// A step of a path: into a dict by a key, or into a list by an index from 0.
+#[derive(Clone, Debug, Drop, PartialEq, Eq)]
+pub enum Term {
+    Key(Key),
+    Index(u32),
+}
+
+/// Where a path begins: at the root, where its statement says, or at the root of another object.
+#[derive(Clone, Debug, Drop, PartialEq, Eq)]
+pub enum Anchor {
+    Absolute,
+    Relative,
+    External(Name),
+}
+
+/// A path into a tree.
+#[derive(Debug, Drop)]
+pub struct Path {
+    pub anchor: Anchor,
+    pub terms: Seq<Term>,
+}
+
+/// Why a text is no path.
+#[derive(Clone, Copy, Debug, PartialEq, Eq)]
+pub enum PathError {
+    /// It is empty.
+    Empty,
+    /// It has over 4,096 bytes.
+    TooLong,
+    /// The first term that is none begins at this byte. 0 for a bad object name, and the byte after the
+    /// colon where no absolute path follows it.
+    BadTerm(usize),
+    /// There was no memory for the path.
+    Memory,
+}
+
+/// Why a tree takes no value at a path.
+#[derive(Clone, Copy, Debug, PartialEq, Eq)]
+pub enum PutError {
+    /// After this many terms the path leads through a text, a long or a boolean.
+    ThroughProperty(usize),
+    /// A key leads into a list.
+    KeyInList,
+    /// An index leads into a dict.
+    IndexInDict,
+    /// The size would pass 1,000,000.
+    TooLarge,
+    /// The height would pass 100.
+    TooHigh,
+    /// There was no memory for the change.
+    Memory,
+}
+
+impl From<AllocError> for PathError {
+    ghost from_gives = { λ _ e. e ≡ Memory };
+
+    fn from(_e: AllocError) -> PathError {
+        PathError::Memory
+    }
+}
+
+impl<T: Drop> From<AllocFailed<T>> for PathError {
+    ghost from_gives = { λ _ e. e ≡ Memory };
+
+    fn from(_e: AllocFailed<T>) -> PathError {
+        PathError::Memory
+    }
+}
+
+impl From<AllocError> for PutError {
+    ghost from_gives = { λ _ e. e ≡ put_error.Memory };
+
+    fn from(_e: AllocError) -> PutError {
+        PutError::Memory
+    }
+}
+
+impl Path {
+    /// The path of a text. A path is absolute (`/`, or `/` before each term), relative (terms joined by
+    /// `/`), or external: a template name, `:` and an absolute path. It is external exactly where it does
+    /// not begin with `/` and a `:` comes before any `{`. A term is a key, an index (decimal digits without
+    /// a leading zero, at most 999,999) or a text in braces, without braces inside, which stands for the
+    /// text's escaped key.
+    pub fn parse(alloc: Global, text: &str) -> Result<Path, PathError>
+        ensures ok { IfOk result (λ p. path_of text.now ≡ Ok p) }
+        ensures err { IfErr result (λ e. e ≢ PathError.Memory → path_of text.now ≡ Err e) }
+    {
+        let bytes = text.as_bytes();
+        let [first, ..] = bytes else {
+            return Err(PathError::Empty);
+        };
+        if bytes.len() > 4096 {
+            return Err(PathError::TooLong);
+        }
+        if *first == b'/' {
+            absolute(alloc, Anchor::Absolute, 0, bytes)
+        } else {
+            relative_or_external(alloc, bytes)
+        }
+    }
+
+    /// The path in plain form: keys and indices joined by `/`, behind `/` where it is absolute, and behind
+    /// the name and `:/` where it is external.
+    pub fn text(&self, alloc: Global) -> Result<String, AllocError>
+        ensures { IfOk result (λ t. string_bytes t ≡ path_text self.now) }
+    {
+        let mut text = String::new(alloc);
+        match &self.anchor {
+            Anchor::Absolute => text.push('/')?,
+            Anchor::Relative => {}
+            Anchor::External(name) => {
+                text.push_str(name.as_str())?;
+                text.push_str(":/")?;
+            }
+        }
+        push_terms(alloc, &mut text, self.terms.as_slice())?;
+        Ok(text)
+    }
+}
+
+fn relative_or_external(alloc: Global, text: &[u8]) -> Result<Path, PathError>
+    requires { length text.now < 5000 }
+    ensures { IsRead result (relative_or_external text.now (first_of 58 123 text.now)) }
+{
+    match first_of(b':', b'{', text) {
+        Some(at) if text[at] == b':' => external(alloc, text, at),
+        _ => relative(alloc, text),
+    }
+}
+
+fn relative(alloc: Global, text: &[u8]) -> Result<Path, PathError>
+    requires { length text.now < 5000 }
+    ensures { IsRead result (relative text.now) }
+{
+    let terms = terms(alloc, 0, text)?;
+    Ok(Path {
+        anchor: Anchor::Relative,
+        terms,
+    })
+}
+
+fn external(alloc: Global, text: &[u8], colon: usize) -> Result<Path, PathError>
+    requires colon { colon < length text.now }
+    requires short { length text.now < 5000 }
+    ensures { IsRead result (external text.now colon) }
+{
+    let Some(name) = name_of(alloc, &text[..colon])? else {
+        return Err(PathError::BadTerm(0));
+    };
+    absolute(alloc, Anchor::External(name), colon + 1, &text[colon + 1..])
+}
+
+// An absolute path, which begins at this byte of its text.
+fn absolute(alloc: Global, anchor: Anchor, place: usize, text: &[u8]) -> Result<Path, PathError>
+    requires { place + length text.now < 6000 }
+    ensures { IsRead result (absolute_at anchor place text.now) }
+{
+    let [b'/', rest @ ..] = text else {
+        return Err(PathError::BadTerm(place));
+    };
+    let terms = terms_below(alloc, place + 1, rest)?;
+    Ok(Path { anchor, terms })
+}
+
+fn terms_below(alloc: Global, place: usize, text: &[u8]) -> Result<Seq<Term>, PathError>
+    requires { place + length text.now < 6000 }
+    ensures { IsRead result (terms_below place text.now) }
+{
+    if text.is_empty() {
+        Ok(Seq::new(alloc))
+    } else {
+        terms(alloc, place, text)
+    }
+}
+
+// The terms of a text that begins at this byte of the path's text.
+fn terms(alloc: Global, place: usize, text: &[u8]) -> Result<Seq<Term>, PathError>
+    requires { place + length text.now < 6000 }
+    ensures { IsRead result (terms_at place (pieces text.now)) }
+{
+    let mut terms = Vec::new(alloc);
+    let mut place = place;
+    let mut rest = Some(text);
+    while let Some(text) = rest {
+        let (piece, more) = first_piece(text);
+        let Some(term) = term_of(alloc, piece)? else {
+            return Err(PathError::BadTerm(place));
+        };
+        terms.push(term)?;
+        place += piece.len() + 1;
+        rest = more;
+    }
+    Ok(Seq::from_vec(terms))
+}
+
+// The bytes before the first slash outside of braces, and those behind it.
+fn first_piece(text: &[u8]) -> (&[u8], Option<&[u8]>)
+    ensures pieces { pieces text.now ≡ result.0.now ∷ optional_pieces (option_copied result.1) }
+    ensures smaller { IfSome result.1 (λ more. length more.now + length result.0.now + 1 ≡ length text.now) }
+    ensures last { result.1 ≡ None → length result.0.now ≡ length text.now }
+{
+    let end = piece_end(text);
+    if end < text.len() {
+        (&text[..end], Some(&text[end + 1..]))
+    } else {
+        (text, None)
+    }
+}
+
+fn piece_end(text: &[u8]) -> usize
+    ensures { result ≡ piece_length false text.now }
+{
+    let mut inside = false;
+    for (i, byte) in text.iter().enumerate() {
+        match *byte {
+            b'/' if !inside => return i,
+            b'{' => inside = true,
+            b'}' => inside = false,
+            _ => {}
+        }
+    }
+    text.len()
+}
+
+fn term_of(alloc: Global, piece: &[u8]) -> Result<Option<Term>, AllocError>
+    ensures { IfOk result (λ t. t ≡ term_of piece.now) }
+{
+    if is_key(piece) {
+        Ok(key_term(alloc, piece)?)
+    } else if is_index(piece) {
+        Ok(Some(Term::Index(number_of(piece))))
+    } else {
+        braced_term(alloc, piece)
+    }
+}
+
+fn braced_term(alloc: Global, piece: &[u8]) -> Result<Option<Term>, AllocError>
+    ensures { IfOk result (λ t. t ≡ braced_term (in_braces piece.now)) }
+{
+    let Some(text) = in_braces(piece) else {
+        return Ok(None);
+    };
+    let key = escape_bytes(alloc, text)?;
+    key_term(alloc, key.as_bytes())
+}
+
+fn in_braces(piece: &[u8]) -> Option<&[u8]>
+    ensures { option_copied result ≡ in_braces piece.now }
+{
+    let [b'{', rest @ ..] = piece else {
+        return None;
+    };
+    let end = first_of(b'{', b'}', rest)?;
+    if rest[end] == b'}' && end + 1 == rest.len() {
+        Some(&rest[..end])
+    } else {
+        None
+    }
+}
+
+fn key_term(alloc: Global, bytes: &[u8]) -> Result<Option<Term>, AllocError>
+    ensures { IfOk result (λ t. t ≡ key_term bytes.now) }
+{
+    if !is_key(bytes) {
+        return Ok(None);
+    }
+    let key = Key::from_bytes(alloc, bytes)?;
+    Ok(Some(Term::Key(key)))
+}
+
+fn name_of(alloc: Global, bytes: &[u8]) -> Result<Option<Name>, AllocError>
+    ensures { IfOk result (λ n. n ≡ (if is_name bytes.now then Some bytes.now else None)) }
+{
+    if !is_name(bytes) {
+        return Ok(None);
+    }
+    let name = Name::from_bytes(alloc, bytes)?;
+    Ok(Some(name))
+}
+
+fn is_index(piece: &[u8]) -> bool
+    ensures { result ≡ is_index piece.now }
+{
+    match piece {
+        [] => false,
+        [only] => is_digit(*only),
+        [first, second, rest @ ..] => {
+            b'1' <= *first
+                && *first <= b'9'
+                && is_digit(*second)
+                && are_digits(rest)
+                && rest.len() < 5
+        }
+    }
+}
+
+fn are_digits(bytes: &[u8]) -> bool
+    ensures { result ≡ list_all is_digit bytes.now }
+{
+    bytes.iter().all(|c| is_digit(*c))
+}
+
+#[tactic(auto, using(crate::proofs::Numbers::number_lemmas))]
+fn number_of(digits: &[u8]) -> u32
+    requires { is_index digits.now ≡ true }
+    ensures { result ≡ number_of digits.now }
+{
+    let mut number = 0;
+    for digit in digits {
+        number = 10 * number + (*digit - b'0') as u32;
+    }
+    number
+}
+
+fn push_terms(alloc: Global, text: &mut String, terms: &[Term]) -> Result<(), AllocError>
+    ensures { OnOk result (string_bytes text.new ≡ string_bytes text.old ++ terms_text terms.now) }
+{
+    let [first, rest @ ..] = terms else {
+        return Ok(());
+    };
+    push_term(alloc, text, first)?;
+    for term in rest {
+        text.push('/')?;
+        push_term(alloc, text, term)?;
+    }
+    Ok(())
+}
+
+fn push_term(alloc: Global, text: &mut String, term: &Term) -> Result<(), AllocError>
+    ensures { OnOk result (string_bytes text.new ≡ string_bytes text.old ++ term_text term.now) }
+{
+    match term {
+        Term::Key(key) => text.push_str(key.as_str()),
+        Term::Index(index) => {
+            let digits = format!(in alloc; "{index}")?;
+            text.push_str(digits.as_str())
+        }
+    }
+}

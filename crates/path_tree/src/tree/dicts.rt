@@ -1,0 +1,156 @@
+ghost use Rattle.std.specs.Prelude.{◌≡◌, ◌+◌, ◌≤◌, IfOk, IfSome, max, option_copied, true};
+ghost use Rattle.std.specs.Cmp.Lexicographic.{slice_cmp};
+ghost use Rattle.std.specs.Ordering.{nat_cmp};
+ghost use Rattle.std.specs.Str.{IsUtf8};
+ghost use Rattle.path_tree.specs.Find.{field_count, field_key_at, find_field, value_at};
+ghost use Rattle.path_tree.specs.Grammar.{is_key};
+ghost use Rattle.path_tree.specs.Kept.{FitsMade, IsInside, IsRemeasured};
+ghost use Rattle.path_tree.specs.Plain.{AreFields, dict, field, no_fields, tree_height, tree_size};
+ghost use Rattle.path_tree.specs.Place.{IsPlace};
+ghost use Rattle.path_tree.specs.View.{dict_view, fields_of};
+
+use super::{Dict, Entry, Measure, Node, Tree};
+use crate::key::Key;
+use std::alloc::{AllocError, Global};
+use std::cmp::{Ordering, max};
+use std::rc::Rc;
+
+#[tactic(auto, using(crate::proofs::Entries::entry_lemmas))]
+pub(super) fn count(entries: &[Entry]) -> usize
+    ensures { result ≡ field_count (fields_of entries.now) }
+{
+    entries.len()
+}
+
+#[tactic(auto, using(crate::proofs::Entries::entry_lemmas))]
+pub(super) fn key_at(entries: &[Entry], i: usize) -> Option<&str>
+    ensures value { option_copied result ≡ field_key_at i (fields_of entries.now) }
+    ensures key { IfSome result (λ k. is_key k.now ≡ true) }
+    ensures utf8 { IfSome result (λ k. IsUtf8 k.now) }
+{
+    if i < entries.len() {
+        Some(entries[i].key.as_str())
+    } else {
+        None
+    }
+}
+
+#[tactic(auto, using(crate::proofs::Entries::entry_lemmas))]
+pub(super) fn value_at(entries: &[Entry], i: usize) -> Option<&Tree>
+    ensures { option_copied result ≡ value_at i (fields_of entries.now) }
+{
+    if i < entries.len() {
+        Some(&entries[i].value)
+    } else {
+        None
+    }
+}
+
+// Where the key stands among the entries, or where it would.
+pub(super) fn place(entries: &[Entry], key: &Key) -> Result<usize, usize>
+    requires { AreFields (fields_of entries.now) }
+    ensures { IsPlace key.now entries.now result }
+{
+    entries.binary_search_by(
+        |entry| -> Ordering
+            ensures { result ≡ slice_cmp nat_cmp entry.now.key key.entry.now }
+        { entry.key.cmp(key) },
+    )
+}
+
+pub(super) fn find<'a>(entries: &'a [Entry], key: &Key) -> Option<&'a Tree>
+    requires { AreFields (fields_of entries.now) }
+    ensures { option_copied result ≡ find_field key.now (fields_of entries.now) }
+{
+    match place(entries, key) {
+        Ok(at) => Some(&entries[at].value),
+        Err(_) => None,
+    }
+}
+
+// Leaves the dict with this owner alone.
+pub(super) fn own(alloc: Global, dict: &mut Rc<Dict>) -> Result<(), AllocError>
+    ensures entries { dict.new.value.entries.items ≡ dict.old.value.entries.items }
+    ensures size { dict.new.value.size ≡ dict.old.value.size }
+    ensures height { dict.new.value.height ≡ dict.old.value.height }
+{
+    if Rc::strong_count(dict) != 1 {
+        let copy = copy(alloc, dict)?;
+        *dict = Rc::new(alloc, copy)?;
+    }
+    Ok(())
+}
+
+fn copy(alloc: Global, dict: &Dict) -> Result<Dict, AllocError>
+    ensures { IfOk result (λ d. (d.entries.items ≡ dict.now.entries.items) × (d.size ≡ dict.now.size) × (d.height ≡ dict.now.height)) }
+{
+    let mut entries = Vec::with_capacity(alloc, dict.entries.len())?;
+    for entry in &dict.entries {
+        entries.push(Entry {
+            key: entry.key.share()?,
+            value: entry.value.copy()?,
+        })?;
+    }
+    Ok(Dict {
+        entries,
+        size: dict.size,
+        height: dict.height,
+    })
+}
+
+pub(super) fn entry(key: &Key, value: Tree) -> Result<Entry, AllocError>
+    ensures entry { IfOk result (λ e. (e.key ≡ key.now) × (e.value ≡ value)) }
+    ensures key { is_key key.now ≡ true }
+{
+    let _text = key.as_str();
+    let key = key.share()?;
+    Ok(Entry { key, value })
+}
+
+// A dict with one field.
+pub(super) fn one_field(alloc: Global, key: &Key, value: Tree) -> Result<Tree, AllocError>
+    requires fits { FitsMade (dict (field key.now value no_fields)) }
+    requires inside { IsInside value }
+    ensures ok { IfOk result (λ t. t ≡ dict (field key.now value no_fields)) }
+    ensures inside { IfOk result IsInside }
+{
+    let size = 1 + value.size();
+    let height = 1 + value.height();
+    let entry = entry(key, value)?;
+    let mut entries = Vec::with_capacity(alloc, 1)?;
+    entries.push(entry)?;
+    let dict = Dict {
+        entries,
+        size,
+        height,
+    };
+    Ok(Tree {
+        node: Node::Dict(Rc::new(alloc, dict)?),
+    })
+}
+
+// Keeps the size and the height where a child of one measure has become one of another.
+pub(super) fn measure_change(dict: &mut Dict, before: Measure, after: Measure)
+    requires measured { IsRemeasured (dict_view dict.old) dict.old.size dict.old.height before after }
+    requires fits { FitsMade (dict_view dict.old) }
+    ensures entries { dict.new.entries.items ≡ dict.old.entries.items }
+    ensures size { dict.new.size ≡ tree_size (dict_view dict.new) }
+    ensures height { dict.new.height ≡ tree_height (dict_view dict.new) }
+{
+    dict.size = dict.size - before.size + after.size;
+    if after.height + 1 >= dict.height {
+        dict.height = after.height + 1;
+    } else if before.height + 1 == dict.height {
+        dict.height = height_of(&dict.entries);
+    }
+}
+
+fn height_of(entries: &[Entry]) -> u64
+    ensures { result ≡ tree_height (dict (fields_of entries.now)) }
+{
+    let mut height = 1;
+    for entry in entries {
+        height = max(height, 1 + entry.value.height());
+    }
+    height
+}

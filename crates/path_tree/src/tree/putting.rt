@@ -1,0 +1,257 @@
+ghost use Rattle.std.specs.Prelude.{◌≡◌, ◌<◌, ◌≤◌, ◌^◌, ◌∷◌, OnOk, OnErr, IfOk, length};
+ghost use Rattle.path_tree.specs.Kept.{CanWalk, FitsMade, IsInside, Walks};
+ghost use Rattle.path_tree.specs.Place.{Stands, Lacks};
+ghost use Rattle.path_tree.specs.Put.{chain};
+ghost use Rattle.path_tree.specs.View.{IsDict, IsList, dict_view, list_view};
+ghost use Rattle.path_tree.specs.declared.path.Term.TheVariants as term;
+
+use super::{Dict, Entry, Items, Node, Tree, dicts, lists};
+use crate::key::Key;
+use crate::path::Term;
+use std::alloc::{AllocError, Global};
+use std::rc::Rc;
+
+// Puts a value where the walk goes through and the limits are kept.
+#[cycle(put)]
+pub(super) fn put_in(
+    alloc: Global,
+    tree: &mut Tree,
+    terms: &[Term],
+    value: Tree,
+) -> Result<(), AllocError>
+    requires fits { CanWalk terms.now value tree.old }
+    requires inside { IsInside value }
+    ensures ok { OnOk result (Walks terms.now value tree.old tree.new) }
+    ensures inside { OnOk result (IsInside tree.new) }
+    ensures before { OnErr result (tree.new ≡ tree.old) }
+{
+    let [term, rest @ ..] = terms else {
+        *tree = value;
+        return Ok(());
+    };
+    match &mut tree.node {
+        Node::Dict(dict) => match term {
+            Term::Key(key) => put_key(alloc, dict, key, rest, value),
+            Term::Index(_) => unreachable!(),
+        },
+        Node::List(list) => match term {
+            Term::Index(index) => put_index(alloc, list, *index as usize, rest, value),
+            Term::Key(_) => unreachable!(),
+        },
+        Node::Undef | Node::Null => {
+            *tree = made(alloc, terms, value)?;
+            Ok(())
+        }
+        Node::Text(_) | Node::Long(_) | Node::Boolean(_) => unreachable!(),
+    }
+}
+
+// A dict of one's own, and then plain work on it.
+#[cycle(put)]
+fn put_key(
+    alloc: Global,
+    dict: &mut Rc<Dict>,
+    key: &Key,
+    terms: &[Term],
+    value: Tree,
+) -> Result<(), AllocError>
+    requires kept { IsDict dict.old.value }
+    requires fits { CanWalk (term.Key key.now ∷ terms.now) value (dict_view dict.old.value) }
+    requires inside { IsInside value }
+    ensures ok { OnOk result (Walks (term.Key key.now ∷ terms.now) value (dict_view dict.old.value) (dict_view dict.new.value)) }
+    ensures before { OnErr result (dict_view dict.new.value ≡ dict_view dict.old.value) }
+    ensures kept { IsDict dict.new.value }
+{
+    dicts::own(alloc, dict)?;
+    let Some(dict) = Rc::get_mut(dict) else {
+        return Err(AllocError);
+    };
+    put_field(alloc, dict, key, terms, value)
+}
+
+#[cycle(put)]
+fn put_field(
+    alloc: Global,
+    dict: &mut Dict,
+    key: &Key,
+    terms: &[Term],
+    value: Tree,
+) -> Result<(), AllocError>
+    requires kept { IsDict dict.old }
+    requires fits { CanWalk (term.Key key.now ∷ terms.now) value (dict_view dict.old) }
+    requires inside { IsInside value }
+    ensures ok { OnOk result (Walks (term.Key key.now ∷ terms.now) value (dict_view dict.old) (dict_view dict.new)) }
+    ensures before { OnErr result (dict_view dict.new ≡ dict_view dict.old) }
+    ensures kept { IsDict dict.new }
+{
+    match dicts::place(&dict.entries, key) {
+        Ok(at) => change_field(alloc, dict, at, key, terms, value),
+        Err(at) => add_field(alloc, dict, at, key, terms, value),
+    }
+}
+
+// The key stands at this place.
+#[cycle(put)]
+fn change_field(
+    alloc: Global,
+    dict: &mut Dict,
+    at: usize,
+    key: &Key,
+    terms: &[Term],
+    value: Tree,
+) -> Result<(), AllocError>
+    requires kept { IsDict dict.old }
+    requires stands { Stands key.now dict.old.entries.items at }
+    requires fits { CanWalk (term.Key key.now ∷ terms.now) value (dict_view dict.old) }
+    requires inside { IsInside value }
+    ensures ok { OnOk result (Walks (term.Key key.now ∷ terms.now) value (dict_view dict.old) (dict_view dict.new)) }
+    ensures before { OnErr result (dict_view dict.new ≡ dict_view dict.old) }
+    ensures kept { IsDict dict.new }
+{
+    let before = dict.entries[at].value.measure();
+    put_in(alloc, &mut dict.entries[at].value, terms, value)?;
+    let after = dict.entries[at].value.measure();
+    dicts::measure_change(dict, before, after);
+    Ok(())
+}
+
+// The key would stand at this place.
+fn add_field(
+    alloc: Global,
+    dict: &mut Dict,
+    at: usize,
+    key: &Key,
+    terms: &[Term],
+    value: Tree,
+) -> Result<(), AllocError>
+    requires kept { IsDict dict.old }
+    requires lacks { Lacks key.now dict.old.entries.items at }
+    requires fits { CanWalk (term.Key key.now ∷ terms.now) value (dict_view dict.old) }
+    requires inside { IsInside value }
+    ensures ok { OnOk result (Walks (term.Key key.now ∷ terms.now) value (dict_view dict.old) (dict_view dict.new)) }
+    ensures before { OnErr result (dict_view dict.new ≡ dict_view dict.old) }
+    ensures kept { IsDict dict.new }
+{
+    let value = made(alloc, terms, value)?;
+    let added = value.measure();
+    let entry = dicts::entry(key, value)?;
+    dict.entries.insert(at, entry)?;
+    dict.size += added.size;
+    dict.height = dict.height.max(added.height + 1);
+    Ok(())
+}
+
+#[cycle(put)]
+fn put_index(
+    alloc: Global,
+    list: &mut Rc<Items>,
+    index: usize,
+    terms: &[Term],
+    value: Tree,
+) -> Result<(), AllocError>
+    requires index { index < 2 ^ 32 }
+    requires kept { IsList list.old.value }
+    requires fits { CanWalk (term.Index index ∷ terms.now) value (list_view list.old.value) }
+    requires inside { IsInside value }
+    ensures ok { OnOk result (Walks (term.Index index ∷ terms.now) value (list_view list.old.value) (list_view list.new.value)) }
+    ensures before { OnErr result (list_view list.new.value ≡ list_view list.old.value) }
+    ensures kept { IsList list.new.value }
+{
+    lists::own(alloc, list)?;
+    let Some(list) = Rc::get_mut(list) else {
+        return Err(AllocError);
+    };
+    put_item(alloc, list, index, terms, value)
+}
+
+#[cycle(put)]
+fn put_item(
+    alloc: Global,
+    list: &mut Items,
+    index: usize,
+    terms: &[Term],
+    value: Tree,
+) -> Result<(), AllocError>
+    requires index { index < 2 ^ 32 }
+    requires kept { IsList list.old }
+    requires fits { CanWalk (term.Index index ∷ terms.now) value (list_view list.old) }
+    requires inside { IsInside value }
+    ensures ok { OnOk result (Walks (term.Index index ∷ terms.now) value (list_view list.old) (list_view list.new)) }
+    ensures before { OnErr result (list_view list.new ≡ list_view list.old) }
+    ensures kept { IsList list.new }
+{
+    if index < list.items.len() {
+        change_item(alloc, list, index, terms, value)
+    } else {
+        add_item(alloc, list, index, terms, value)
+    }
+}
+
+// An item stands at this place.
+#[cycle(put)]
+fn change_item(
+    alloc: Global,
+    list: &mut Items,
+    index: usize,
+    terms: &[Term],
+    value: Tree,
+) -> Result<(), AllocError>
+    requires index { index < length list.old.items.items }
+    requires kept { IsList list.old }
+    requires fits { CanWalk (term.Index index ∷ terms.now) value (list_view list.old) }
+    requires inside { IsInside value }
+    ensures ok { OnOk result (Walks (term.Index index ∷ terms.now) value (list_view list.old) (list_view list.new)) }
+    ensures before { OnErr result (list_view list.new ≡ list_view list.old) }
+    ensures kept { IsList list.new }
+{
+    let before = list.items[index].measure();
+    put_in(alloc, &mut list.items[index], terms, value)?;
+    let after = list.items[index].measure();
+    lists::measure_change(list, before, after);
+    Ok(())
+}
+
+// The place is past the end.
+fn add_item(
+    alloc: Global,
+    list: &mut Items,
+    index: usize,
+    terms: &[Term],
+    value: Tree,
+) -> Result<(), AllocError>
+    requires index { index < 2 ^ 32 }
+    requires past { length list.old.items.items ≤ index }
+    requires kept { IsList list.old }
+    requires fits { CanWalk (term.Index index ∷ terms.now) value (list_view list.old) }
+    requires inside { IsInside value }
+    ensures ok { OnOk result (Walks (term.Index index ∷ terms.now) value (list_view list.old) (list_view list.new)) }
+    ensures before { OnErr result (list_view list.new ≡ list_view list.old) }
+    ensures kept { IsList list.new }
+{
+    let value = made(alloc, terms, value)?;
+    let added = value.measure();
+    let filled = index - list.items.len();
+    lists::extend(&mut list.items, index, value)?;
+    list.size += filled as u64 + added.size;
+    list.height = list.height.max(added.height + 1);
+    Ok(())
+}
+
+// The tree of what is put where nothing was.
+fn made(alloc: Global, terms: &[Term], value: Tree) -> Result<Tree, AllocError>
+    requires fits { FitsMade (chain terms.now value) }
+    requires inside { IsInside value }
+    ensures ok { IfOk result (λ t. t ≡ chain terms.now value) }
+    ensures inside { IfOk result IsInside }
+{
+    let mut tree = value;
+    let mut i = terms.len();
+    while 0 < i {
+        i -= 1;
+        tree = match &terms[i] {
+            Term::Key(key) => dicts::one_field(alloc, key, tree)?,
+            Term::Index(index) => lists::one_item(alloc, *index as usize, tree)?,
+        };
+    }
+    Ok(tree)
+}
