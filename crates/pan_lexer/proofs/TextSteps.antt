@@ -23,7 +23,7 @@ double_on zero bs = sym (front_none (double 0 bs))
 double_on (suc n) [] = refl
 double_on (suc n) (b ∷ bs) = ap (with_front [] 1) (double_on n bs) ∙ front_twice [] [] 1 n (double 0 (drop n bs)) ∙ ap (λ (k : ℕ). with_front [] k (double 0 (drop n bs))) (omega arith)
 
-cut : (i : ℕ) (bs : List ℕ) → i < length bs → drop i bs ≡ get_or bs i 0 ∷ drop (i + 1) bs
+pub cut : (i : ℕ) (bs : List ℕ) → i < length bs → drop i bs ≡ get_or bs i 0 ∷ drop (i + 1) bs
 cut i bs lt = rw add-one (drop-cons bs i 0 lt)
 
 pub not-eqb : (a b : ℕ) → a ≢ b → eqb a b ≡ false
@@ -45,7 +45,7 @@ other_step front i bs new lt e f is =
     let here : double 0 (drop i bs) ≡ with_front (b ∷ []) 1 (double 0 (drop (i + 1) bs)) = rw (add-one, drop-cons bs i 0 lt) (other_here b (drop (suc i) bs) (not-eqb b 34 e) (not-eqb b 92 f)) in
     rw (here, is) (sym (front_twice front (b ∷ []) i 1 (double 0 (drop (i + 1) bs))))
 
-append_nil : (xs : List ℕ) → xs ++ [] ≡ xs
+pub append_nil : (xs : List ℕ) → xs ++ [] ≡ xs
 append_nil [] = refl
 append_nil (x ∷ xs) = ap (λ (ys : List ℕ). x ∷ ys) (append_nil xs)
 

@@ -21,3 +21,8 @@ IsValue len End value = value ≡ []
 
 abbrev pub AreValues : ℕ → List Token → Type 0
 AreValues len tokens = All (λ t. IsValue len t.kind t.value) tokens
+
+-- the tokens stand one behind the other from a byte on, in a file of so many bytes
+abbrev pub AreInOrder : ℕ → ℕ → List Token → Type 0
+AreInOrder from len [] = from ≤ len
+AreInOrder from len (t ∷ ts) = (from ≤ t.start) × ((t.start ≤ t.end) × AreInOrder t.end len ts)

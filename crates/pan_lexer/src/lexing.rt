@@ -1,7 +1,9 @@
-ghost use Rattle.std.specs.Prelude.{◌≡◌, ◌≤◌, ◌<◌, ◌+◌, ◌^◌, length, IfOk, [], decimal, IsUtf8};
+ghost use Rattle.std.specs.Prelude.{◌≡◌, ◌≤◌, ◌<◌, ◌+◌, ◌^◌, length, IfOk, List, [], decimal, IsUtf8};
 ghost use Rattle.pan_lexer.specs.Lexed.{place_after, place_in, is_naming, is_template, mode_after, token, fault, lexed, lexed_file, origin};
-ghost use Rattle.pan_lexer.specs.Answers.{Gives};
-ghost use Rattle.pan_lexer.specs.Tokens.{EndsOnce, AreValues};
+ghost use Rattle.pan_lexer.specs.Answers.{Gives, OnFault};
+ghost use Rattle.pan_lexer.specs.Faulty.{Faulty};
+ghost use Rattle.pan_lexer.specs.Spelled.{Spelled};
+ghost use Rattle.pan_lexer.specs.Tokens.{EndsOnce, AreValues, AreInOrder};
 ghost use Rattle.pan_lexer.specs.declared.lexing.LexError.TheVariants.{Memory};
 
 use crate::bytes::{behind, front_of};
@@ -224,12 +226,20 @@ fn tokens_of(alloc: Global, bytes: &[u8], file: &Text) -> Result<Seq<Token>, Lex
     Ok(Seq::from_vec(tokens))
 }
 
-/// The tokens of a file, or its first fault. `file` is the file's name, for the places.
+/// The tokens of a file of at most 1,000,000 bytes, or its fault: the first that reading from the left meets,
+/// F02 before all others. `file` is the file's name, for the places.
+///
+/// Tokens come in order, and the last is an End.
 pub fn lex(alloc: Global, bytes: &[u8], file: &Text) -> Result<Seq<Token>, LexError>
     requires { length bytes.now ≤ 1000000 }
     ensures exact { Gives result (lexed_file file.now bytes.now) }
+    ensures spelled { IfOk result (Spelled file.now bytes.now) }
+    ensures only { (ts : List Token) → Spelled file.now bytes.now ts → Gives result (Ok ts) }
+    ensures faulty { OnFault (Faulty file.now bytes.now) result }
+    ensures first { (f : Fault) → Faulty file.now bytes.now f → Gives result (Err f) }
     ensures ended { IfOk result EndsOnce }
     ensures values { IfOk result (AreValues (length bytes.now)) }
+    ensures order { IfOk result (AreInOrder 0 (length bytes.now)) }
 {
     match std::str::from_utf8(bytes) {
         Ok(_) => tokens_of(alloc, bytes, file),

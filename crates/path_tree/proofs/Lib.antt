@@ -13,5 +13,8 @@ pub mod Made
 pub mod Changes
 pub mod Kept
 pub mod Steps
+pub mod Escapes
+pub mod Removals
+pub mod Sames
 pub mod Entries
 pub mod Smaller

@@ -35,6 +35,7 @@ module _ (k : List ℕ) where
     within = omega arith;
     found = λ d. rw is refl;
     put = λ d t. rw is refl;
+    removed = rw is refl;
   }
 
   further : (e : Entry) (es : List Entry) (i : ℕ) → cmp k e.key ≡ Greater → Stands k es i → Stands k (e ∷ es) (suc i)
@@ -42,6 +43,7 @@ module _ (k : List ℕ) where
     within = omega (arith, h.within);
     found = λ d. rw is (h.found d);
     put = λ d t. rw is (ap (field e.key e.value) (h.put d t));
+    removed = rw is (ap (field e.key e.value) h.removed);
   }
 
   stands : (es : List Entry) (i : ℕ) → AreFields (fields_of es) → i < length es → ((d : Entry) → cmp (get_or es i d).key k ≡ Equal) → Stands k es i

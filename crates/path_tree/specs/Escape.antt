@@ -23,15 +23,16 @@ is_hex_digit c = is_digit c || between 97 102 c
 abbrev pub hex_value : ℕ → ℕ
 hex_value c = if is_digit c then c - 48 else c - 87
 
+-- an escaped byte: _ and two hexadecimal digits
+abbrev pub is_escape : ℕ → ℕ → ℕ → Bool
+is_escape c a b = (c == 95) && is_hex_digit a && is_hex_digit b
+
 -- every _ with two lower-case hexadecimal digits replaced by that byte
 abbrev pub unescape_rest : List ℕ → List ℕ
 unescape_rest [] = []
 unescape_rest (c ∷ []) = c ∷ []
 unescape_rest (c ∷ a ∷ []) = c ∷ unescape_rest (a ∷ [])
-unescape_rest (c ∷ a ∷ b ∷ cs) =
-    if (c == 95) && is_hex_digit a && is_hex_digit b
-    then (16 * hex_value a + hex_value b) ∷ unescape_rest cs
-    else (c ∷ unescape_rest (a ∷ b ∷ cs))
+unescape_rest (c ∷ a ∷ b ∷ cs) = if is_escape c a b then (16 * hex_value a + hex_value b) ∷ unescape_rest cs else (c ∷ unescape_rest (a ∷ b ∷ cs))
 
 -- the text _ gives the empty text
 abbrev pub unescape : List ℕ → List ℕ

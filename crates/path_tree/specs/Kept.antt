@@ -78,6 +78,11 @@ pub record IsRemeasured (u : Plain) (was high : ℕ) (before after : Measure) : 
   pub reaches : after.height + 1 ≤ tree_height u
   pub smaller : before.size ≤ was
 
+-- u is a tree of this size and height once a child of this measure is gone
+pub record IsLessened (u : Plain) (was high : ℕ) (gone : Measure) : Type 0 where
+  pub size : was ≡ tree_size u + gone.size
+  pub height : max (tree_height u) (gone.height + 1) ≡ high
+
 -- the walk goes through, and gives a tree within the limits
 pub record CanWalk (ms : List Term) (v t : Plain) : Type 0 where
   pub passed : ℕ

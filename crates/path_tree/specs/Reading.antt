@@ -1,5 +1,6 @@
--- What the functions that read a path answer.
-use Rattle.std.specs.Prelude.{◌≡◌, ◌≢◌, ℕ, ◌+◌, Bool, List, [], ◌∷◌, ◌==◌, ◌&&◌, not, if◌then◌else◌, Option, Some, None, Result, Ok, Err, IfOk, IfErr}
+-- What the functions that read a path or an escaped text answer.
+use Rattle.std.specs.Prelude.{false, ◌≡◌, ◌≢◌, ℕ, ◌+◌, Bool, List, [], ◌∷◌, ◌==◌, ◌&&◌, not, if◌then◌else◌, Option, Some, None, Result, Ok, Err, IfOk, IfErr}
+use Rattle.path_tree.specs.Escape.{is_escape}
 use Rattle.path_tree.specs.Paths.{pieces, inside_after}
 use Rattle.path_tree.specs.declared.path.PathError.{PathError}
 use Rattle.path_tree.specs.declared.path.PathError.TheVariants as error
@@ -17,3 +18,10 @@ piece_length inside (c ∷ cs) = if (c == 47) && not inside then 0 else (piece_l
 abbrev pub optional_pieces : Option (List ℕ) → List (List ℕ)
 optional_pieces None = []
 optional_pieces (Some text) = pieces text
+
+-- the first byte stands escaped
+abbrev pub begins_escaped : List ℕ → Bool
+begins_escaped [] = false
+begins_escaped (c ∷ []) = false
+begins_escaped (c ∷ a ∷ []) = false
+begins_escaped (c ∷ a ∷ b ∷ cs) = is_escape c a b

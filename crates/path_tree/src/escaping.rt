@@ -1,14 +1,18 @@
-ghost use Rattle.std.specs.Prelude.{◌≡◌, ◌++◌, ◌↔◌, IfOk, IfSome, MatchOption, OnOk, ◌<◌, string_bytes};
+ghost use Rattle.std.specs.Prelude.{◌≡◌, ◌<◌, ◌≤◌, ◌++◌, length, true, IfOk, MatchOption, OnOk, string_bytes};
 ghost use Rattle.std.specs.Char.{digit_char};
-ghost use Rattle.path_tree.specs.Escape.{escape, escape_rest, escaped_byte};
+ghost use Rattle.std.specs.Str.{IsUtf8};
+ghost use Rattle.path_tree.specs.Escape.{escape, escape_rest, escaped_byte, hex_value, is_hex_digit, unescape, unescape_rest};
+ghost use Rattle.path_tree.specs.Reading.{begins_escaped};
 
 use crate::key::{is_digit, is_letter};
 use std::alloc::{AllocError, Global};
+use std::str;
 
 /// The key that stands for a text: each byte that is no ASCII letter or digit, and a leading digit, is
 /// written as `_` and two lower-case hexadecimal digits. The empty text gives `_`.
 pub fn escape(alloc: Global, text: &str) -> Result<String, AllocError>
-    ensures { IfOk result (λ key. string_bytes key ≡ escape text.now) }
+    ensures value { IfOk result (λ key. string_bytes key ≡ escape text.now) }
+    ensures undone { unescape (escape text.now) ≡ text.now }
 {
     escape_bytes(alloc, text.as_bytes())
 }
@@ -62,4 +66,67 @@ fn hex_digit(value: u8) -> char
     } else {
         (87 + value) as char
     }
+}
+
+/// The text that a key stands for: every `_` with two lower-case hexadecimal digits is replaced by that
+/// byte, and the text `_` gives the empty text. `None` exactly where the bytes are then not UTF-8.
+pub fn unescape(alloc: Global, key: &str) -> Result<Option<String>, AllocError>
+    ensures { IfOk result (λ text. MatchOption text (¬ IsUtf8 (unescape key.now)) (λ t. (string_bytes t ≡ unescape key.now) × IsUtf8 (unescape key.now))) }
+{
+    let bytes = unescape_bytes(alloc, key.as_bytes())?;
+    match str::from_utf8(bytes.as_slice()) {
+        Ok(text) => Ok(Some(String::from_str(alloc, text)?)),
+        Err(_) => Ok(None),
+    }
+}
+
+fn unescape_bytes(alloc: Global, key: &[u8]) -> Result<Vec<u8>, AllocError>
+    ensures { IfOk result (λ bytes. bytes.items ≡ unescape key.now) }
+{
+    match key {
+        [] => Ok(Vec::new(alloc)),
+        [only] if *only == b'_' => Ok(Vec::new(alloc)),
+        _ => unescape_rest(alloc, key),
+    }
+}
+
+fn unescape_rest(alloc: Global, key: &[u8]) -> Result<Vec<u8>, AllocError>
+    ensures { IfOk result (λ bytes. bytes.items ≡ unescape_rest key.now) }
+{
+    let mut bytes = Vec::with_capacity(alloc, key.len())?;
+    let mut rest = key;
+    while !rest.is_empty() {
+        if begins_escaped(rest) {
+            bytes.push(16 * hex_value(rest[1]) + hex_value(rest[2]))?;
+            rest = &rest[3..];
+        } else {
+            bytes.push(rest[0])?;
+            rest = &rest[1..];
+        }
+    }
+    Ok(bytes)
+}
+
+fn begins_escaped(key: &[u8]) -> bool
+    ensures value { result ≡ begins_escaped key.now }
+    ensures long { result ≡ true → 3 ≤ length key.now }
+{
+    match key {
+        [first, high, low, ..] => *first == b'_' && is_hex_digit(*high) && is_hex_digit(*low),
+        _ => false,
+    }
+}
+
+fn is_hex_digit(c: u8) -> bool
+    ensures { result ≡ is_hex_digit c }
+{
+    is_digit(c) || (97 <= c && c <= 102)
+}
+
+fn hex_value(c: u8) -> u8
+    requires { is_hex_digit c ≡ true }
+    ensures value { result ≡ hex_value c }
+    ensures small { result < 16 }
+{
+    if is_digit(c) { c - 48 } else { c - 87 }
 }

@@ -17,7 +17,7 @@ mod path;
 mod refused;
 mod tree;
 
-pub use escaping::escape;
+pub use escaping::{escape, unescape};
 pub use key::{Key, KeyError, is_key};
 pub use kind::Kind;
 pub use name::{Name, NameError, is_name};
@@ -25,3 +25,6 @@ pub use operators::{BinaryOp, UnaryOp};
 pub use path::{Anchor, Path, PathError, PutError, Term};
 pub use refused::Refused;
 pub use tree::Tree;
+
+#[cfg(test)]
+mod tests;

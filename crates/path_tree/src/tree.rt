@@ -8,10 +8,12 @@ ghost use Rattle.path_tree.specs.Put.{put};
 ghost use Rattle.path_tree.specs.Remove.{remove};
 ghost use Rattle.path_tree.specs.declared.refused.Refused.TheVariants as refused;
 
+mod comparing;
 mod dicts;
 mod lists;
 mod planning;
 mod putting;
+mod removing;
 
 use crate::key::Key;
 use crate::kind::Kind;
@@ -349,6 +351,29 @@ impl Tree {
         self.admit(terms, &value)?;
         putting::put_in(alloc, self, terms, value)?;
         Ok(())
+    }
+
+    /// Removes what stands at a path. What is not there is left. Later items of a list move down.
+    pub fn remove(&mut self, alloc: Global, terms: &[Term]) -> Result<(), AllocError>
+        requires { 0 < length terms.now }
+        ensures ok { OnOk result (self.new ≡ remove terms.now self.old) }
+        ensures before { OnErr result (self.new ≡ self.old) }
+    {
+        match self.get(terms) {
+            None => Ok(()),
+            Some(_) => removing::remove_in(alloc, self, terms),
+        }
+    }
+
+    /// Whether the two trees are equal.
+    #[cycle(same)]
+    pub fn same(&self, other: &Tree) -> bool
+        ensures { IsTrue result ↔ (self.now ≡ other.now) }
+    {
+        if self.size() != other.size() || self.height() != other.height() {
+            return false;
+        }
+        comparing::same_node(&self.node, &other.node)
     }
 }
 

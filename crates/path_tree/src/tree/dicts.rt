@@ -4,7 +4,7 @@ ghost use Rattle.std.specs.Ordering.{nat_cmp};
 ghost use Rattle.std.specs.Str.{IsUtf8};
 ghost use Rattle.path_tree.specs.Find.{field_count, field_key_at, find_field, value_at};
 ghost use Rattle.path_tree.specs.Grammar.{is_key};
-ghost use Rattle.path_tree.specs.Kept.{FitsMade, IsInside, IsRemeasured};
+ghost use Rattle.path_tree.specs.Kept.{FitsMade, IsInside, IsLessened, IsRemeasured};
 ghost use Rattle.path_tree.specs.Plain.{AreFields, dict, field, no_fields, tree_height, tree_size};
 ghost use Rattle.path_tree.specs.Place.{IsPlace};
 ghost use Rattle.path_tree.specs.View.{dict_view, fields_of};
@@ -141,6 +141,20 @@ pub(super) fn measure_change(dict: &mut Dict, before: Measure, after: Measure)
     if after.height + 1 >= dict.height {
         dict.height = after.height + 1;
     } else if before.height + 1 == dict.height {
+        dict.height = height_of(&dict.entries);
+    }
+}
+
+// Keeps the size and the height where a child of this measure is gone.
+pub(super) fn measure_loss(dict: &mut Dict, gone: Measure)
+    requires measured { IsLessened (dict_view dict.old) dict.old.size dict.old.height gone }
+    requires fits { FitsMade (dict_view dict.old) }
+    ensures entries { dict.new.entries.items ≡ dict.old.entries.items }
+    ensures size { dict.new.size ≡ tree_size (dict_view dict.new) }
+    ensures height { dict.new.height ≡ tree_height (dict_view dict.new) }
+{
+    dict.size -= gone.size;
+    if gone.height + 1 == dict.height {
         dict.height = height_of(&dict.entries);
     }
 }

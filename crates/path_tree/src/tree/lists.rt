@@ -1,6 +1,6 @@
 ghost use Rattle.std.specs.Prelude.{◌≡◌, ◌+◌, ◌≤◌, ◌<◌, ◌^◌, IfOk, OnOk, OnErr, max, option_copied, length};
 ghost use Rattle.path_tree.specs.Find.{item_at, item_count};
-ghost use Rattle.path_tree.specs.Kept.{FitsMade, IsInside, IsRemeasured};
+ghost use Rattle.path_tree.specs.Kept.{FitsMade, IsInside, IsLessened, IsRemeasured};
 ghost use Rattle.path_tree.specs.Plain.{list, no_items, tree_height, tree_size};
 ghost use Rattle.path_tree.specs.Put.{put_item};
 ghost use Rattle.path_tree.specs.View.{items_of, list_view};
@@ -107,6 +107,20 @@ pub(super) fn measure_change(list: &mut Items, before: Measure, after: Measure)
     if after.height + 1 >= list.height {
         list.height = after.height + 1;
     } else if before.height + 1 == list.height {
+        list.height = height_of(&list.items);
+    }
+}
+
+// Keeps the size and the height where an item of this measure is gone.
+pub(super) fn measure_loss(list: &mut Items, gone: Measure)
+    requires measured { IsLessened (list_view list.old) list.old.size list.old.height gone }
+    requires fits { FitsMade (list_view list.old) }
+    ensures items { list.new.items.items ≡ list.old.items.items }
+    ensures size { list.new.size ≡ tree_size (list_view list.new) }
+    ensures height { list.new.height ≡ tree_height (list_view list.new) }
+{
+    list.size -= gone.size;
+    if gone.height + 1 == list.height {
         list.height = height_of(&list.items);
     }
 }
