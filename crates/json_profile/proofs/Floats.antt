@@ -1,5 +1,5 @@
 -- A tree as JSON has no float.
-use Rattle.std.proofs.Common.{◌≡◌, ℕ, ℤ, pos, negsuc, false, refl}
+use Rattle.std.proofs.Common.{◌≡◌, ℤ, pos, negsuc, false, refl}
 use Rattle.serde_json.specs.Data.{number}
 use Rattle.serde_json.specs.Find.{of_integer}
 use Rattle.serde_json.specs.Written.{has_float, items_have_float, members_have_float}

@@ -1,5 +1,5 @@
-ghost use Rattle.std.specs.Prelude.{◌≡◌, ◌≤◌, ◌<◌, ◌+◌, ◌^◌, length, IfOk, List, [], decimal, IsUtf8};
-ghost use Rattle.pan_lexer.specs.Lexed.{place_after, place_in, is_naming, is_template, mode_after, token, fault, lexed, lexed_file, origin};
+ghost use Rattle.std.specs.Prelude.{◌≡◌, ◌≤◌, ◌<◌, ◌+◌, ◌^◌, length, IfOk, List, IsUtf8};
+ghost use Rattle.pan_lexer.specs.Lexed.{place_after, is_naming, is_template, mode_after, lexed, lexed_file, origin};
 ghost use Rattle.pan_lexer.specs.Answers.{Gives, OnFault};
 ghost use Rattle.pan_lexer.specs.Faulty.{Faulty};
 ghost use Rattle.pan_lexer.specs.Spelled.{Spelled};
@@ -9,8 +9,8 @@ ghost use Rattle.pan_lexer.specs.declared.lexing.LexError.TheVariants.{Memory};
 use crate::bytes::{behind, front_of};
 use crate::fronts::front;
 use crate::parts::{At, Front, Mode};
-use itoa::Buffer;
-use pan_ast::{Code, Fault, Place, Token, TokenKind};
+use crate::tokens::{as_text, fault, int_token, text_token, token};
+use pan_ast::{Code, Fault, Token, TokenKind};
 use small_types::{Seq, Text};
 use std::alloc::{AllocError, AllocFailed, Global};
 
@@ -34,6 +34,17 @@ impl From<AllocFailed<Token>> for LexError {
 
     fn from(_e: AllocFailed<Token>) -> LexError {
         LexError::Memory
+    }
+}
+
+/// The first byte of a file.
+fn origin() -> At
+    ensures { result ≡ origin }
+{
+    At {
+        start: 0,
+        line: 1,
+        column: 1,
     }
 }
 
@@ -95,67 +106,6 @@ fn mode_after(mode: Mode, kind: TokenKind, word: &[u8]) -> Mode
     }
 }
 
-/// The bytes as a text.
-fn as_text(bytes: &[u8]) -> &str
-    requires { IsUtf8 bytes.now }
-    ensures { result.now ≡ bytes.now }
-{
-    match std::str::from_utf8(bytes) {
-        Ok(text) => text,
-        Err(_) => unreachable!(),
-    }
-}
-
-fn place_in(file: &Text, at: At) -> Result<Place, AllocError>
-    ensures { IfOk result (λ p. p ≡ place_in file.now at) }
-{
-    Ok(Place {
-        file: file.share()?,
-        line: at.line,
-        column: at.column,
-    })
-}
-
-/// A token of n bytes.
-fn token(
-    alloc: Global,
-    file: &Text,
-    kind: TokenKind,
-    at: At,
-    n: usize,
-    value: &str,
-) -> Result<Token, AllocError>
-    requires { at.start + n < 2 ^ 64 }
-    ensures { IfOk result (λ t. t ≡ token file.now kind at n value.now) }
-{
-    Ok(Token {
-        kind,
-        start: at.start,
-        end: at.start + n,
-        place: place_in(file, at)?,
-        value: Text::new(alloc, value)?,
-    })
-}
-
-/// An Int of n bytes and of this value.
-fn int_token(alloc: Global, file: &Text, at: At, n: usize, value: u64) -> Result<Token, AllocError>
-    requires { at.start + n < 2 ^ 64 }
-    ensures { IfOk result (λ t. t ≡ token file.now TokenKind.Int at n (decimal value)) }
-{
-    let mut buffer = Buffer::new();
-    token(alloc, file, TokenKind::Int, at, n, buffer.format(value))
-}
-
-fn fault(alloc: Global, file: &Text, code: Code, at: At) -> Result<Fault, AllocError>
-    ensures { IfOk result (λ f. f ≡ fault file.now code at) }
-{
-    Ok(Fault {
-        code,
-        place: place_in(file, at)?,
-        detail: Text::new(alloc, "")?,
-    })
-}
-
 /// The tokens of a text, or its first fault.
 fn tokens_of(alloc: Global, bytes: &[u8], file: &Text) -> Result<Seq<Token>, LexError>
     requires length { length bytes.now < 2 ^ 31 }
@@ -163,11 +113,7 @@ fn tokens_of(alloc: Global, bytes: &[u8], file: &Text) -> Result<Seq<Token>, Lex
     ensures { Gives result (lexed file.now 0 Mode.Before origin bytes.now) }
 {
     let mut tokens = Vec::new(alloc);
-    let mut at = At {
-        start: 0,
-        line: 1,
-        column: 1,
-    };
+    let mut at = origin();
     let mut mode = Mode::Before;
     'pieces: while at.start < bytes.len() {
         let rest = behind(bytes, at.start);
@@ -187,38 +133,20 @@ fn tokens_of(alloc: Global, bytes: &[u8], file: &Text) -> Result<Seq<Token>, Lex
                 at = passed(at, front_of(rest, n));
             }
             Front::Text(value, n) => {
-                tokens.push(token(
-                    alloc,
-                    file,
-                    TokenKind::Text,
-                    at,
-                    n,
-                    as_text(value.as_slice()),
-                )?)?;
+                tokens.push(text_token(alloc, file, at, n, &value)?)?;
                 mode = mode_after(mode, TokenKind::Text, &[]);
                 at = passed(at, front_of(rest, n));
             }
             Front::Document(value, n, k) => {
                 let sign = passed(at, front_of(rest, n));
-                tokens.push(token(
-                    alloc,
-                    file,
-                    TokenKind::Text,
-                    at,
-                    n,
-                    as_text(value.as_slice()),
-                )?)?;
+                tokens.push(text_token(alloc, file, at, n, &value)?)?;
                 tokens.push(token(alloc, file, TokenKind::Sign, sign, 1, ";")?)?;
                 mode = mode_after(mode, TokenKind::Text, &[]);
                 at = passed(at, front_of(rest, n + 1 + k));
             }
             Front::Bad(code, d) => {
-                return Err(LexError::Fault(fault(
-                    alloc,
-                    file,
-                    code,
-                    passed(at, front_of(rest, d)),
-                )?));
+                let at = passed(at, front_of(rest, d));
+                return Err(LexError::Fault(fault(alloc, file, code, at)?));
             }
         }
     }
@@ -244,12 +172,7 @@ pub fn lex(alloc: Global, bytes: &[u8], file: &Text) -> Result<Seq<Token>, LexEr
     match std::str::from_utf8(bytes) {
         Ok(_) => tokens_of(alloc, bytes, file),
         Err(e) => {
-            let start = At {
-                start: 0,
-                line: 1,
-                column: 1,
-            };
-            let at = passed(start, front_of(bytes, e.valid_up_to()));
+            let at = passed(origin(), front_of(bytes, e.valid_up_to()));
             Err(LexError::Fault(fault(alloc, file, Code::NotUtf8, at)?))
         }
     }

@@ -6,7 +6,8 @@
 //!
 //! In reading order: `parts` (what the parts hand on to each other), `bytes` (kinds of bytes and runs of them),
 //! `annotations`, `numbers`, `texts` and `documents` (the longer pieces), `fronts` (what stands at the front of
-//! a text), `lexing` (the tokens of a file), `objects` (whether a file is an object template).
+//! a text), `tokens` (a token or a fault with its place), `lexing` (the tokens of a file), `objects` (whether a
+//! file is an object template).
 #![tactic(auto)]
 
 mod annotations;
@@ -18,6 +19,7 @@ mod numbers;
 mod objects;
 mod parts;
 mod texts;
+mod tokens;
 
 pub use lexing::{LexError, lex};
 pub use objects::is_object;

@@ -1,6 +1,6 @@
 -- Ends of a run.
-use Rattle.std.proofs.Common.{◌≡◌, ℕ, true, false, List, [], ◌++◌, Option, Some, None, take, refl, sym, ap, ◌∙◌, append-nil, IfErr, OnErr, IfSome}
-use Rattle.std.specs.Prelude.{option_map, codes, Result, Ok, Err}
+use Rattle.std.proofs.Common.{◌≡◌, ℕ, true, false, List, Option, Some, None, refl, sym, ap, append-nil, IfErr, OnErr, IfSome}
+use Rattle.std.specs.Prelude.{codes, Result, Ok, Err}
 use Rattle.outside.specs.Cells.{Cell}
 use Rattle.outside.specs.Contents.{AppendsPart}
 use Rattle.outside.specs.Pictures.{next_picture}

@@ -1,8 +1,7 @@
 -- Statements, one after the other.
-use Rattle.std.proofs.Common.{◌≡◌, ◌≤◌, ◌<◌, true, false, List, [], ◌∷◌, ◌++◌, length, take, drop, get_or, ◌-◌, arith, refl, sym, ap, ◌∙◌, append_assoc, append-nil}
-use Rattle.std.specs.Prelude.{Result, Ok, Err}
+use Rattle.std.proofs.Common.{◌≡◌, ◌≤◌, false, List, [], ◌∷◌, ◌++◌, length, take, drop, get_or, ◌-◌, arith, refl, sym, ap, ◌∙◌, append_assoc}
+use Rattle.std.specs.Prelude.{Ok, Err}
 use Rattle.std.proofs.lemmas.List.{take_all}
-use Rattle.pan_ast.specs.declared.place.Place.{Place}
 use Rattle.pan_top.specs.declared.template.Assignment.{Assignment}
 use Rattle.pan_top.specs.declared.template.TemplateError.{TemplateError}
 use Rattle.pan_top.specs.declared.template.TemplateError.TheVariants as errors

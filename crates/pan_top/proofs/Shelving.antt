@@ -1,19 +1,18 @@
 -- A publication, step by step.
-use Rattle.std.proofs.Common.{◌≡◌, ℕ, Bool, true, false, List, [], ◌∷◌, Option, Some, None, is_some, IfSome, not, nat_eq, if◌then◌else◌, ◌&&◌, ◌||◌, ◌⊎◌, inl, inr, refl, sym, ap, subst, ◌∙◌, rules, arith}
-use Rattle.std.specs.Prelude.{Result, Ok, Err, OnOk, OnErr, IfOk, IfErr, drop, length, ◌<◌, ◌+◌, get_or}
+use Rattle.std.proofs.Common.{◌≡◌, ℕ, Bool, true, false, List, [], ◌∷◌, Option, Some, None, is_some, IfSome, not, if◌then◌else◌, ◌&&◌, ◌||◌, ◌⊎◌, inl, inr, refl, sym, ap, subst, ◌∙◌}
+use Rattle.std.specs.Prelude.{Result, Ok, Err, OnOk, OnErr, IfErr}
 use Rattle.std.specs.Str.{bytes_eq}
 use Rattle.std.specs.List.{list_any}
 use Rattle.std.specs.List.Sorted.{IsPermutation}
 use Rattle.std.proofs.lemmas.List.Sorted.{list_any-IsPermutation}
 use Rattle.std.specs.Prelude.{cond}
 use Rattle.std.proofs.lemmas.Slice.Eq.{bytes_eq-Decides}
-use Rattle.std.proofs.lemmas.Grind.{common_steps}
 use Rattle.outside.specs.Cells.{Cell, given, Opens, Gives}
 use Rattle.pan_top.specs.declared.publish.Want.{Want}
 use Rattle.pan_top.specs.declared.status.End.{End}
 use Rattle.pan_top.specs.declared.status.End.TheVariants as E
 use Rattle.pan_top.specs.Ends.{is_file_of, IsEndAt, IsPublishingEnd}
-use Rattle.pan_top.specs.Shelves.{is_own, wanted, proper, published, goes, swept, cleared, put_where, placed, Leaves, Stopped, Underway, Names, Lists}
+use Rattle.pan_top.specs.Shelves.{is_own, wanted, proper, published, goes, swept, cleared, put_where, placed, Leaves, Stopped, Underway, Lists}
 
 -- A step that is a part of what is left leads on, and each name stands as at the start or as in the end.
 pub going_on : (left rest step : List ℕ → Cell → Cell) (target start now new : List ℕ → Cell) → ((n : List ℕ) (c : Cell) → rest n (step n c) ≡ left n c) → ((n : List ℕ) (c : Cell) → (step n c ≡ c) ⊎ (step n c ≡ left n c)) → Underway left target start now → ((n : List ℕ) → new n ≡ step n (now n)) → Underway rest target start new

@@ -1,5 +1,5 @@
 -- Three words.
-use Rattle.std.proofs.Common.{◌≡◌, ℕ, ◌≤◌, ◌<◌, Bool, true, false, List, [], ◌∷◌, length, get_or, refl, sym, ap, ◌∙◌, arith, ◌&&◌}
+use Rattle.std.proofs.Common.{◌≡◌, ℕ, ◌≤◌, ◌<◌, true, List, [], ◌∷◌, length, get_or, refl, ap, ◌∙◌, arith}
 use Rattle.std.specs.Prelude.{bytes_eq, codes}
 use Rattle.std.proofs.lemmas.Slice.Eq.{bytes_eq-Decides}
 use Rattle.pan_top.specs.Commands.{is_folder, is_command}

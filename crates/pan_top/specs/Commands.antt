@@ -1,5 +1,5 @@
 -- The words of a command.
-use Rattle.std.specs.Prelude.{ℕ, Bool, true, false, List, [], ◌∷◌, not, ◌&&◌, nat_eq, bytes_eq, codes}
+use Rattle.std.specs.Prelude.{ℕ, Bool, false, List, [], ◌∷◌, not, ◌&&◌, nat_eq, bytes_eq, codes}
 
 -- a folder is named by a word that is not empty and does not begin with `-`
 abbrev pub is_folder : List ℕ → Bool

@@ -1,10 +1,9 @@
 -- What compiling an object gives.
-use Rattle.std.specs.Prelude.{◌≡◌, ℕ, Bool, List, [], ◌∷◌, ◌++◌, Result, Ok, Err, nat_lt, length, if◌then◌else◌, codes}
+use Rattle.std.specs.Prelude.{◌≡◌, ℕ, List, [], ◌∷◌, ◌++◌, Result, Ok, Err, nat_lt, length, if◌then◌else◌, codes}
 use Rattle.pan_ast.specs.Detail.{first_chars}
 use Rattle.pan_ast.specs.declared.place.Place.{Place}
 use Rattle.pan_ast.specs.declared.token.Token.{Token}
 use Rattle.pan_ast.specs.declared.fault.Fault.{Fault}
-use Rattle.pan_ast.specs.declared.fault.Code.{Code}
 use Rattle.pan_ast.specs.declared.fault.Code.TheVariants as code
 use Rattle.pan_lexer.specs.Lexed.{lexed_file}
 use Rattle.path_tree.specs.Plain.{Plain, dict, no_fields}

@@ -1,5 +1,5 @@
 -- The templates that are built so far: an object template of assignments of literals to absolute paths.
-use Rattle.std.specs.Prelude.{◌≡◌, ℕ, suc, ◌<◌, ◌^◌, Bool, true, false, List, [], ◌∷◌, Option, Some, None, is_some, Result, Ok, Err, if◌then◌else◌, length, nat_lt, nat_le, bytes_eq, codes, not, ◌&&◌, pos}
+use Rattle.std.specs.Prelude.{◌≡◌, ℕ, ◌^◌, Bool, true, false, List, [], ◌∷◌, Option, Some, None, Result, Ok, Err, if◌then◌else◌, length, nat_lt, nat_le, bytes_eq, codes, ◌&&◌, pos}
 use Rattle.std.specs.List.{list_all}
 use Rattle.pan_ast.specs.declared.place.Place.{Place}
 use Rattle.pan_ast.specs.declared.token.Token.{Token}

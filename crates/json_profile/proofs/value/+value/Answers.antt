@@ -1,11 +1,10 @@
-use Rattle.std.proofs.Common.{◌≡◌, ℕ, ◌+◌, ◌++◌, ◌∷◌, [], map, sym, ap, ◌∙◌, arith, rules, append_assoc, append-nil}
+use Rattle.std.proofs.Common.{◌≡◌, ◌+◌, ◌++◌, ◌∷◌, [], map, sym, ap, ◌∙◌, arith, append_assoc, append-nil}
 use Rattle.std.proofs.lemmas.List.{map_push}
-use Rattle.serde_json.specs.Data.{Members, no_members, member, put}
+use Rattle.serde_json.specs.Data.{no_members, put}
 use Rattle.serde_json.specs.View.{view, members_view}
 use Rattle.serde_json.proofs.Views.{view-Object, view-Array}
 use Rattle.path_tree.specs.Find.{child_count}
-use Rattle.json_profile.specs.Json.{json}
-use Rattle.json_profile.specs.Children.{fields_in, items_in, fields_from, items_from, gathered, listed}
+use Rattle.json_profile.specs.Children.{fields_in, fields_from, items_from, gathered, listed}
 use Rattle.json_profile.proofs.Kids.{all_fields, dict_end, dict_step, dict_key, dict_child, items_start, list_end, list_step, list_child, list_json, dict_json}
 use Rattle.json_profile.proofs.value.+value.Goals as goal
 

@@ -6,6 +6,7 @@ use Rattle.pan_ast.specs.declared.fault.Code.TheVariants.{NotUtf8}
 use Rattle.pan_lexer.specs.Answers.{Gives}
 use Rattle.pan_lexer.specs.Lexed.{lexed, origin, fault, place_after}
 use Rattle.pan_lexer.specs.Tokens.{EndsOnce, AreValues}
+use Rattle.pan_lexer.specs.declared.parts.At.{At}
 use Rattle.pan_lexer.specs.declared.parts.Mode.TheVariants.{Before}
 use Rattle.pan_lexer.proofs.Faults.{gives_faulty, faulty_gives, not_utf8}
 use Rattle.pan_lexer.proofs.Laws.{gives_spelled, spelled_gives}
@@ -38,5 +39,5 @@ returns-in_ok-fault-in-Err-clause-first c =
     let file = c.args.file.now in
     let bytes = c.args.bytes.now in
     let n = c.in-Err.e.valid_up_to in
-    let is : c.in_ok-fault-in-Err.field-0 ≡ fault file NotUtf8 (place_after origin (take n bytes)) = c.in_ok-fault-in-Err.ensures ∙ ap (fault file NotUtf8) (c.passed-at.ensures.value ∙ ap (place_after origin) (c.front_of.ensures.value ∙ ap (λ (k : ℕ). take k bytes) c.valid_up_to.ensures)) in
+    let is : c.in_ok-fault-in-Err.field-0 ≡ fault file NotUtf8 (place_after origin (take n bytes)) = c.in_ok-fault-in-Err.ensures ∙ ap (fault file NotUtf8) (c.passed-at.ensures.value ∙ ap (λ (o : At). place_after o c.front_of.result.now) c.origin.ensures ∙ ap (place_after origin) (c.front_of.ensures.value ∙ ap (λ (k : ℕ). take k bytes) c.valid_up_to.ensures)) in
     λ f h. err_same f c.in_ok-fault-in-Err.field-0 (not_utf8 file bytes n f c.in-Err.ensures.cases.1 h ∙ sym is)

@@ -70,13 +70,13 @@ pieces-preserved-in-Int c =
       text = left_text c.pieces.at.start c.passed-at-in-Int.result.start (c.in-Int.n) c.args.bytes.now rest c.front_of-in-Int.result.now c.behind-rest.ensures.value c.passed-at-in-Int.ensures.start c.front_of-in-Int.ensures.length leaves;
     }
 
-pub as_text-requires-in-Text : goal.as_text-requires-in-Text
-as_text-requires-in-Text c =
+pub text_token-requires-clause-text : goal.text_token-requires-clause-text
+text_token-requires-clause-text c =
     let rest = c.behind-rest.result.now in
     let u : IsUtf8 rest = subst IsUtf8 (sym c.behind-rest.ensures.value) c.pieces.invariant.text in
     let leaves : LeavesText rest (Text c.in-Text.value c.in-Text.n) = leaves_here c.is_naming.result rest c.in_ok-n.field-0 (Text c.in-Text.value c.in-Text.n) c.in_ok-n.ensures.value c.in-Text.is u in
     let fits : Fits (length rest) (Text c.in-Text.value c.in-Text.n) = subst (Fits (length rest)) c.in-Text.is c.in_ok-n.ensures.fits in
-    subst IsUtf8 (sym c.as_slice.ensures) leaves.0
+    leaves.0
 
 pub pieces-preserved-in-Text : goal.pieces-preserved-in-Text
 pieces-preserved-in-Text c =
@@ -87,7 +87,7 @@ pieces-preserved-in-Text c =
     let within : (1 ≤ c.in-Text.n) × (c.in-Text.n ≤ length rest) = fits in
     record {
       read = turned c.args.file.now c.pieces.tokens.items (token c.args.file.now kinds.Text c.pieces.at c.in-Text.n c.in-Text.value ∷ []) c.push-in-Text.new.self.items c.pieces.mode (mode_after c.pieces.mode kinds.Text []) c.mode_after-mode-in-Text.result c.pieces.at c.passed-at-in-Text.result c.args.bytes.now rest c.front_of-in-Text.result.now c.is_naming.result (c.in-Text.n) c.in_ok-n.field-0 (Text c.in-Text.value c.in-Text.n)
-          c.pieces-test.true c.behind-rest.ensures.value c.behind-rest.ensures.length c.is_naming.ensures c.in_ok-n.ensures.value c.in-Text.is c.in_ok-n.ensures.fits (λ h. within) (λ next. refl) (c.in_ok-push-in-Text.ensures.items ∙ ap (λ (t : Token). c.pieces.tokens.items ++ t ∷ []) (c.in_ok-token-in-Text.ensures ∙ ap (token c.args.file.now kinds.Text c.pieces.at c.in-Text.n) (c.as_text-in-Text.ensures ∙ c.as_slice.ensures))) (c.mode_after-mode-in-Text.ensures) c.front_of-in-Text.ensures.value c.passed-at-in-Text.ensures.value c.passed-at-in-Text.ensures.start c.front_of-in-Text.ensures.length
+          c.pieces-test.true c.behind-rest.ensures.value c.behind-rest.ensures.length c.is_naming.ensures c.in_ok-n.ensures.value c.in-Text.is c.in_ok-n.ensures.fits (λ h. within) (λ next. refl) (c.in_ok-push-in-Text.ensures.items ∙ ap (λ (t : Token). c.pieces.tokens.items ++ t ∷ []) (c.in_ok-text_token-in-Text.ensures)) (c.mode_after-mode-in-Text.ensures) c.front_of-in-Text.ensures.value c.passed-at-in-Text.ensures.value c.passed-at-in-Text.ensures.start c.front_of-in-Text.ensures.length
           ∙ c.pieces.invariant.read;
       within = still_within c.pieces.at.start c.passed-at-in-Text.result.start (c.in-Text.n) c.args.bytes.now rest c.front_of-in-Text.result.now c.behind-rest.ensures.length within.1 c.passed-at-in-Text.ensures.start c.front_of-in-Text.ensures.length;
       line = c.passed-at-in-Text.ensures.line;
@@ -95,13 +95,13 @@ pieces-preserved-in-Text c =
       text = left_text c.pieces.at.start c.passed-at-in-Text.result.start (c.in-Text.n) c.args.bytes.now rest c.front_of-in-Text.result.now c.behind-rest.ensures.value c.passed-at-in-Text.ensures.start c.front_of-in-Text.ensures.length leaves.1;
     }
 
-pub as_text-requires-in-Document : goal.as_text-requires-in-Document
-as_text-requires-in-Document c =
+pub text_token-requires-in-Document-clause-text : goal.text_token-requires-in-Document-clause-text
+text_token-requires-in-Document-clause-text c =
     let rest = c.behind-rest.result.now in
     let u : IsUtf8 rest = subst IsUtf8 (sym c.behind-rest.ensures.value) c.pieces.invariant.text in
     let leaves : LeavesText rest (Document c.in-Document.value c.in-Document.n c.in-Document.k) = leaves_here c.is_naming.result rest c.in_ok-n.field-0 (Document c.in-Document.value c.in-Document.n c.in-Document.k) c.in_ok-n.ensures.value c.in-Document.is u in
     let fits : Fits (length rest) (Document c.in-Document.value c.in-Document.n c.in-Document.k) = subst (Fits (length rest)) c.in-Document.is c.in_ok-n.ensures.fits in
-    subst IsUtf8 (sym c.as_slice-in-Document.ensures) leaves.0
+    leaves.0
 
 pub pieces-preserved : goal.pieces-preserved
 pieces-preserved c =
@@ -112,10 +112,10 @@ pieces-preserved c =
     let within : (1 ≤ c.in-Document.n + 1 + c.in-Document.k) × (c.in-Document.n + 1 + c.in-Document.k ≤ length rest) = (let h : c.in-Document.n + 1 + c.in-Document.k ≤ length rest = fits in (omega (arith, h), h)) in
     record {
       read = turned c.args.file.now c.pieces.tokens.items (token c.args.file.now kinds.Text c.pieces.at c.in-Document.n c.in-Document.value ∷ token c.args.file.now kinds.Sign (place_after c.pieces.at (take c.in-Document.n rest)) 1 (59 ∷ []) ∷ []) c.push-in-Document-2.new.self.items c.pieces.mode (mode_after c.pieces.mode kinds.Text []) c.mode_after-mode-in-Document.result c.pieces.at c.passed-at-in-Document.result c.args.bytes.now rest c.front_of-in-Document-2.result.now c.is_naming.result (c.in-Document.n + 1 + c.in-Document.k) c.in_ok-n.field-0 (Document c.in-Document.value c.in-Document.n c.in-Document.k)
-          c.pieces-test.true c.behind-rest.ensures.value c.behind-rest.ensures.length c.is_naming.ensures c.in_ok-n.ensures.value c.in-Document.is c.in_ok-n.ensures.fits (λ h. within) (goes_document c.args.file.now c.pieces.mode c.pieces.at rest c.in-Document.value c.in-Document.n c.in-Document.k) (two_pushed c.pieces.tokens.items c.push-in-Document.new.self.items c.push-in-Document-2.new.self.items (token c.args.file.now kinds.Text c.pieces.at c.in-Document.n c.in-Document.value) c.in_ok-token-in-Document-2.field-0 (token c.args.file.now kinds.Sign (place_after c.pieces.at (take c.in-Document.n rest)) 1 (59 ∷ []))
-          (c.in_ok-push-in-Document.ensures.items ∙ ap (λ (t : Token). c.pieces.tokens.items ++ t ∷ []) (c.in_ok-token-in-Document.ensures ∙ ap (token c.args.file.now kinds.Text c.pieces.at c.in-Document.n) (c.as_text-in-Document.ensures ∙ c.as_slice-in-Document.ensures)))
+          c.pieces-test.true c.behind-rest.ensures.value c.behind-rest.ensures.length c.is_naming.ensures c.in_ok-n.ensures.value c.in-Document.is c.in_ok-n.ensures.fits (λ h. within) (goes_document c.args.file.now c.pieces.mode c.pieces.at rest c.in-Document.value c.in-Document.n c.in-Document.k) (two_pushed c.pieces.tokens.items c.push-in-Document.new.self.items c.push-in-Document-2.new.self.items (token c.args.file.now kinds.Text c.pieces.at c.in-Document.n c.in-Document.value) c.in_ok-token-in-Document.field-0 (token c.args.file.now kinds.Sign (place_after c.pieces.at (take c.in-Document.n rest)) 1 (59 ∷ []))
+          (c.in_ok-push-in-Document.ensures.items ∙ ap (λ (t : Token). c.pieces.tokens.items ++ t ∷ []) (c.in_ok-text_token-in-Document.ensures))
           c.in_ok-push-in-Document-2.ensures.items
-          (c.in_ok-token-in-Document-2.ensures ∙ ap (λ (a : At). token c.args.file.now kinds.Sign a 1 (59 ∷ [])) (c.passed-sign.ensures.value ∙ ap (place_after c.pieces.at) c.front_of-in-Document.ensures.value))) (c.mode_after-mode-in-Document.ensures) c.front_of-in-Document-2.ensures.value c.passed-at-in-Document.ensures.value c.passed-at-in-Document.ensures.start c.front_of-in-Document-2.ensures.length
+          (c.in_ok-token-in-Document.ensures ∙ ap (λ (a : At). token c.args.file.now kinds.Sign a 1 (59 ∷ [])) (c.passed-sign.ensures.value ∙ ap (place_after c.pieces.at) c.front_of-in-Document.ensures.value))) (c.mode_after-mode-in-Document.ensures) c.front_of-in-Document-2.ensures.value c.passed-at-in-Document.ensures.value c.passed-at-in-Document.ensures.start c.front_of-in-Document-2.ensures.length
           ∙ c.pieces.invariant.read;
       within = still_within c.pieces.at.start c.passed-at-in-Document.result.start (c.in-Document.n + 1 + c.in-Document.k) c.args.bytes.now rest c.front_of-in-Document-2.result.now c.behind-rest.ensures.length within.1 c.passed-at-in-Document.ensures.start c.front_of-in-Document-2.ensures.length;
       line = c.passed-at-in-Document.ensures.line;

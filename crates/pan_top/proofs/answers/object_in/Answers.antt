@@ -1,4 +1,4 @@
-use Rattle.std.proofs.Common.{◌≡◌, sym, ap, ◌∙◌}
+use Rattle.std.proofs.Common.{sym, ap, ◌∙◌}
 use Rattle.pan_top.specs.Answers.{object_with}
 use Rattle.pan_top.proofs.Naming.{stem_none}
 use Rattle.pan_top.proofs.answers.object_in.Goals as goal

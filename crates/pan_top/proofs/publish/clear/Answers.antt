@@ -1,9 +1,9 @@
-use Rattle.std.proofs.Common.{◌≡◌, ◌+◌, ◌∷◌, drop, ap, sym, ◌∙◌, arith, rules, IfErr}
+use Rattle.std.proofs.Common.{◌≡◌, ◌+◌, ◌∷◌, drop, arith, rules, IfErr}
 use Rattle.std.proofs.lemmas.Grind.{common_steps}
 use Rattle.std.proofs.lemmas.Result.{IfErr-weaker}
-use Rattle.pan_top.specs.Ends.{IsEndAt, IsPublishingEnd}
-use Rattle.pan_top.specs.Shelves.{cleared, is_own}
-use Rattle.pan_top.proofs.Shelving.{left_early, cleared_keeps, clear_step, publishing_from_at}
+use Rattle.pan_top.specs.Ends.{IsEndAt}
+use Rattle.pan_top.specs.Shelves.{cleared}
+use Rattle.pan_top.proofs.Shelving.{left_early, cleared_keeps, clear_step}
 use Rattle.pan_top.proofs.publish.clear.Goals as goal
 
 pub returns-in_err-sweep-clause-err : goal.returns-in_err-sweep-clause-err

@@ -1,4 +1,4 @@
-use Rattle.std.proofs.Common.{◌≡◌, ◌≤◌, drop}
+use Rattle.std.proofs.Common.{◌≤◌, drop}
 use Rattle.pan_top.specs.Shelves.{cleared, Underway}
 use Rattle.pan_top.proofs.publish.clear.Given as goal
 

@@ -1,4 +1,4 @@
-use Rattle.std.proofs.Common.{◌≡◌, ◌+◌, length, refl}
+use Rattle.std.proofs.Common.{◌+◌, length, refl}
 use Rattle.pan_top.proofs.Wholes.{whole_cell}
 use Rattle.pan_top.proofs.publish.holds.Goals as goal
 

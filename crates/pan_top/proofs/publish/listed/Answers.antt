@@ -1,4 +1,3 @@
-use Rattle.std.proofs.Common.{◌≡◌}
 use Rattle.pan_top.proofs.Shelving.{lists_again}
 use Rattle.pan_top.proofs.publish.listed.Goals as goal
 

@@ -1,4 +1,3 @@
-use Rattle.std.proofs.Common.{◌≡◌, ◌++◌}
 use Rattle.std.specs.Prelude.{codes}
 use Rattle.pan_top.proofs.Wholes.{no_end}
 use Rattle.pan_top.proofs.publish.object_of.Goals as goal

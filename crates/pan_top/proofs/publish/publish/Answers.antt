@@ -1,4 +1,4 @@
-use Rattle.std.proofs.Common.{◌≡◌, ap, sym, ◌∙◌, IfErr, rules}
+use Rattle.std.proofs.Common.{IfErr, rules}
 use Rattle.pan_top.specs.Shelves.{published, cleared, placed, Stopped}
 use Rattle.pan_top.specs.Ends.{IsPublishingEnd}
 use Rattle.pan_top.proofs.Shelving.{on_ok, published_ok, clearing_ended, placing_ended, stopped_by, if_err_both}

@@ -1,4 +1,4 @@
-use Rattle.std.proofs.Common.{◌≡◌, IfErr, rules}
+use Rattle.std.proofs.Common.{IfErr, rules}
 use Rattle.std.proofs.lemmas.Result.{IfErr-weaker}
 use Rattle.pan_top.specs.Ends.{IsPublishingEnd}
 use Rattle.pan_top.specs.Reports.{report_of}

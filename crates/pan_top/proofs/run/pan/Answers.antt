@@ -1,4 +1,3 @@
-use Rattle.std.proofs.Common.{◌≡◌}
 use Rattle.pan_top.proofs.Ending.{comes}
 use Rattle.pan_top.proofs.run.pan.Goals as goal
 

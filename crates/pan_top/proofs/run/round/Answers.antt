@@ -1,4 +1,4 @@
-use Rattle.std.proofs.Common.{◌≡◌, ap, ◌∙◌, true}
+use Rattle.std.proofs.Common.{ap, ◌∙◌}
 use Rattle.pan_top.specs.Answers.{wants_of}
 use Rattle.pan_top.specs.Shelves.{proper}
 use Rattle.pan_top.proofs.Wanting.{answers_proper}

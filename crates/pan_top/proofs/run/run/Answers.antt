@@ -1,4 +1,4 @@
-use Rattle.std.proofs.Common.{◌≡◌, ◌∙◌}
+use Rattle.std.proofs.Common.{◌∙◌}
 use Rattle.pan_top.proofs.Ending.{usage_unwritten, stopped_result}
 use Rattle.pan_top.proofs.run.run.Goals as goal
 

@@ -1,4 +1,4 @@
-use Rattle.std.proofs.Common.{◌≡◌, ◌+◌, arith}
+use Rattle.std.proofs.Common.{arith}
 use Rattle.pan_top.proofs.Scanning.{count_step}
 use Rattle.pan_top.proofs.scan.count_names.Goals as goal
 

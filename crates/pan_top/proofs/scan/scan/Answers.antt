@@ -1,4 +1,4 @@
-use Rattle.std.proofs.Common.{◌≡◌, ◌≤◌, ◌+◌, sym, ◌∙◌, arith, length}
+use Rattle.std.proofs.Common.{◌+◌, sym, ◌∙◌, arith}
 use Rattle.pan_top.proofs.Scanning.{weight_step, picture_step, scan_much}
 use Rattle.pan_top.proofs.scan.scan.Goals as goal
 

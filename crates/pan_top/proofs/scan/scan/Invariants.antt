@@ -1,4 +1,4 @@
-use Rattle.std.proofs.Common.{◌≡◌, ◌≤◌, ◌+◌, drop, length, IfSome, [], sum_by, fold}
+use Rattle.std.proofs.Common.{◌≡◌, ◌≤◌, ◌+◌, drop, IfSome, [], sum_by, fold}
 use Rattle.pan_top.specs.Scans.{weight_of, taken_in}
 use Rattle.pan_top.proofs.scan.scan.Given as goal
 

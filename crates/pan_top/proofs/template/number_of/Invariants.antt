@@ -1,4 +1,4 @@
-use Rattle.std.proofs.Common.{◌≡◌, ℕ, ◌+◌, ◌-◌, ◌*◌, ◌^◌, min, take, fold}
+use Rattle.std.proofs.Common.{◌≡◌, ◌+◌, ◌-◌, ◌*◌, ◌^◌, min, take, fold}
 use Rattle.pan_top.proofs.template.number_of.Given as goal
 
 abbrev pub invariant-loop-digit : goal.invariant-loop-digit

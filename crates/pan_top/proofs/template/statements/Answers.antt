@@ -1,6 +1,6 @@
 use Rattle.std.proofs.Common.{◌≡◌, sym, ap, ◌∙◌, rules, IfErr}
 use Rattle.std.proofs.lemmas.Result.{IfErr-weaker}
-use Rattle.pan_top.specs.Templates.{statement, statements, before}
+use Rattle.pan_top.specs.Templates.{statements}
 use Rattle.pan_top.proofs.Reading.{before_all, before_more, refused_by, refused_after, begins}
 use Rattle.pan_top.proofs.template.statements.Goals as goal
 

@@ -1,4 +1,4 @@
-use Rattle.std.proofs.Common.{◌≡◌, ◌∷◌, [], true, sym, ◌∙◌}
+use Rattle.std.proofs.Common.{sym, ◌∙◌}
 use Rattle.pan_top.proofs.Wording.{three, is_named}
 use Rattle.pan_top.proofs.words.command.Goals as goal
 

@@ -1,0 +1,27 @@
+#!/usr/bin/env bash
+# Builds the program where it is missing or old, and passes the words on: ./pan build SOURCE OUT
+set -eu
+top=$(cd "$(dirname "$0")" && pwd)
+program=$top/crates/pan/out/pan
+
+stale() {
+  [ ! -x "$program" ] || [ -n "$(find "$top"/crates/*/src "$top"/crates/*/specs "$top/crates.txt" -newer "$program" -print -quit)" ]
+}
+
+# Each crate is proved before it is built, the lowest first; what was proved before is kept.
+build() {
+  echo "pan: building the program; each crate is proved first, which takes minutes the first time" >&2
+  for crate in small_types path_tree outside pan_ast pan_lexer json_profile pan_top pan; do
+    echo "pan: proving $crate" >&2
+    (cd "$top/crates/$crate" && rt check >"$top/crates/$crate/out.log" 2>&1) || { cat "$top/crates/$crate/out.log" >&2; exit 1; }
+    rm -f "$top/crates/$crate/out.log"
+  done
+  # `rt run` links the program and runs it once; the run itself is a usage fault, and its answer is not needed.
+  (cd "$top/crates/pan" && rt run >/dev/null 2>&1) || true
+  [ -x "$program" ] || { echo "pan: the program was not built" >&2; exit 1; }
+  touch "$program"
+}
+
+if stale; then build; fi
+if [ "${1:-}" = "--build-only" ]; then exit 0; fi
+exec "$program" "$@"
