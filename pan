@@ -10,16 +10,19 @@ stale() {
 
 # Each crate is proved before it is built, the lowest first; what was proved before is kept.
 build() {
+  local log
+  log=$(mktemp)
+  trap 'rm -f "$log"' EXIT
   echo "pan: building the program; each crate is proved first, which takes minutes the first time" >&2
   for crate in small_types path_tree outside pan_ast pan_lexer json_profile pan_top pan; do
     echo "pan: proving $crate" >&2
-    (cd "$top/crates/$crate" && rt check >"$top/crates/$crate/out.log" 2>&1) || { cat "$top/crates/$crate/out.log" >&2; exit 1; }
-    rm -f "$top/crates/$crate/out.log"
+    (cd "$top/crates/$crate" && rt check >"$log" 2>&1) || { cat "$log" >&2; exit 1; }
   done
-  # `rt run` links the program and runs it once; the run itself is a usage fault, and its answer is not needed.
-  (cd "$top/crates/pan" && rt run >/dev/null 2>&1) || true
-  [ -x "$program" ] || { echo "pan: the program was not built" >&2; exit 1; }
+  # `rt run` links the program and runs it: without words that is a usage fault, and its text is not needed.
+  (cd "$top/crates/pan" && rt run >"$log" 2>&1) || true
+  [ -x "$program" ] || { cat "$log" >&2; exit 1; }
   touch "$program"
+  rm -f "$log"
 }
 
 if stale; then build; fi
