@@ -37,7 +37,12 @@ fn turns_bits(rt: HostRuntime) -> Result<(), Fail> {
     assert_eq!(rt; turned.as_long(), Some(-6));
     let refused = unary(UnaryOp::Minus, &Tree::long(i64::MIN)).err();
     assert_eq!(rt; refused, Some(Refused::Overflow));
-    let least = binary(rt.alloc(), BinaryOp::BitAnd, &Tree::long(-4), &Tree::long(7))?;
+    let least = binary(
+        rt.alloc(),
+        BinaryOp::BitAnd,
+        &Tree::long(-4),
+        &Tree::long(7),
+    )?;
     assert_eq!(rt; least.as_long(), Some(4));
     Ok(())
 }
