@@ -23,6 +23,7 @@ build() {
   [ -x "$program" ] || { cat "$log" >&2; exit 1; }
   touch "$program"
   rm -f "$log"
+  trap - EXIT
 }
 
 if stale; then build; fi

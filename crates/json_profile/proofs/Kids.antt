@@ -1,19 +1,13 @@
 -- The children of a tree, one after the other.
-use Rattle.std.proofs.Common.{◌≡◌, ℕ, zero, suc, ◌+◌, ◌<◌, List, Some, None, refl, sym, ap, ◌∙◌, arith}
-use Rattle.std.specs.Ordering.{nat_cmp, match_ordering, ordering_reverse}
-use Rattle.std.specs.declared.cmp.Ordering.{Ordering}
-use Rattle.std.specs.declared.cmp.Ordering.TheVariants.{Less, Equal, Greater}
-use Rattle.std.specs.Cmp.Lexicographic.{slice_cmp}
-use Rattle.std.proofs.lemmas.Cmp.{nat_list_cmp_total}
-use Rattle.serde_json.specs.Data.{Data, object, array, Members, no_members, member, put}
-use Rattle.serde_json.specs.Data as js
-use Rattle.serde_json.specs.View.{items_of}
-use Rattle.path_tree.specs.Plain.{Plain, dict, list, text, long, undef, Items, no_items, item, Fields, no_fields, field, AreFields, IsBefore, IsTree}
+use Rattle.std.proofs.Common.{◌≡◌, ℕ, zero, suc, ◌+◌, ◌<◌, [], ◌∷◌, ◌++◌, List, Some, None, refl, sym, ap, ◌∙◌, arith, append_assoc}
+use Rattle.json.specs.Token.{Token}
+use Rattle.json.specs.Tree.{json_tokens, items_tokens, members_tokens}
+use Rattle.path_tree.specs.Plain.{Plain, dict, list, text, long, undef, Items, no_items, item, Fields, no_fields, field}
 use Rattle.path_tree.specs.Plain as plain
 use Rattle.path_tree.specs.Find.{kind_of, child_count, field_count, item_count, key_at, child_at, field_key_at, value_at, item_at}
 use Rattle.path_tree.specs.declared.kind.Kind.TheVariants as kind
 use Rattle.json_profile.specs.Json.{json, items_json, fields_json}
-use Rattle.json_profile.specs.Children.{fields_in, items_in, drop_fields, drop_items, fields_from, items_from, gathered, listed}
+use Rattle.json_profile.specs.Children.{drop_fields, drop_items, fields_from, items_from, fields_tokens, children_tokens}
 
 -- fields
 pub all_fields : (fs : Fields) → drop_fields 0 fs ≡ fs
@@ -80,9 +74,6 @@ all_items : (ts : Items) → drop_items 0 ts ≡ ts
 all_items no_items = refl
 all_items (item t ts) = refl
 
-pub items_start : (t : Plain) → listed (items_from 0 t) ≡ listed (items_in t)
-items_start t = ap listed (all_items (items_in t))
-
 no_more_items : (ts : Items) → drop_items (item_count ts) ts ≡ no_items
 no_more_items no_items = refl
 no_more_items (item t ts) = no_more_items ts
@@ -124,78 +115,40 @@ list_child (plain.boolean b) i is within none = cc
 list_child undef i is within none = cc
 list_child plain.null i is within none = cc
 
-listed_items : (ts : Items) → items_of (listed ts) ≡ items_json ts
-listed_items no_items = refl
-listed_items (item t ts) = ap (js.item (json t)) (listed_items ts)
+-- where the tokens stand
+pub dict_tokens : (t : Plain) → kind_of t ≡ kind.Dict → json_tokens (json t) ≡ Token.begin_object ∷ fields_tokens 0 t
+dict_tokens (dict fs) is = ap (λ gs. Token.begin_object ∷ members_tokens (fields_json gs)) (sym (all_fields fs))
+dict_tokens (list ts) is = cc
+dict_tokens (text bs) is = cc
+dict_tokens (long z) is = cc
+dict_tokens (plain.boolean b) is = cc
+dict_tokens undef is = cc
+dict_tokens plain.null is = cc
 
-pub list_json : (t : Plain) (values : List Data) → kind_of t ≡ kind.List → values ≡ listed (items_in t) → array (items_of values) ≡ json t
-list_json (list ts) values is all = ap array (ap items_of all ∙ listed_items ts)
-list_json (dict fs) values is all = cc
-list_json (text bs) values is all = cc
-list_json (long z) values is all = cc
-list_json (plain.boolean b) values is all = cc
-list_json undef values is all = cc
-list_json plain.null values is all = cc
+pub list_tokens : (t : Plain) → kind_of t ≡ kind.List → json_tokens (json t) ≡ Token.begin_array ∷ children_tokens 0 t
+list_tokens (list ts) is = ap (λ us. Token.begin_array ∷ items_tokens (items_json us)) (sym (all_items ts))
+list_tokens (dict fs) is = cc
+list_tokens (text bs) is = cc
+list_tokens (long z) is = cc
+list_tokens (plain.boolean b) is = cc
+list_tokens undef is = cc
+list_tokens plain.null is = cc
 
--- fields in byte order of keys give their members in order
-abbrev joined : Members → Members → Members
-joined no_members more = more
-joined (member k d ms) more = member k d (joined ms more)
+-- what was written, and the tokens that are left
+pub part_written : (old new part more all : List Token) → new ≡ old ++ part → all ≡ part ++ more → new ++ more ≡ old ++ all
+part_written old new part more all e f = ap (λ ts. ts ++ more) e ∙ append_assoc old part more ∙ ap (λ ts. old ++ ts) (sym f)
 
-abbrev IsAbove : List ℕ → Members → Type 0
-IsAbove k no_members = Unit {0}
-IsAbove k (member l d ms) = (slice_cmp nat_cmp l k ≡ Less) × IsAbove k ms
+pub field_written : (old mid new part more all : List Token) (t : Token) → mid ≡ old ++ t ∷ [] → new ≡ mid ++ part → all ≡ t ∷ (part ++ more) → new ++ more ≡ old ++ all
+field_written old mid new part more all t e f g = part_written mid new part more (part ++ more) f refl ∙ part_written old mid (t ∷ []) (part ++ more) all e g
 
-put_by : (k l : List ℕ) (d e : Data) (ms rest : Members) (o : Ordering) → o ≡ Greater → match_ordering o (member k d (member l e ms)) (member l d ms) (member l e rest) ≡ member l e rest
-put_by k l d e ms rest Less is = cc
-put_by k l d e ms rest Equal is = cc
-put_by k l d e ms rest Greater is = refl
+pub field_tokens : (t c : Plain) (i : ℕ) (k : List ℕ) → kind_of t ≡ kind.Dict → key_at i t ≡ Some k → child_at i t ≡ Some c → fields_tokens i t ≡ Token.key k ∷ (json_tokens (json c) ++ fields_tokens (i + 1) t)
+field_tokens t c i k is key child = ap (λ fs. members_tokens (fields_json fs)) (dict_step t i k c is key child)
 
-put_last : (ms : Members) (k : List ℕ) (d : Data) → IsAbove k ms → put k d ms ≡ joined ms (member k d no_members)
-put_last no_members k d above = refl
-put_last (member l e ms) k d above =
-    put_by k l d e ms (put k d ms) (slice_cmp nat_cmp k l) (nat_list_cmp_total.antisymm k l ∙ ap ordering_reverse above.0) ∙ ap (member l e) (put_last ms k d above.1)
+pub item_tokens : (t c : Plain) (i : ℕ) → kind_of t ≡ kind.List → child_at i t ≡ Some c → children_tokens i t ≡ json_tokens (json c) ++ children_tokens (i + 1) t
+item_tokens t c i is child = ap (λ ts. items_tokens (items_json ts)) (list_step t i c is child)
 
-above_trans : (ms : Members) (k l : List ℕ) → slice_cmp nat_cmp k l ≡ Less → IsAbove k ms → IsAbove l ms
-above_trans no_members k l below above = tt
-above_trans (member m e ms) k l below above = (nat_list_cmp_total.trans m k l above.0 below, above_trans ms k l below above.1)
+pub dict_closed : (t : Plain) (n : ℕ) (old new : List Token) → kind_of t ≡ kind.Dict → n ≡ child_count t → new ≡ old ++ Token.end_object ∷ [] → new ≡ old ++ fields_tokens n t
+dict_closed t n old new is count e = e ∙ ap (λ fs. old ++ members_tokens (fields_json fs)) (sym (dict_end t n is count))
 
-above_joined : (ms : Members) (k l : List ℕ) (d : Data) → slice_cmp nat_cmp k l ≡ Less → IsAbove k ms → IsAbove l (joined ms (member k d no_members))
-above_joined no_members k l d below above = (below, tt)
-above_joined (member m e ms) k l d below above = (nat_list_cmp_total.trans m k l above.0 below, above_joined ms k l d below above.1)
-
-abbrev AreAbove : Fields → Members → Type 0
-AreAbove no_fields ms = Unit {0}
-AreAbove (field k t fs) ms = IsAbove k ms
-
-above_next : (ms : Members) (k : List ℕ) (d : Data) (fs : Fields) → IsBefore k fs → IsAbove k ms → AreAbove fs (joined ms (member k d no_members))
-above_next ms k d no_fields first above = tt
-above_next ms k d (field l t fs) first above = above_joined ms k l d first above
-
-joined_none : (ms : Members) → joined ms no_members ≡ ms
-joined_none no_members = refl
-joined_none (member k d ms) = ap (member k d) (joined_none ms)
-
-joined_one : (ms more : Members) (k : List ℕ) (d : Data) → joined (joined ms (member k d no_members)) more ≡ joined ms (member k d more)
-joined_one no_members more k d = refl
-joined_one (member l e ms) more k d = ap (member l e) (joined_one ms more k d)
-
-gathered_from : (fs : Fields) (ms : Members) → AreFields fs → AreAbove fs ms → gathered ms fs ≡ joined ms (fields_json fs)
-gathered_from no_fields ms whole above = sym (joined_none ms)
-gathered_from (field k t fs) ms whole above =
-    ap (λ m. gathered m fs) (put_last ms k (json t) above)
-    ∙ gathered_from fs (joined ms (member k (json t) no_members)) whole.4 (above_next ms k (json t) fs whole.3 above)
-    ∙ joined_one ms (fields_json fs) k (json t)
-
-above_none : (fs : Fields) → AreAbove fs no_members
-above_none no_fields = tt
-above_none (field k t fs) = tt
-
-pub dict_json : (t : Plain) (ms : Members) → kind_of t ≡ kind.Dict → IsTree t → ms ≡ gathered no_members (fields_in t) → object ms ≡ json t
-dict_json (dict fs) ms is tree all = ap object (all ∙ gathered_from fs no_members tree.whole (above_none fs))
-dict_json (list ts) ms is tree all = cc
-dict_json (text bs) ms is tree all = cc
-dict_json (long z) ms is tree all = cc
-dict_json (plain.boolean b) ms is tree all = cc
-dict_json undef ms is tree all = cc
-dict_json plain.null ms is tree all = cc
+pub list_closed : (t : Plain) (n : ℕ) (old new : List Token) → kind_of t ≡ kind.List → n ≡ child_count t → new ≡ old ++ Token.end_array ∷ [] → new ≡ old ++ children_tokens n t
+list_closed t n old new is count e = e ∙ ap (λ ts. old ++ items_tokens (items_json ts)) (sym (list_end t n is count))

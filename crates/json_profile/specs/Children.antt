@@ -1,9 +1,10 @@
--- The children of a tree from one on, and what is made of them in turn.
-use Rattle.std.specs.Prelude.{ℕ, zero, suc, List, [], ◌∷◌}
-use Rattle.serde_json.specs.Data.{Data, Members, put}
+-- The children of a tree from one on.
+use Rattle.std.specs.Prelude.{ℕ, zero, suc, List}
+use Rattle.json.specs.Token.{Token}
+use Rattle.json.specs.Tree.{items_tokens, members_tokens}
 use Rattle.path_tree.specs.Plain.{Plain, dict, list, text, long, undef, Items, no_items, item, Fields, no_fields, field}
 use Rattle.path_tree.specs.Plain as plain
-use Rattle.json_profile.specs.Json.{json}
+use Rattle.json_profile.specs.Json.{items_json, fields_json}
 
 abbrev pub fields_in : Plain → Fields
 fields_in (dict fs) = fs
@@ -39,11 +40,9 @@ fields_from n t = drop_fields n (fields_in t)
 abbrev pub items_from : ℕ → Plain → Items
 items_from n t = drop_items n (items_in t)
 
--- the members with those of the fields put in one after the other
-abbrev pub gathered : Members → Fields → Members
-gathered ms no_fields = ms
-gathered ms (field k t fs) = gathered (put k (json t) ms) fs
+-- the JSON tokens of the children from one on, with the closing bracket
+abbrev pub fields_tokens : ℕ → Plain → List Token
+fields_tokens n t = members_tokens (fields_json (fields_from n t))
 
-abbrev pub listed : Items → List Data
-listed no_items = []
-listed (item t ts) = json t ∷ listed ts
+abbrev pub children_tokens : ℕ → Plain → List Token
+children_tokens n t = items_tokens (items_json (items_from n t))

@@ -1,19 +1,20 @@
 -- A tree as JSON.
 use Rattle.std.specs.Prelude.{ℕ, List, [], ◌∷◌, ◌++◌}
-use Rattle.serde_json.specs.Data.{Data, null, boolean, number, string, array, object, Members, no_members, member}
-use Rattle.serde_json.specs.Data as js
-use Rattle.serde_json.specs.Find.{of_integer}
-use Rattle.serde_json.specs.Written.{compact_text}
+use Rattle.std.specs.Fmt.{signed_decimal}
+use Rattle.json.specs.Json.{Json, null, boolean, number, string, array, object, Members, no_members, member}
+use Rattle.json.specs.Json as js
+use Rattle.json.specs.Print.{print}
+use Rattle.json.specs.Tree.{json_tokens}
 use Rattle.path_tree.specs.Plain.{Plain, dict, list, text, long, undef, Items, no_items, item, Fields, no_fields, field}
 use Rattle.path_tree.specs.Plain as plain
 
 -- an undef or a null is written as null; no profile holds one
 abbrev mutual
-  pub json : Plain → Data
+  pub json : Plain → Json
   json (dict fs) = object (fields_json fs)
   json (list ts) = array (items_json ts)
   json (text bs) = string bs
-  json (long z) = number (of_integer z)
+  json (long z) = number (signed_decimal z)
   json (plain.boolean b) = boolean b
   json undef = null
   json plain.null = null
@@ -28,4 +29,4 @@ abbrev mutual
 
 -- one line of compact JSON, and a line feed
 abbrev pub profile_of : Plain → List ℕ
-profile_of t = compact_text (json t) ++ 10 ∷ []
+profile_of t = print (json_tokens (json t)) ++ 10 ∷ []

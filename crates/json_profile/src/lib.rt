@@ -1,9 +1,9 @@
 //! The text of a profile: a tree as one line of compact JSON (RFC 8259), keys in byte order.
 //!
-//! In reading order: `value` (a tree as a JSON value), `text` (the line).
+//! In reading order: `writing` (a tree as JSON tokens), `text` (the line).
 #![tactic(auto)]
 
 mod text;
-mod value;
+mod writing;
 
 pub use text::profile_text;

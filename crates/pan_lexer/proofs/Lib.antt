@@ -14,6 +14,7 @@ pub mod Found
 pub mod Laws
 pub mod OneKind
 pub mod Only
+pub mod PlainTexts
 pub mod Runs
 pub mod Some
 pub mod Spans

@@ -12,6 +12,7 @@ use Rattle.pan_ast.specs.declared.token.Token.{Token}
 use Rattle.pan_ast.specs.declared.fault.Fault.{Fault}
 use Rattle.pan_lexer.specs.declared.parts.Mode.{Mode}
 use Rattle.pan_lexer.specs.declared.parts.Mode.TheVariants.{Before}
+use Rattle.pan_ast.specs.declared.token.TokenKind.{TokenKind}
 use Rattle.pan_ast.specs.declared.token.TokenKind.TheVariants as kinds
 use Rattle.pan_lexer.specs.declared.parts.SkipKind.{SkipKind}
 use Rattle.pan_lexer.specs.declared.parts.Front.{Front}
@@ -109,3 +110,7 @@ lexed_utf8 file bytes h = rw (utf8_valid_len-IsUtf8 bytes h, eqb-same (length by
     by : (t : Bool) → eqb n n ≡ t → t ≡ true
     by true e = refl
     by false e = absurd (eqb-false n n e refl)
+
+-- a token of a word at the front
+pub written_alike : (file : List ℕ) (kind : TokenKind) (p : At) (n : ℕ) (rest word : List ℕ) → length word ≡ n → word ≡ take n rest → token file kind p (length word) word ≡ token file kind p n (take n rest)
+written_alike file kind p n rest word e f = ap (λ (k : ℕ). token file kind p k word) e ∙ ap (token file kind p n) f

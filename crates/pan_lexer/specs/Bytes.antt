@@ -39,6 +39,13 @@ is_in_comment b = not (b == 10)
 abbrev pub is_in_annotation : ℕ → Bool
 is_in_annotation b = not (b == 125)
 
+-- what stands for itself in a quoted text
+abbrev pub is_in_single : ℕ → Bool
+is_in_single b = not (b == 39)
+
+abbrev pub is_in_double : ℕ → Bool
+is_in_double b = not (b == 34) && not (b == 92)
+
 -- { } ( ) [ ] ; , : + - * / % ~ ^
 abbrev pub is_single_sign : ℕ → Bool
 is_single_sign b = between 40 45 b || (b == 47) || between 58 59 b || (b == 37) || (b == 91) || between 93 94 b || (b == 123) || between 125 126 b

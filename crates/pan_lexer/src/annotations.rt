@@ -6,7 +6,7 @@ use crate::parts::{Front, SkipKind};
 use pan_ast::Code;
 
 /// What is left of an annotation after the `@` and the n bytes before the `{`.
-fn annotation_body(n: usize, bytes: &[u8]) -> Front
+fn annotation_body(n: usize, bytes: &[u8]) -> Front<'_>
     requires { 1 + n + length bytes.now < 2 ^ 64 }
     ensures value { result ≡ annotation_body n bytes.now }
     ensures fits { Fits (1 + n + length bytes.now) result }
@@ -26,7 +26,7 @@ fn annotation_body(n: usize, bytes: &[u8]) -> Front
 }
 
 /// What is left of an annotation after the `@` and a word of n bytes.
-fn annotation_gap(n: usize, bytes: &[u8]) -> Front
+fn annotation_gap(n: usize, bytes: &[u8]) -> Front<'_>
     requires { 1 + n + length bytes.now < 2 ^ 64 }
     ensures value { result ≡ annotation_gap n bytes.now }
     ensures fits { Fits (1 + n + length bytes.now) result }
@@ -36,7 +36,7 @@ fn annotation_gap(n: usize, bytes: &[u8]) -> Front
 }
 
 /// An annotation, after its `@`.
-pub fn annotation(bytes: &[u8]) -> Front
+pub fn annotation(bytes: &[u8]) -> Front<'_>
     requires { 1 + length bytes.now < 2 ^ 64 }
     ensures value { result ≡ annotation bytes.now }
     ensures fits { Fits (1 + length bytes.now) result }

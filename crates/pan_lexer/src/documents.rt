@@ -1,13 +1,11 @@
-ghost use Rattle.std.specs.Prelude.{◌≡◌, ◌≤◌, ◌<◌, ◌+◌, ◌^◌, length, IfOk, IfSome, true};
+ghost use Rattle.std.specs.Prelude.{◌≡◌, ◌≤◌, ◌<◌, ◌+◌, ◌^◌, length, IfSome, true};
 ghost use Rattle.std.specs.List.{prefix_len};
 ghost use Rattle.pan_lexer.specs.Bytes.{is_tab};
 ghost use Rattle.pan_lexer.specs.Fronts.{label_end, label_line, lines, line_end, document, document_lines, document_of, Fits};
 
 use crate::bytes::{begins_word, behind, starts, tab_len, word_len};
-use crate::parts::Front;
+use crate::parts::{Front, Value};
 use pan_ast::Code;
-use small_types::Bytes;
-use std::alloc::{AllocError, Global};
 
 /// The line end behind a label; the end of the file is one too.
 fn label_end(bytes: &[u8]) -> Option<usize>
@@ -79,45 +77,42 @@ fn line_end(bytes: &[u8]) -> Option<usize>
 }
 
 /// A here-document of this label, with `gap` bytes from the `;` to the lines.
-fn document_of(alloc: Global, label: &[u8], gap: usize, bytes: &[u8]) -> Result<Front, AllocError>
+fn document_of<'a>(label: &[u8], gap: usize, bytes: &'a [u8]) -> Front<'a>
     requires label { length label.now < 2 ^ 32 }
     requires gap { gap + length bytes.now < 2 ^ 32 }
-    ensures value { IfOk result (λ f. f ≡ document_of (length label.now) gap bytes.now (lines label.now true bytes.now)) }
-    ensures fits { IfOk result (λ f. Fits (length label.now + 3 + gap + length bytes.now) f) }
+    ensures value { result ≡ document_of (length label.now) gap bytes.now (lines label.now true bytes.now) }
+    ensures fits { Fits (length label.now + 3 + gap + length bytes.now) result }
 {
     match lines(label, bytes) {
-        Some((n, k)) => {
-            let value = Bytes::from_slice(alloc, &bytes[..n])?;
-            Ok(Front::Document(value, label.len() + 2, gap + n + k))
-        }
-        None => Ok(Front::Bad(Code::OpenText, 0)),
+        Some((n, k)) => { Front::Document(Value::part(&bytes[..n]), label.len() + 2, gap + n + k) }
+        None => Front::Bad(Code::OpenText, 0),
     }
 }
 
 /// A here-document of this label, after its `;`.
-fn document_lines(alloc: Global, label: &[u8], bytes: &[u8]) -> Result<Front, AllocError>
+fn document_lines<'a>(label: &[u8], bytes: &'a [u8]) -> Front<'a>
     requires label { length label.now < 2 ^ 32 }
     requires bytes { length bytes.now < 2 ^ 32 }
-    ensures value { IfOk result (λ f. f ≡ document_lines label.now (prefix_len is_tab bytes.now) bytes.now) }
-    ensures fits { IfOk result (λ f. Fits (length label.now + 3 + length bytes.now) f) }
+    ensures value { result ≡ document_lines label.now (prefix_len is_tab bytes.now) bytes.now }
+    ensures fits { Fits (length label.now + 3 + length bytes.now) result }
 {
     let gap = tab_len(bytes);
     match line_end(&bytes[gap..]) {
-        Some(n) => document_of(alloc, label, gap + n, &bytes[gap + n..]),
-        None => Ok(Front::Bad(Code::BadCharacter, 0)),
+        Some(n) => document_of(label, gap + n, &bytes[gap + n..]),
+        None => Front::Bad(Code::BadCharacter, 0),
     }
 }
 
 /// A here-document, after its `<<`.
-pub fn document(alloc: Global, bytes: &[u8]) -> Result<Front, AllocError>
+pub fn document(bytes: &[u8]) -> Front<'_>
     requires { length bytes.now < 2 ^ 32 }
-    ensures value { IfOk result (λ f. f ≡ document bytes.now) }
-    ensures fits { IfOk result (λ f. Fits (2 + length bytes.now) f) }
+    ensures value { result ≡ document bytes.now }
+    ensures fits { Fits (2 + length bytes.now) result }
 {
     let n = word_len(bytes);
     if begins_word(bytes) && starts(b';', &bytes[n..]) {
-        document_lines(alloc, &bytes[..n], &bytes[n + 1..])
+        document_lines(&bytes[..n], &bytes[n + 1..])
     } else {
-        Ok(Front::Bad(Code::BadCharacter, 0))
+        Front::Bad(Code::BadCharacter, 0)
     }
 }

@@ -1,5 +1,6 @@
-ghost use Rattle.std.specs.Prelude.{◌≡◌, ◌≤◌, ◌<◌, ◌^◌, length, IfOk};
-ghost use Rattle.pan_lexer.specs.Fronts.{sign_len, sign, front, Fits};
+ghost use Rattle.std.specs.Prelude.{◌≡◌, ◌≤◌, ◌<◌, ◌^◌, length, drop, if◌then◌else◌, IfOk};
+ghost use Rattle.pan_lexer.specs.Bytes.{starts_twice};
+ghost use Rattle.pan_lexer.specs.Fronts.{sign_len, sign, document, front, Fits};
 
 use crate::annotations::annotation;
 use crate::bytes::{
@@ -35,7 +36,7 @@ fn sign_len(bytes: &[u8]) -> usize
 }
 
 /// A sign.
-fn sign(bytes: &[u8]) -> Front
+fn sign(bytes: &[u8]) -> Front<'_>
     ensures value { result ≡ sign bytes.now }
     ensures fits { Fits (length bytes.now) result }
 {
@@ -47,8 +48,22 @@ fn sign(bytes: &[u8]) -> Front
     }
 }
 
+/// A here-document or a sign.
+#[tactic(auto, using(crate::proofs::Runs::twice_within))]
+fn document_or_sign(bytes: &[u8]) -> Front<'_>
+    requires { length bytes.now < 2 ^ 32 }
+    ensures value { result ≡ (if starts_twice 60 bytes.now then document (drop 2 bytes.now) else sign bytes.now) }
+    ensures fits { Fits (length bytes.now) result }
+{
+    if starts_twice(b'<', bytes) {
+        document(behind(bytes, 2))
+    } else {
+        sign(bytes)
+    }
+}
+
 /// What stands at the front of a text, where a Name may stand or where it may not.
-pub fn front(alloc: Global, naming: bool, bytes: &[u8]) -> Result<Front, AllocError>
+pub fn front(alloc: Global, naming: bool, bytes: &[u8]) -> Result<Front<'_>, AllocError>
     requires { length bytes.now < 2 ^ 31 }
     ensures value { IfOk result (λ f. f ≡ front naming bytes.now) }
     ensures fits { IfOk result (λ f. Fits (length bytes.now) f) }
@@ -73,9 +88,7 @@ pub fn front(alloc: Global, naming: bool, bytes: &[u8]) -> Result<Front, AllocEr
         Ok(text_of(single(alloc, rest)?, rest))
     } else if first == b'"' {
         Ok(text_of(double(alloc, rest)?, rest))
-    } else if starts_twice(b'<', bytes) {
-        document(alloc, behind(rest, 1))
     } else {
-        Ok(sign(bytes))
+        Ok(document_or_sign(bytes))
     }
 }

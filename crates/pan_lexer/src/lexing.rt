@@ -9,10 +9,14 @@ ghost use Rattle.pan_lexer.specs.declared.lexing.LexError.TheVariants.{Memory};
 use crate::bytes::{behind, front_of};
 use crate::fronts::front;
 use crate::parts::{At, Front, Mode};
-use crate::tokens::{as_text, fault, int_token, text_token, token};
+use crate::shared::SharedTexts;
+use crate::tokens::{fault, int_token, text_token, token, written_token};
 use pan_ast::{Code, Fault, Token, TokenKind};
 use small_types::{Seq, Text};
 use std::alloc::{AllocError, AllocFailed, Global};
+
+/// How many bytes a token of usual text takes at least, with what is skipped before it.
+const USUAL_BYTES: usize = 8;
 
 /// Why a file has no tokens: its first fault, or want of memory.
 #[derive(Drop)]
@@ -112,7 +116,8 @@ fn tokens_of(alloc: Global, bytes: &[u8], file: &Text) -> Result<Seq<Token>, Lex
     requires text { IsUtf8 bytes.now }
     ensures { Gives result (lexed file.now 0 Mode.Before origin bytes.now) }
 {
-    let mut tokens = Vec::new(alloc);
+    let mut texts = SharedTexts::new(alloc)?;
+    let mut tokens = Vec::with_capacity(alloc, bytes.len() / USUAL_BYTES)?;
     let mut at = origin();
     let mut mode = Mode::Before;
     'pieces: while at.start < bytes.len() {
@@ -123,24 +128,24 @@ fn tokens_of(alloc: Global, bytes: &[u8], file: &Text) -> Result<Seq<Token>, Lex
             }
             Front::Written(kind, n) => {
                 let word = front_of(rest, n);
-                tokens.push(token(alloc, file, kind, at, n, as_text(word))?)?;
+                tokens.push(written_token(alloc, &mut texts, file, kind, at, word)?)?;
                 mode = mode_after(mode, kind, word);
                 at = passed(at, word);
             }
             Front::Int(value, n) => {
-                tokens.push(int_token(alloc, file, at, n, value)?)?;
+                tokens.push(int_token(alloc, &mut texts, file, at, n, value)?)?;
                 mode = mode_after(mode, TokenKind::Int, &[]);
                 at = passed(at, front_of(rest, n));
             }
             Front::Text(value, n) => {
-                tokens.push(text_token(alloc, file, at, n, &value)?)?;
+                tokens.push(text_token(alloc, file, at, n, value)?)?;
                 mode = mode_after(mode, TokenKind::Text, &[]);
                 at = passed(at, front_of(rest, n));
             }
             Front::Document(value, n, k) => {
                 let sign = passed(at, front_of(rest, n));
-                tokens.push(text_token(alloc, file, at, n, &value)?)?;
-                tokens.push(token(alloc, file, TokenKind::Sign, sign, 1, ";")?)?;
+                tokens.push(text_token(alloc, file, at, n, value)?)?;
+                tokens.push(written_token(alloc, &mut texts, file, TokenKind::Sign, sign, b";")?)?;
                 mode = mode_after(mode, TokenKind::Text, &[]);
                 at = passed(at, front_of(rest, n + 1 + k));
             }
@@ -150,7 +155,7 @@ fn tokens_of(alloc: Global, bytes: &[u8], file: &Text) -> Result<Seq<Token>, Lex
             }
         }
     }
-    tokens.push(token(alloc, file, TokenKind::End, at, 0, "")?)?;
+    tokens.push(token(file, TokenKind::End, at, 0, Text::new(alloc, "")?)?)?;
     Ok(Seq::from_vec(tokens))
 }
 

@@ -34,7 +34,7 @@ fn number(base: u64, digits: &[u8]) -> Option<u64>
 }
 
 /// An Int of n bytes and of this value, if nothing behind it forbids it.
-fn ended_int(value: Option<u64>, n: usize, rest: &[u8]) -> Front
+fn ended_int(value: Option<u64>, n: usize, rest: &[u8]) -> Front<'_>
     requires { 1 ≤ n }
     ensures value { result ≡ ended_int value n rest.now }
     ensures fits { Fits (n + length rest.now) result }
@@ -52,7 +52,7 @@ fn ended_int(value: Option<u64>, n: usize, rest: &[u8]) -> Front
 }
 
 /// A decimal or octal form of n digits in that base.
-fn plain_int(base: u64, n: usize, bytes: &[u8]) -> Front
+fn plain_int(base: u64, n: usize, bytes: &[u8]) -> Front<'_>
     requires base { 1 ≤ base }
     requires some { 1 ≤ n }
     requires within { n ≤ length bytes.now }
@@ -68,7 +68,7 @@ fn plain_int(base: u64, n: usize, bytes: &[u8]) -> Front
 }
 
 /// A hexadecimal form, after its `0x`.
-fn hex_int(bytes: &[u8]) -> Front
+fn hex_int(bytes: &[u8]) -> Front<'_>
     requires { length bytes.now < 2 ^ 32 }
     ensures value { result ≡ hex_int (prefix_len is_hex bytes.now) bytes.now }
     ensures fits { Fits (2 + length bytes.now) result }
@@ -82,7 +82,7 @@ fn hex_int(bytes: &[u8]) -> Front
 }
 
 /// A form that begins with `0` and is not hexadecimal.
-fn octal_int(bytes: &[u8]) -> Front
+fn octal_int(bytes: &[u8]) -> Front<'_>
     requires { begins is_digit bytes.now ≡ true }
     ensures value { result ≡ octal_int (prefix_len is_digit bytes.now) (prefix_len is_octal bytes.now) bytes.now }
     ensures fits { Fits (length bytes.now) result }
@@ -97,7 +97,7 @@ fn octal_int(bytes: &[u8]) -> Front
 }
 
 /// An Int, from its first digit on.
-pub fn int(bytes: &[u8]) -> Front
+pub fn int(bytes: &[u8]) -> Front<'_>
     requires length { length bytes.now < 2 ^ 32 }
     requires some { begins is_digit bytes.now ≡ true }
     ensures value { result ≡ int bytes.now }

@@ -19,8 +19,8 @@ fn begins_object(bytes: &[u8]) -> bool
 }
 
 /// The bytes of an annotation, and 0 where it is none or is not closed.
-fn annotation_len(annotation: Front) -> usize
-    ensures { result ≡ annotation_len annotation }
+fn annotation_len(annotation: Front<'_>) -> usize
+    ensures { result ≡ annotation_len annotation.entry }
 {
     match annotation {
         Front::Skip(_, n) => n,

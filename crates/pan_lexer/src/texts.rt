@@ -1,14 +1,51 @@
 ghost use Rattle.std.specs.Prelude.{◌≡◌, ◌≤◌, ◌<◌, ◌+◌, ◌^◌, ◌++◌, length, IfOk, OnOk, IfSome};
+ghost use Rattle.std.specs.List.{prefix_len};
+ghost use Rattle.pan_lexer.specs.Bytes.{is_in_single, is_in_double};
 ghost use Rattle.pan_lexer.specs.Fronts.{single, double, escape_of, hex_pair, escape, encoded, text_of, QuotedFits, Fits};
 
-use crate::bytes::{behind, hex_value, is_hex};
-use crate::parts::{Front, Quoted};
+use crate::bytes::{behind, front_of, hex_value, is_hex, starts, starts_twice};
+use crate::parts::{Front, Quoted, Value};
 use pan_ast::Code;
 use small_types::Bytes;
 use std::alloc::{AllocError, Global};
 
+#[tactic(auto, using(crate::proofs::Runs::run_within))]
+fn single_len(bytes: &[u8]) -> usize
+    ensures value { result ≡ prefix_len is_in_single bytes.now }
+    ensures within { result ≤ length bytes.now }
+{
+    bytes.iter().take_while(|b| **b != b'\'').count()
+}
+
+#[tactic(auto, using(crate::proofs::Runs::run_within))]
+fn double_len(bytes: &[u8]) -> usize
+    ensures value { result ≡ prefix_len is_in_double bytes.now }
+    ensures within { result ≤ length bytes.now }
+{
+    bytes
+        .iter()
+        .take_while(|b| **b != b'"' && **b != b'\\')
+        .count()
+}
+
 /// A single-quoted text, after its opening quote. Two quotes in it stand for one.
-pub fn single(alloc: Global, bytes: &[u8]) -> Result<Quoted, AllocError>
+pub fn single(alloc: Global, bytes: &[u8]) -> Result<Quoted<'_>, AllocError>
+    ensures value { IfOk result (λ q. q ≡ single bytes.now) }
+    ensures fits { IfOk result (λ q. QuotedFits (length bytes.now) q) }
+{
+    let n = single_len(bytes);
+    let rest = behind(bytes, n);
+    if starts_twice(b'\'', rest) {
+        single_with_quotes(alloc, bytes)
+    } else if starts(b'\'', rest) {
+        Ok(Quoted::Closed(Value::part(front_of(bytes, n)), n + 1))
+    } else {
+        Ok(Quoted::Open)
+    }
+}
+
+/// The same for a text that may have two quotes in it.
+fn single_with_quotes(alloc: Global, bytes: &[u8]) -> Result<Quoted<'_>, AllocError>
     ensures value { IfOk result (λ q. q ≡ single bytes.now) }
     ensures fits { IfOk result (λ q. QuotedFits (length bytes.now) q) }
 {
@@ -22,7 +59,7 @@ pub fn single(alloc: Global, bytes: &[u8]) -> Result<Quoted, AllocError>
             value.push(b'\'')?;
             i += 2;
         } else {
-            return Ok(Quoted::Closed(Bytes::from_vec(value), i + 1));
+            return Ok(Quoted::Closed(Value::made(Bytes::from_vec(value)), i + 1));
         }
     }
     Ok(Quoted::Open)
@@ -99,7 +136,20 @@ fn push_encoded(value: &mut Vec<u8>, c: u8) -> Result<(), AllocError>
 }
 
 /// A double-quoted text, after its opening quote.
-pub fn double(alloc: Global, bytes: &[u8]) -> Result<Quoted, AllocError>
+pub fn double(alloc: Global, bytes: &[u8]) -> Result<Quoted<'_>, AllocError>
+    ensures value { IfOk result (λ q. q ≡ double 0 bytes.now) }
+    ensures fits { IfOk result (λ q. QuotedFits (length bytes.now) q) }
+{
+    let n = double_len(bytes);
+    if starts(b'"', behind(bytes, n)) {
+        Ok(Quoted::Closed(Value::part(front_of(bytes, n)), n + 1))
+    } else {
+        double_with_escapes(alloc, bytes)
+    }
+}
+
+/// The same for a text that may have escapes in it.
+fn double_with_escapes(alloc: Global, bytes: &[u8]) -> Result<Quoted<'_>, AllocError>
     ensures value { IfOk result (λ q. q ≡ double 0 bytes.now) }
     ensures fits { IfOk result (λ q. QuotedFits (length bytes.now) q) }
 {
@@ -107,7 +157,7 @@ pub fn double(alloc: Global, bytes: &[u8]) -> Result<Quoted, AllocError>
     let mut i = 0;
     while i < bytes.len() {
         if bytes[i] == b'"' {
-            return Ok(Quoted::Closed(Bytes::from_vec(value), i + 1));
+            return Ok(Quoted::Closed(Value::made(Bytes::from_vec(value)), i + 1));
         }
         if bytes[i] == b'\\' {
             let Some((c, n)) = escape(behind(bytes, i + 1)) else {
@@ -124,10 +174,10 @@ pub fn double(alloc: Global, bytes: &[u8]) -> Result<Quoted, AllocError>
 }
 
 /// A text, from its opening quote on; `bytes` are those behind that quote.
-pub fn text_of(quoted: Quoted, bytes: &[u8]) -> Front
+pub fn text_of<'a>(quoted: Quoted<'a>, bytes: &'a [u8]) -> Front<'a>
     requires quoted { QuotedFits (length bytes.now) quoted }
     requires length { length bytes.now < 2 ^ 31 }
-    ensures value { result ≡ text_of quoted }
+    ensures value { result ≡ text_of quoted.entry }
     ensures fits { Fits (1 + length bytes.now) result }
 {
     match quoted {

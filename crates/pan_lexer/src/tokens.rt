@@ -1,10 +1,11 @@
-ghost use Rattle.std.specs.Prelude.{◌≡◌, ◌<◌, ◌+◌, ◌^◌, IfOk, decimal, IsUtf8};
+ghost use Rattle.std.specs.Prelude.{◌≡◌, ◌<◌, ◌+◌, ◌^◌, IfOk, decimal, IsUtf8, length};
 ghost use Rattle.pan_lexer.specs.Lexed.{place_in, token, fault};
 
-use crate::parts::At;
+use crate::parts::{At, Value};
+use crate::shared::SharedTexts;
 use itoa::Buffer;
 use pan_ast::{Code, Fault, Place, Token, TokenKind};
-use small_types::{Bytes, Text};
+use small_types::Text;
 use std::alloc::{AllocError, Global};
 
 /// The bytes as a text.
@@ -31,23 +32,39 @@ fn place_in(file: &Text, at: At) -> Result<Place, AllocError>
 
 /// A token of n bytes.
 pub fn token(
-    alloc: Global,
     file: &Text,
     kind: TokenKind,
     at: At,
     n: usize,
-    value: &str,
+    value: Text,
 ) -> Result<Token, AllocError>
     requires { at.start + n < 2 ^ 64 }
-    ensures { IfOk result (λ t. t ≡ token file.now kind at n value.now) }
+    ensures { IfOk result (λ t. t ≡ token file.now kind at n value) }
 {
     Ok(Token {
         kind,
         start: at.start,
         end: at.start + n,
         place: place_in(file, at)?,
-        value: Text::new(alloc, value)?,
+        value,
     })
+}
+
+/// A token whose value is the word, name or sign as written.
+pub fn written_token(
+    alloc: Global,
+    texts: &mut SharedTexts,
+    file: &Text,
+    kind: TokenKind,
+    at: At,
+    word: &[u8],
+) -> Result<Token, AllocError>
+    requires end { at.start + length word.now < 2 ^ 64 }
+    requires text { IsUtf8 word.now }
+    ensures { IfOk result (λ t. t ≡ token file.now kind at (length word.now) word.now) }
+{
+    let value = texts.text(alloc, as_text(word))?;
+    token(file, kind, at, word.len(), value)
 }
 
 /// A Text of n bytes and of this value.
@@ -56,25 +73,20 @@ pub fn text_token(
     file: &Text,
     at: At,
     n: usize,
-    value: &Bytes,
+    value: Value<'_>,
 ) -> Result<Token, AllocError>
     requires end { at.start + n < 2 ^ 64 }
-    requires text { IsUtf8 value.now }
-    ensures { IfOk result (λ t. t ≡ token file.now TokenKind.Text at n value.now) }
+    requires text { IsUtf8 value }
+    ensures { IfOk result (λ t. t ≡ token file.now TokenKind.Text at n value.entry) }
 {
-    token(
-        alloc,
-        file,
-        TokenKind::Text,
-        at,
-        n,
-        as_text(value.as_slice()),
-    )
+    let value = Text::new(alloc, as_text(value.as_slice()))?;
+    token(file, TokenKind::Text, at, n, value)
 }
 
 /// An Int of n bytes and of this value.
 pub fn int_token(
     alloc: Global,
+    texts: &mut SharedTexts,
     file: &Text,
     at: At,
     n: usize,
@@ -84,7 +96,8 @@ pub fn int_token(
     ensures { IfOk result (λ t. t ≡ token file.now TokenKind.Int at n (decimal value)) }
 {
     let mut buffer = Buffer::new();
-    token(alloc, file, TokenKind::Int, at, n, buffer.format(value))
+    let value = texts.text(alloc, buffer.format(value))?;
+    token(file, TokenKind::Int, at, n, value)
 }
 
 /// A fault without a detail.

@@ -43,13 +43,13 @@ impl<T: Drop> From<AllocFailed<T>> for CompileError {
 }
 
 /// The tree of a literal. A text may be too large for one.
-fn literal_tree(alloc: Global, literal: &Literal) -> Result<Tree, PutError>
+fn literal_tree(literal: &Literal) -> Result<Tree, PutError>
     ensures ok { IfOk result (λ t. literal_tree literal.now ≡ Ok t) }
     ensures err { IfErr result (λ e. e ≢ PutError.Memory → literal_tree literal.now ≡ Err e) }
     ensures set { IfOk result (λ t. t ≢ plain.null) }
 {
     match literal {
-        Literal::Text(text) => match Tree::text(alloc, text.as_str()) {
+        Literal::Text(text) => match Tree::shared_text(text) {
             Ok(tree) => Ok(tree),
             Err(Refused::TooLarge) => Err(PutError::TooLarge),
             Err(_) => Err(PutError::Memory),
@@ -96,7 +96,7 @@ fn put(alloc: Global, tree: &mut Tree, assignment: &Assignment) -> Result<(), Pu
     ensures ok { OnOk result (put_at assignment.now tree.old (literal_tree assignment.now.value) ≡ Ok tree.new) }
     ensures err { IfErr result (λ e. e ≢ PutError.Memory → put_at assignment.now tree.old (literal_tree assignment.now.value) ≡ Err e) }
 {
-    let value = literal_tree(alloc, &assignment.value)?;
+    let value = literal_tree(&assignment.value)?;
     tree.put(alloc, assignment.terms.as_slice(), value)
 }
 

@@ -1,10 +1,9 @@
 -- Escaped texts are read back.
-use Rattle.std.proofs.Common.{◌≡◌, ℕ, zero, suc, ◌+◌, ◌-◌, ◌*◌, ◌/◌, ◌%◌, ◌<◌, ◌≤◌, Bool, true, false, cond, List, [], ◌∷◌, ◌++◌, length, get_or, take, drop, ◌==◌, ◌&&◌, ◌||◌, nat_lt, refl, ap, sym, ◌∙◌, arith}
+use Rattle.std.proofs.Common.{◌≡◌, ℕ, suc, ◌+◌, ◌*◌, ◌/◌, ◌%◌, ◌<◌, ◌≤◌, Bool, true, false, cond, List, [], ◌∷◌, ◌++◌, length, get_or, drop, ◌==◌, ◌&&◌, ◌||◌, refl, ap, ◌∙◌, arith}
 use Rattle.std.specs.Char.{digit_char}
 use Rattle.std.proofs.lemmas.Bool.Decides.{nat_tests}
-use Rattle.std.proofs.lemmas.Grind.{common_steps}
 use Rattle.path_tree.specs.Grammar.{is_letter, is_digit}
-use Rattle.path_tree.specs.Escape.{escape, escape_rest, escaped_byte, is_hex_digit, hex_value, is_escape, unescape, unescape_rest}
+use Rattle.path_tree.specs.Escape.{escape, escape_rest, escaped_byte, is_hex_digit, hex_value, unescape, unescape_rest}
 use Rattle.path_tree.specs.Reading.{begins_escaped}
 
 -- a byte that stands as it is

@@ -1,16 +1,16 @@
 -- What a plan of a put through one term says.
-use Rattle.std.proofs.Common.{◌≡◌, ℕ, zero, suc, ◌+◌, ◌-◌, ◌<◌, ◌≤◌, max, Bool, true, false, nat_lt, cond, List, [], ◌∷◌, length, get_or, drop, Some, None, Result, Ok, Err, IfOk, refl, ap, sym, ◌∙◌, subst, arith}
+use Rattle.std.proofs.Common.{◌≡◌, ℕ, zero, suc, ◌+◌, ◌-◌, ◌<◌, ◌≤◌, Bool, true, false, nat_lt, cond, List, [], ◌∷◌, length, get_or, drop, Some, None, Result, Ok, Err, IfOk, refl, ap, sym, ◌∙◌, subst, arith}
 use Rattle.std.proofs.lemmas.Bool.Decides.{nat_tests}
 use Rattle.std.proofs.lemmas.Grind.{common_steps}
 use Rattle.path_tree.specs.Plain.{Plain, dict, list, Items, no_items, Fields, tree_size, tree_height, items_size, items_height}
 use Rattle.path_tree.specs.View.{items_of}
 use Rattle.path_tree.specs.Find.{find_field, item_at, item_count}
-use Rattle.path_tree.specs.Put.{walk, chain, put_field, put_item, over, within_size, within_height, put}
-use Rattle.path_tree.specs.Kept.{CanWalk, Walks, HasPlan, IsPlan, IsMade, IsGrown, Fits, wrapped_size}
+use Rattle.path_tree.specs.Put.{walk, chain, put_field, put_item, over, within_size}
+use Rattle.path_tree.specs.Kept.{HasPlan, IsPlan, IsMade, IsGrown, Fits, wrapped_size}
 use Rattle.path_tree.specs.declared.path.Term.{Term}
 use Rattle.path_tree.specs.declared.path.Term.TheVariants as term
 use Rattle.path_tree.specs.declared.path.PutError.{PutError}
-use Rattle.path_tree.specs.declared.path.PutError.TheVariants.{TooLarge, TooHigh}
+use Rattle.path_tree.specs.declared.path.PutError.TheVariants.{TooLarge}
 use Rattle.path_tree.specs.declared.tree.Measure.{Measure}
 use Rattle.path_tree.proofs.Sizes.{IsChange, IsAddition, changes_field, changes_item, adds_field, adds_item, height_le-size, one_le-height}
 
@@ -164,34 +164,3 @@ pub past_end : (i : ℕ) (ts : List Plain) → None ≡ item_at i (items_of ts) 
 past_end i [] h = omega arith
 past_end zero (t ∷ ts) h = cc
 past_end (suc i) (t ∷ ts) h = omega (arith, past_end i ts h)
-
--- the whole put
-module _ (ms : List Term) (v t : Plain) where
-  pub admitted : (m : Measure) → HasPlan 0 ms v t m → max (tree_height t) m.height ≤ 100 → CanWalk ms v t
-  admitted m p low = record { passed = 0; after = p.after; is = p.is; size = omega (arith, p.size, p.small); height = omega (arith, p.high) }
-
-  pub too_high : (m : Measure) → HasPlan 0 ms v t m → tree_height t ≤ 100 → 100 < max (tree_height t) m.height → put ms v t ≡ Err TooHigh
-  too_high m p low over_limit = ap within_height (ap within_size p.is ∙ small (nat_lt 1000000 (tree_size p.after)) (grind (arith, nat_tests, p.size, p.small))) ∙ high (nat_lt 100 (tree_height p.after)) (grind (arith, nat_tests, p.low))
-    where
-      small : (b : Bool) → b ≡ false → cond b (Err TooLarge) (Ok p.after) ≡ Ok p.after
-      small b e = rw e refl
-
-      high : (b : Bool) → b ≡ true → cond b (Err TooHigh) (Ok p.after) ≡ Err TooHigh
-      high b e = rw e refl
-
-  pub walked : (u : Plain) → CanWalk ms v t → Walks ms v t u → put ms v t ≡ Ok u
-  walked u can walks =
-      let same : u ≡ can.after = ok_is (sym (walks can.passed) ∙ can.is) in
-      ap within_height (ap within_size (walks 0) ∙ small (nat_lt 1000000 (tree_size u)) (grind (arith, nat_tests, can.size, ap tree_size same))) ∙ low (nat_lt 100 (tree_height u)) (grind (arith, nat_tests, can.height, ap tree_height same))
-    where
-      the_ok : Plain → Result Plain PutError
-      the_ok w = Ok w
-
-      ok_is : {a b : Plain} → the_ok a ≡ the_ok b → a ≡ b
-      ok_is h = cc
-
-      small : (b : Bool) → b ≡ false → cond b (Err TooLarge) (Ok u) ≡ Ok u
-      small b e = rw e refl
-
-      low : (b : Bool) → b ≡ false → cond b (Err TooHigh) (Ok u) ≡ Ok u
-      low b e = rw e refl

@@ -1,6 +1,6 @@
 -- Equal trees.
 use Rattle.std.proofs.Common.{◌≡◌, ℕ, zero, suc, ◌+◌, ◌<◌, ◌≤◌, List, [], ◌∷◌, length, get_or, drop, refl, ap, sym, ◌∙◌, arith, add-one, ◌↔◌, IsTrue, false}
-use Rattle.path_tree.specs.Plain.{Plain, Items, no_items, item, Fields, no_fields, field, tree_size, items_size, fields_size}
+use Rattle.path_tree.specs.Plain.{Plain, item, field, tree_size, items_size, fields_size}
 use Rattle.path_tree.specs.declared.tree.Entry.{Entry}
 use Rattle.path_tree.specs.View.{items_of, fields_of}
 use Rattle.path_tree.specs.Find.{item_count, field_count}

@@ -242,7 +242,7 @@ fn term_of(alloc: Global, piece: &[u8]) -> Result<Option<Term>, AllocError>
     ensures { IfOk result (λ t. t ≡ term_of piece.now) }
 {
     if is_key(piece) {
-        Ok(key_term(alloc, piece)?)
+        Ok(Some(Term::Key(Key::from_bytes(alloc, piece)?)))
     } else if is_index(piece) {
         Ok(Some(Term::Index(number_of(piece))))
     } else {

@@ -114,6 +114,21 @@ impl Tree {
         })
     }
 
+    /// The same of a text in memory, which the tree shares.
+    pub fn shared_text(content: &Text) -> Result<Tree, Refused>
+        ensures value { IfOk result (λ t. t ≡ plain.text content.now) }
+        ensures ok { OnOk result (length content.now ≤ 1000000) }
+        ensures large { IsErrOf result Refused.TooLarge ↔ (1000000 < length content.now) }
+        ensures others { IfErr result (λ e. e ≢ Refused.TooLarge → e ≡ Refused.Memory) }
+    {
+        if content.as_str().len() > 1_000_000 {
+            return Err(Refused::TooLarge);
+        }
+        Ok(Tree {
+            node: Node::Text(content.share()?),
+        })
+    }
+
     /// A long.
     pub fn long(value: i64) -> Tree
         ensures { result ≡ plain.long value }

@@ -8,7 +8,7 @@ use Rattle.pan_lexer.specs.declared.parts.At.{At}
 use Rattle.pan_lexer.specs.declared.parts.Front.TheVariants.{Skip, Written, Int, Text, Document}
 use Rattle.pan_lexer.proofs.Ascii.{front_text}
 use Rattle.pan_lexer.proofs.Clean.{LeavesText, leaves_here, left_text}
-use Rattle.pan_lexer.proofs.Steps.{turned, still_within, tokens_none, goes_skip, goes_document, two_pushed}
+use Rattle.pan_lexer.proofs.Steps.{turned, written_alike, still_within, tokens_none, goes_skip, goes_document, two_pushed}
 use Rattle.pan_lexer.proofs.lexing.tokens_of.Goals as goal
 
 pub pieces-preserved-in-Skip : goal.pieces-preserved-in-Skip
@@ -28,8 +28,8 @@ pieces-preserved-in-Skip c =
       text = left_text c.pieces.at.start c.passed-at.result.start (c.in-Skip.n) c.args.bytes.now rest c.front_of.result.now c.behind-rest.ensures.value c.passed-at.ensures.start c.front_of.ensures.length leaves;
     }
 
-pub as_text-requires : goal.as_text-requires
-as_text-requires c =
+pub written_token-requires-clause-text : goal.written_token-requires-clause-text
+written_token-requires-clause-text c =
     let rest = c.behind-rest.result.now in
     let u : IsUtf8 rest = subst IsUtf8 (sym c.behind-rest.ensures.value) c.pieces.invariant.text in
     let leaves : LeavesText rest (Written c.in-Written.kind c.in-Written.n) = leaves_here c.is_naming.result rest c.in_ok-n.field-0 (Written c.in-Written.kind c.in-Written.n) c.in_ok-n.ensures.value c.in-Written.is u in
@@ -45,7 +45,7 @@ pieces-preserved-in-Written c =
     let within : (1 ≤ c.in-Written.n) × (c.in-Written.n ≤ length rest) = fits in
     record {
       read = turned c.args.file.now c.pieces.tokens.items (token c.args.file.now c.in-Written.kind c.pieces.at c.in-Written.n (take c.in-Written.n rest) ∷ []) c.push.new.self.items c.pieces.mode (mode_after c.pieces.mode c.in-Written.kind (take c.in-Written.n rest)) c.mode_after-mode.result c.pieces.at c.passed-at-in-Written.result c.args.bytes.now rest c.front_of-word.result.now c.is_naming.result (c.in-Written.n) c.in_ok-n.field-0 (Written c.in-Written.kind c.in-Written.n)
-          c.pieces-test.true c.behind-rest.ensures.value c.behind-rest.ensures.length c.is_naming.ensures c.in_ok-n.ensures.value c.in-Written.is c.in_ok-n.ensures.fits (λ h. within) (λ next. refl) (c.in_ok-push-in-Written.ensures.items ∙ ap (λ (t : Token). c.pieces.tokens.items ++ t ∷ []) (c.in_ok-token-in-Written.ensures ∙ ap (token c.args.file.now c.in-Written.kind c.pieces.at c.in-Written.n) (c.as_text.ensures ∙ c.front_of-word.ensures.value))) (c.mode_after-mode.ensures ∙ ap (mode_after c.pieces.mode c.in-Written.kind) c.front_of-word.ensures.value) c.front_of-word.ensures.value c.passed-at-in-Written.ensures.value c.passed-at-in-Written.ensures.start c.front_of-word.ensures.length
+          c.pieces-test.true c.behind-rest.ensures.value c.behind-rest.ensures.length c.is_naming.ensures c.in_ok-n.ensures.value c.in-Written.is c.in_ok-n.ensures.fits (λ h. within) (λ next. refl) (c.in_ok-push-in-Written.ensures.items ∙ ap (λ (t : Token). c.pieces.tokens.items ++ t ∷ []) (c.in_ok-written_token-in-Written.ensures ∙ written_alike c.args.file.now c.in-Written.kind c.pieces.at c.in-Written.n rest c.front_of-word.result.now c.front_of-word.ensures.length c.front_of-word.ensures.value)) (c.mode_after-mode.ensures ∙ ap (mode_after c.pieces.mode c.in-Written.kind) c.front_of-word.ensures.value) c.front_of-word.ensures.value c.passed-at-in-Written.ensures.value c.passed-at-in-Written.ensures.start c.front_of-word.ensures.length
           ∙ c.pieces.invariant.read;
       within = still_within c.pieces.at.start c.passed-at-in-Written.result.start (c.in-Written.n) c.args.bytes.now rest c.front_of-word.result.now c.behind-rest.ensures.length within.1 c.passed-at-in-Written.ensures.start c.front_of-word.ensures.length;
       line = c.passed-at-in-Written.ensures.line;
@@ -112,10 +112,10 @@ pieces-preserved c =
     let within : (1 ≤ c.in-Document.n + 1 + c.in-Document.k) × (c.in-Document.n + 1 + c.in-Document.k ≤ length rest) = (let h : c.in-Document.n + 1 + c.in-Document.k ≤ length rest = fits in (omega (arith, h), h)) in
     record {
       read = turned c.args.file.now c.pieces.tokens.items (token c.args.file.now kinds.Text c.pieces.at c.in-Document.n c.in-Document.value ∷ token c.args.file.now kinds.Sign (place_after c.pieces.at (take c.in-Document.n rest)) 1 (59 ∷ []) ∷ []) c.push-in-Document-2.new.self.items c.pieces.mode (mode_after c.pieces.mode kinds.Text []) c.mode_after-mode-in-Document.result c.pieces.at c.passed-at-in-Document.result c.args.bytes.now rest c.front_of-in-Document-2.result.now c.is_naming.result (c.in-Document.n + 1 + c.in-Document.k) c.in_ok-n.field-0 (Document c.in-Document.value c.in-Document.n c.in-Document.k)
-          c.pieces-test.true c.behind-rest.ensures.value c.behind-rest.ensures.length c.is_naming.ensures c.in_ok-n.ensures.value c.in-Document.is c.in_ok-n.ensures.fits (λ h. within) (goes_document c.args.file.now c.pieces.mode c.pieces.at rest c.in-Document.value c.in-Document.n c.in-Document.k) (two_pushed c.pieces.tokens.items c.push-in-Document.new.self.items c.push-in-Document-2.new.self.items (token c.args.file.now kinds.Text c.pieces.at c.in-Document.n c.in-Document.value) c.in_ok-token-in-Document.field-0 (token c.args.file.now kinds.Sign (place_after c.pieces.at (take c.in-Document.n rest)) 1 (59 ∷ []))
+          c.pieces-test.true c.behind-rest.ensures.value c.behind-rest.ensures.length c.is_naming.ensures c.in_ok-n.ensures.value c.in-Document.is c.in_ok-n.ensures.fits (λ h. within) (goes_document c.args.file.now c.pieces.mode c.pieces.at rest c.in-Document.value c.in-Document.n c.in-Document.k) (two_pushed c.pieces.tokens.items c.push-in-Document.new.self.items c.push-in-Document-2.new.self.items (token c.args.file.now kinds.Text c.pieces.at c.in-Document.n c.in-Document.value) c.in_ok-written_token-in-Document.field-0 (token c.args.file.now kinds.Sign (place_after c.pieces.at (take c.in-Document.n rest)) 1 (59 ∷ []))
           (c.in_ok-push-in-Document.ensures.items ∙ ap (λ (t : Token). c.pieces.tokens.items ++ t ∷ []) (c.in_ok-text_token-in-Document.ensures))
           c.in_ok-push-in-Document-2.ensures.items
-          (c.in_ok-token-in-Document.ensures ∙ ap (λ (a : At). token c.args.file.now kinds.Sign a 1 (59 ∷ [])) (c.passed-sign.ensures.value ∙ ap (place_after c.pieces.at) c.front_of-in-Document.ensures.value))) (c.mode_after-mode-in-Document.ensures) c.front_of-in-Document-2.ensures.value c.passed-at-in-Document.ensures.value c.passed-at-in-Document.ensures.start c.front_of-in-Document-2.ensures.length
+          (c.in_ok-written_token-in-Document.ensures ∙ ap (λ (a : At). token c.args.file.now kinds.Sign a 1 (59 ∷ [])) (c.passed-sign.ensures.value ∙ ap (place_after c.pieces.at) c.front_of-in-Document.ensures.value))) (c.mode_after-mode-in-Document.ensures) c.front_of-in-Document-2.ensures.value c.passed-at-in-Document.ensures.value c.passed-at-in-Document.ensures.start c.front_of-in-Document-2.ensures.length
           ∙ c.pieces.invariant.read;
       within = still_within c.pieces.at.start c.passed-at-in-Document.result.start (c.in-Document.n + 1 + c.in-Document.k) c.args.bytes.now rest c.front_of-in-Document-2.result.now c.behind-rest.ensures.length within.1 c.passed-at-in-Document.ensures.start c.front_of-in-Document-2.ensures.length;
       line = c.passed-at-in-Document.ensures.line;

@@ -1,7 +1,7 @@
-use Rattle.std.proofs.Common.{◌≡◌, ◌≤◌, rules, arith, sym}
+use Rattle.std.proofs.Common.{◌≤◌, rules, arith}
 use Rattle.path_tree.specs.Plain.{tree_size, fields_size, items_size}
 use Rattle.path_tree.specs.View.{fields_of, items_of}
-use Rattle.path_tree.proofs.Sames.{fields_lengths, items_lengths, entry_below, item_below, entries_equal, entries_differ, items_equal, items_differ, is_false}
+use Rattle.path_tree.proofs.Sames.{fields_lengths, items_lengths, entry_below, item_below, is_false}
 use Rattle.path_tree.proofs.tree.+same.Goals as goal
 
 pub comparing::same_entries-returns-then-first-second : goal.comparing::same_entries-returns-then-first-second

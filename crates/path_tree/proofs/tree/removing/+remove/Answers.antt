@@ -1,4 +1,4 @@
-use Rattle.std.proofs.Common.{◌≡◌, Some, ap, sym, ◌∙◌, subst, rules, arith}
+use Rattle.std.proofs.Common.{Some, ap, sym, ◌∙◌, subst, rules, arith}
 use Rattle.path_tree.specs.Plain.{dict, list, tree_size, tree_height}
 use Rattle.path_tree.specs.Kept.{FitsMade}
 use Rattle.path_tree.specs.Put.{put_field, put_item}
