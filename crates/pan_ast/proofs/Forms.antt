@@ -95,5 +95,7 @@ pub seen_reference : (r : RReference) → reference_seen r ≡ plain.Refer (out-
 seen_reference r = search (rules, the_lemmas)
 
 pub ruleset nodes = (seen_long, seen_text, seen_boolean, seen_undef, seen_null, seen_name, seen_call, seen_inside, seen_unary)
+
 pub ruleset steps = (seen_step_index, seen_step_binary, seen_step_and, seen_step_or)
+
 pub ruleset items = (seen_block, seen_if, seen_if_else, seen_while, seen_for, seen_foreach, seen_assign, seen_plain, seen_reference)
