@@ -1,11 +1,10 @@
 -- What each form of a tree in memory spells.
-use Rattle.std.proofs.Common.{◌≡◌, ◌∙◌, ap, ℕ, ℤ, List, map, Option, Some, None, Bool, rules, refl}
+use Rattle.std.proofs.Common.{◌≡◌, ◌∙◌, ap, ℕ, ℤ, List, map, Some, None, Bool, rules}
 use Rattle.std.specs.declared.vec.Vec.{Vec}
 use Rattle.std.specs.declared.boxed.Box.{Box}
 use Rattle.std.specs.declared.alloc.Global.{Global}
 use Rattle.path_tree.specs.declared.operators.UnaryOp.{UnaryOp}
 use Rattle.path_tree.specs.declared.operators.BinaryOp.{BinaryOp}
-use Rattle.pan_ast.specs.declared.place.Place.{Place}
 use Rattle.pan_ast.specs.declared.syntax.Item.{Item as RItem}
 use Rattle.pan_ast.specs.declared.syntax.Node.{Node as RNode}
 use Rattle.pan_ast.specs.declared.syntax.Reference.{Reference as RReference, out-Reference}

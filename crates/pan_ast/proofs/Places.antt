@@ -1,12 +1,11 @@
 -- The place of a node is that of what it spells.
-use Rattle.std.proofs.Common.{List, [], ◌∷◌, ◌≡◌, ◌∙◌, ap, refl, rules, Some, None}
+use Rattle.std.proofs.Common.{List, [], ◌∷◌, ◌≡◌, refl, rules}
 use Rattle.pan_ast.specs.declared.place.Place.{Place}
-use Rattle.pan_ast.specs.declared.syntax.Form.{out-Form, the_lemmas}
+use Rattle.pan_ast.specs.declared.syntax.Form.{the_lemmas}
 use Rattle.pan_ast.specs.declared.syntax.Form.TheOpen.{Form-F}
-use Rattle.pan_ast.specs.declared.syntax.Node.{Node as RNode, fold_out-Node}
-use Rattle.pan_ast.specs.declared.syntax.Item.{Item as RItem}
-use Rattle.pan_ast.specs.Syntax.{Step, stepped, steps_on, AtIndex, AtBinary, AtAnd, AtOr, Item, Node, Reference, node_place, item_place}
-use Rattle.pan_ast.specs.Seen.{item_seen, node_seen, form_step}
+use Rattle.pan_ast.specs.declared.syntax.Node.{Node as RNode}
+use Rattle.pan_ast.specs.Syntax.{Step, stepped, steps_on, AtIndex, AtBinary, AtAnd, AtOr, Item, Node, Reference, node_place}
+use Rattle.pan_ast.specs.Seen.{node_seen, form_step}
 
 stepped_place : (s : Step) (p : Place) (x : Node) → node_place (stepped p x s) ≡ p
 stepped_place (AtIndex i) p x = refl

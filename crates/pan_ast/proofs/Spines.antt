@@ -1,5 +1,5 @@
 -- A left operand and the steps after it.
-use Rattle.std.proofs.Common.{◌≡◌, ◌∙◌, ap, sym, refl, List, map, ◌++◌, [], ◌∷◌}
+use Rattle.std.proofs.Common.{◌≡◌, ◌∙◌, ap, refl, List, map, ◌++◌, [], ◌∷◌}
 use Rattle.std.proofs.lemmas.List.{map_push}
 use Rattle.std.specs.declared.vec.Vec.{Vec}
 use Rattle.std.specs.declared.boxed.Box.{Box}

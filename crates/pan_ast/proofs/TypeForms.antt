@@ -1,5 +1,5 @@
 -- What each form of a type in memory spells.
-use Rattle.std.proofs.Common.{option_map, ◌≡◌, ◌∙◌, ap, ℕ, List, map, Option, Some, None, Bool, rules, refl}
+use Rattle.std.proofs.Common.{option_map, ◌≡◌, ◌∙◌, ap, ℕ, List, map, Option, Bool, rules}
 use Rattle.std.specs.declared.vec.Vec.{Vec}
 use Rattle.std.specs.declared.alloc.Global.{Global}
 use Rattle.pan_ast.specs.declared.place.Place.{Place}
@@ -14,7 +14,7 @@ use Rattle.pan_ast.specs.declared.types.RecordForm.{RecordForm as RRecordForm}
 use Rattle.pan_ast.specs.Types as plain
 use Rattle.pan_ast.specs.Types.{fields_of}
 use Rattle.pan_ast.specs.Seen.{item_seen}
-use Rattle.pan_ast.specs.TypesSeen.{full_seen, type_seen, head_seen, record_seen, field_seen, body_seen}
+use Rattle.pan_ast.specs.TypesSeen.{full_seen, type_seen, head_seen, field_seen, body_seen}
 
 pub seen_own : (f : RField) (k : List ℕ) (p : Place) (r : Bool) (t : RFullType) → f ≡ field.Own k p r t → field_seen f ≡ plain.Own k p r (full_seen t)
 seen_own f k p r t e = ap field_seen e ∙ search (rules, the_lemmas)
