@@ -1,5 +1,5 @@
 ghost use Rattle.std.specs.Prelude.{◌≡◌, ◌∷◌, ◌≤◌, ◌<◌, [], length};
-ghost use Rattle.pan_ast.specs.Sorts.{look_up, signs, sort_of, words};
+ghost use Rattle.pan_ast.specs.Sorts.{at, code, is_plain, is_type_name, is_word, look_up, signs, sort_of, words};
 ghost use Rattle.pan_ast.specs.declared.sort.Sort.TheVariants.{Word, NoSign};
 
 use crate::token::TokenKind;
@@ -102,6 +102,42 @@ pub enum Sort {
     Range,
     /// No sign of the language; no token of the lexer is one.
     NoSign,
+}
+
+impl Sort {
+    fn code(self) -> u8
+        ensures { result ≡ code self }
+    {
+        self as u8
+    }
+
+    /// Whether the two sorts are the same.
+    pub fn is(self, other: Sort) -> bool
+        ensures { result ≡ at self other }
+    {
+        self.code() == other.code()
+    }
+
+    /// Whether it is a word, a quoted one or any other.
+    pub fn is_word(self) -> bool
+        ensures { result ≡ is_word self }
+    {
+        4 <= self.code() && self.code() <= 29
+    }
+
+    /// Whether it is a word that may be a name in an item.
+    pub fn is_plain(self) -> bool
+        ensures { result ≡ is_plain self }
+    {
+        13 <= self.code() && self.code() <= 29
+    }
+
+    /// Whether it is a word that may be the name of a type.
+    pub fn is_type_name(self) -> bool
+        ensures { result ≡ is_type_name self }
+    {
+        self.is_word() && !(13 <= self.code() && self.code() <= 16)
+    }
 }
 
 fn short_word(word: &str) -> Sort
