@@ -1,3 +1,10 @@
 pub mod Codes
 pub mod Detail
 pub mod Printed
+pub mod Sorts
+pub mod Syntax
+pub mod Types
+pub mod Templates
+pub mod Seen
+pub mod TypesSeen
+pub mod TemplatesSeen

@@ -21,10 +21,16 @@ pub enum Code {
     Double,
     /// F05: a whole number past 64 bits.
     IntegerTooLarge,
+    /// F06: a token that no template goes on with.
+    BadSyntax,
+    /// F07: constructs nested over 100 deep.
+    TooDeep,
     /// F16: a text, list or dict over its size or height.
     TooLarge,
     /// F18: a text that is no path.
     BadPath,
+    /// F46: a template whose name is not the file's, or whose kind does not fit.
+    WrongTemplate,
     /// F99: a form of template that this version of the compiler does not build.
     NotBuilt,
 }
@@ -40,8 +46,11 @@ impl Code {
             Code::OpenText => "F03",
             Code::Double => "F04",
             Code::IntegerTooLarge => "F05",
+            Code::BadSyntax => "F06",
+            Code::TooDeep => "F07",
             Code::TooLarge => "F16",
             Code::BadPath => "F18",
+            Code::WrongTemplate => "F46",
             Code::NotBuilt => "F99",
         }
     }

@@ -1,0 +1,81 @@
+use crate::place::Place;
+use path_tree::{BinaryOp, UnaryOp};
+use small_types::Text;
+
+/// An expression that may stand for a statement list, a condition or a loop, with the place of its first token.
+#[derive(Drop)]
+#[cycle(syntax)]
+pub struct Item {
+    pub place: Place,
+    pub form: ItemForm,
+}
+
+#[derive(Drop)]
+#[cycle(syntax)]
+pub enum ItemForm {
+    /// `{ item; item; .. }`
+    Block(Vec<Item>),
+    /// `if (condition) item`, and `else item` where there is one.
+    If(Box<Item>, Box<Item>, Option<Box<Item>>),
+    /// `while (condition) item`
+    While(Box<Item>, Box<Item>),
+    /// `for (first; condition; step) item`
+    For(Box<Item>, Box<Item>, Box<Item>, Box<Item>),
+    /// `foreach (key; value; items) item`
+    Foreach(Text, Text, Box<Item>, Box<Item>),
+    /// `reference = item`
+    Assign(Reference, Box<Item>),
+    /// A chain of operators.
+    Plain(Node),
+}
+
+/// What may stand before `=`: a name and the indexes after it, `name[item][item]..`.
+#[derive(Drop)]
+#[cycle(syntax)]
+pub struct Reference {
+    pub place: Place,
+    pub name: Text,
+    pub indexes: Vec<Item>,
+}
+
+/// An operand, or a chain of operators over operands, with the place of its first token.
+#[derive(Drop)]
+#[cycle(syntax)]
+pub struct Node {
+    pub place: Place,
+    pub form: Form,
+}
+
+#[derive(Drop)]
+#[cycle(syntax)]
+pub enum Form {
+    Long(i64),
+    Text(Text),
+    Boolean(bool),
+    Undef,
+    Null,
+    /// A name that is read.
+    Name(Text),
+    /// `name(item, item, ..)`
+    Call(Text, Vec<Item>),
+    /// `(item)`
+    Inside(Box<Item>),
+    /// An operator before its operand.
+    Unary(UnaryOp, Box<Node>),
+    /// A left operand and the steps to its right, one or more, taken from the left: `a * b + c` is `a` with two
+    /// steps. So a chain of any length is one node, and no deeper in memory than its operands.
+    Spine(Box<Node>, Box<Step>, Vec<Step>),
+}
+
+/// What stands to the right of a left operand.
+#[derive(Drop)]
+#[cycle(syntax)]
+pub enum Step {
+    /// `[item]`
+    Index(Item),
+    Binary(BinaryOp, Node),
+    /// `&& node`
+    And(Node),
+    /// `|| node`
+    Or(Node),
+}

@@ -1,0 +1,81 @@
+use crate::place::Place;
+use crate::syntax::Item;
+use crate::types::FullType;
+use path_tree::Name;
+use small_types::Text;
+use std::rc::Rc;
+
+/// The word before `template` in a header, or none.
+#[derive(Clone, Copy, PartialEq, Eq)]
+pub enum TemplateKind {
+    Ordinary,
+    Object,
+    Structure,
+    Unique,
+    Declaration,
+}
+
+/// A template: its header, `kind template name;`, and its statements. The place is that of the first token.
+#[derive(Drop)]
+pub struct Template {
+    pub kind: TemplateKind,
+    pub name: Name,
+    pub name_place: Place,
+    pub place: Place,
+    pub statements: Vec<Statement>,
+}
+
+/// A statement with the place of its first token.
+#[derive(Drop)]
+pub struct Statement {
+    pub place: Place,
+    pub form: StatementForm,
+}
+
+/// `last` says that `final` stands before the statement, `conditional` that it has `?=` in place of `=`. A path is
+/// the value of its text.
+#[derive(Drop)]
+pub enum StatementForm {
+    /// `"path" = item;`
+    Assign {
+        last: bool,
+        path: Text,
+        conditional: bool,
+        item: Item,
+    },
+    /// `variable name = item;`
+    Variable {
+        last: bool,
+        name: Text,
+        conditional: bool,
+        item: Item,
+    },
+    /// `function name = item;`
+    Function {
+        name: Text,
+        body: Rc<Item>,
+    },
+    /// `type name = type;`
+    Define {
+        name: Text,
+        full: FullType,
+    },
+    /// `bind "path" = type;`
+    Bind {
+        path: Text,
+        full: FullType,
+    },
+    /// `valid "path" = item;`
+    Valid {
+        path: Text,
+        body: Rc<Item>,
+    },
+    /// `include "name";` or `include { .. };`, the text or the block as an item.
+    Include {
+        item: Item,
+    },
+    /// `prefix "path";`
+    Prefix {
+        path: Text,
+    },
+}

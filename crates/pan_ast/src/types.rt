@@ -1,0 +1,80 @@
+use crate::place::Place;
+use crate::syntax::Item;
+use path_tree::Key;
+use small_types::Text;
+use std::rc::Rc;
+
+/// A type with its default and its test: `type = item with item`, each of the two where it is written.
+#[derive(Drop)]
+#[cycle(types)]
+pub struct FullType {
+    pub form: TypeForm,
+    pub default: Option<Item>,
+    pub with: Option<Rc<Item>>,
+}
+
+/// A head and the suffixes after it, in the order of the text.
+#[derive(Drop)]
+#[cycle(types)]
+pub struct TypeForm {
+    pub head: Head,
+    pub suffixes: Vec<Suffix>,
+}
+
+#[derive(Drop)]
+#[cycle(types)]
+pub enum Head {
+    /// `name` or `name(bounds)`
+    Named {
+        name: Text,
+        place: Place,
+        bounds: Option<Bounds>,
+    },
+    /// `{ field field .. }`, with `extensible` before it or not.
+    Record(RecordForm),
+    /// `choice("text", "text", ..)`, the texts in the order of the text.
+    Choice(Vec<Text>),
+}
+
+#[derive(Drop)]
+pub enum Suffix {
+    /// `[bounds]` or `[]`
+    List(Option<Bounds>),
+    /// `{bounds}` or `{}`
+    Dict(Option<Bounds>),
+    /// `*`
+    Link,
+}
+
+/// A range of numbers, with the place of its first token. Exactly `n` is from `n` to `n`.
+#[derive(Drop)]
+pub struct Bounds {
+    pub place: Place,
+    pub low: Option<i64>,
+    pub high: Option<i64>,
+}
+
+#[derive(Drop)]
+#[cycle(types)]
+pub struct RecordForm {
+    pub extensible: bool,
+    pub fields: Vec<Field>,
+}
+
+#[derive(Drop)]
+#[cycle(types)]
+pub enum Field {
+    /// `"key" : type` where it is required, `"key" ? type` where it is not. The place is that of the key.
+    Own {
+        key: Key,
+        place: Place,
+        required: bool,
+        full: FullType,
+    },
+    /// `include name`, with the place of the word and that of the name.
+    Include {
+        place: Place,
+        name: Text,
+        name_place: Place,
+    },
+}

@@ -1,0 +1,45 @@
+-- What a reading of tokens answers.
+use Rattle.std.specs.Prelude.{◌≡◌, ℕ, suc, ◌≤◌, ◌⊎◌, length, List, [], ◌∷◌, ◌++◌}
+use Rattle.pan_ast.specs.declared.token.Token.{Token}
+use Rattle.pan_ast.specs.Templates.{Template}
+use Rattle.pan_grammar.specs.Grammar.{Tokens}
+use Rattle.pan_grammar.specs.Templates.{IsTemplate}
+
+abbrev pub ParsesWhere : (ℕ → Tokens → Type 0) → Tokens → Template → Type 0
+ParsesWhere May ts z = IsTemplate May ts z
+
+-- the grammar, with no limit on depth
+abbrev pub Anywhere : ℕ → Tokens → Type 0
+Anywhere d ts = Unit {0}
+
+abbrev pub Parses : Tokens → Template → Type 0
+Parses ts z = ParsesWhere Anywhere ts z
+
+-- a construct of depth 101 begins in the last m tokens alone
+abbrev pub DeepInLast : ℕ → ℕ → Tokens → Type 0
+DeepInLast m d ts = (d ≤ 100) ⊎ (length ts ≤ m)
+
+-- some list of tokens that parses begins with these
+abbrev pub IsViable : Tokens → Type 0
+IsViable ts = (on : Tokens) × (z : Template) × Parses (ts ++ on) z
+
+-- and no construct of depth 101 begins in them
+abbrev pub IsShallow : Tokens → Type 0
+IsShallow ts = (on : Tokens) × (z : Template) × ParsesWhere (DeepInLast (length on)) (ts ++ on) z
+
+-- a syntax fault at the first token of bad: those before it begin a text that parses, with no construct of depth 101 in
+-- them, and no text that parses begins with those through it
+pub record IsFirstBad (ts bad : Tokens) : Type 0 where
+  pub before : Tokens
+  pub parts : ts ≡ before ++ bad
+  pub viable : IsShallow before
+  pub dead : (k : Token) (on : Tokens) → bad ≡ k ∷ on → IsViable (before ++ k ∷ []) → ⊥
+
+-- a fault of nesting at k: some text that parses begins with the tokens through k, and in each of those the first
+-- construct of depth 101 begins at k
+pub record IsTooDeep (ts : Tokens) (k : Token) (on : Tokens) : Type 0 where
+  pub before : Tokens
+  pub parts : ts ≡ before ++ k ∷ on
+  pub viable : IsViable (before ++ k ∷ [])
+  pub none_before : (other : Tokens) (z : Template) → Parses (before ++ k ∷ other) z → ParsesWhere (DeepInLast (suc (length other))) (before ++ k ∷ other) z
+  pub one_at : (other : Tokens) (z : Template) → ParsesWhere (DeepInLast (length other)) (before ++ k ∷ other) z → ⊥
