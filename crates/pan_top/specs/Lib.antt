@@ -6,4 +6,4 @@ pub mod Objects
 pub mod Answers
 pub mod Reports
 pub mod Session
-pub mod Templates
+pub mod Statements

@@ -1,25 +1,27 @@
 -- What compiling an object gives.
-use Rattle.std.specs.Prelude.{◌≡◌, ℕ, List, [], ◌∷◌, ◌++◌, Result, Ok, Err, nat_lt, length, if◌then◌else◌, codes}
+use Rattle.std.specs.Prelude.{◌≡◌, ℕ, List, [], ◌∷◌, ◌++◌, Result, Ok, Err, nat_lt, length, if◌then◌else◌, bytes_eq, codes}
 use Rattle.pan_ast.specs.Detail.{first_chars}
 use Rattle.pan_ast.specs.declared.place.Place.{Place}
 use Rattle.pan_ast.specs.declared.token.Token.{Token}
 use Rattle.pan_ast.specs.declared.fault.Fault.{Fault}
 use Rattle.pan_ast.specs.declared.fault.Code.TheVariants as code
+use Rattle.pan_ast.specs.Templates.{Template}
 use Rattle.pan_lexer.specs.Lexed.{lexed_file}
+use Rattle.pan_grammar.specs.Parsed.{parsed}
 use Rattle.path_tree.specs.Plain.{Plain, dict, no_fields}
 use Rattle.path_tree.specs.Plain as plain
 use Rattle.path_tree.specs.Put.{put}
 use Rattle.path_tree.specs.declared.path.PutError.{PutError}
 use Rattle.path_tree.specs.declared.path.PutError.TheVariants as refusal
 use Rattle.json_profile.specs.Json.{profile_of}
-use Rattle.pan_top.specs.declared.template.Assignment.{Assignment}
-use Rattle.pan_top.specs.declared.template.Literal.{Literal}
-use Rattle.pan_top.specs.declared.template.Literal.TheVariants as literal
+use Rattle.pan_top.specs.declared.statements.Assignment.{Assignment}
+use Rattle.pan_top.specs.declared.statements.Literal.{Literal}
+use Rattle.pan_top.specs.declared.statements.Literal.TheVariants as literal
 use Rattle.pan_top.specs.declared.compile.Outcome.{Outcome}
 use Rattle.pan_top.specs.declared.compile.Outcome.TheVariants as outcome
 use Rattle.pan_top.specs.declared.compile.CompileError.{CompileError}
 use Rattle.pan_top.specs.declared.compile.CompileError.TheVariants as errors
-use Rattle.pan_top.specs.Templates.{Read, template_of}
+use Rattle.pan_top.specs.Statements.{Read, assignments}
 
 -- a text over 1,000,000 bytes is too large for a tree
 abbrev pub literal_tree : Literal → Result Plain PutError
@@ -64,17 +66,32 @@ abbrev pub tree_after : List Assignment → Plain → Result Plain Fault
 tree_after [] tree = Ok tree
 tree_after (a ∷ more) tree = and_then (assigned a tree) (tree_after more)
 
--- tokens with which no template that is built goes on
+-- a construct that is not built
 abbrev pub not_built : Place → Fault
 not_built place = record { code = code.NotBuilt; place = place; detail = [] }
 
-abbrev pub tree_of_template : Read → Result Plain Fault
-tree_of_template (Ok assignments) = tree_after assignments (dict no_fields)
-tree_of_template (Err place) = Err (not_built place)
+abbrev pub tree_of_read : Read (List Assignment) → Result Plain Fault
+tree_of_read (Ok assignments) = tree_after assignments (dict no_fields)
+tree_of_read (Err place) = Err (not_built place)
 
-abbrev pub tree_of_tokens : List ℕ → Result (List Token) Fault → Result Plain Fault
-tree_of_tokens name (Ok tokens) = tree_of_template (template_of name tokens)
-tree_of_tokens name (Err fault) = Err fault
+-- a template with another name than its file's
+abbrev pub wrong_template : Place → Fault
+wrong_template place = record { code = code.WrongTemplate; place = place; detail = [] }
+
+abbrev pub tree_of_template : List ℕ → Template → Result Plain Fault
+tree_of_template name z = if bytes_eq z.name name then tree_of_read (assignments z.statements) else Err (wrong_template z.name_place)
+
+abbrev pub tree_of_parsed : List ℕ → Result Template Fault → Result Plain Fault
+tree_of_parsed name (Ok z) = tree_of_template name z
+tree_of_parsed name (Err fault) = Err fault
+
+-- the template of a text, from the file of this name
+abbrev pub parsed_tokens : Result (List Token) Fault → Result Template Fault
+parsed_tokens (Ok tokens) = parsed tokens
+parsed_tokens (Err fault) = Err fault
+
+abbrev pub template_of : List ℕ → List ℕ → Result Template Fault
+template_of file text = parsed_tokens (lexed_file file text)
 
 -- an object's template is in the file of its name
 abbrev pub file_of : List ℕ → List ℕ
@@ -82,7 +99,7 @@ file_of name = name ++ codes ".pan"
 
 -- the tree of an object with this text, or its fault
 abbrev pub tree_of : List ℕ → List ℕ → Result Plain Fault
-tree_of name text = tree_of_tokens name (lexed_file (file_of name) text)
+tree_of name text = tree_of_parsed name (template_of (file_of name) text)
 
 -- a line for each file that was read
 abbrev pub dependencies_of : List ℕ → List ℕ

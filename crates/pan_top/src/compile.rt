@@ -1,12 +1,14 @@
-ghost use Rattle.std.specs.Prelude.{◌≡◌, ◌≢◌, ◌≤◌, ◌++◌, IfOk, IfErr, OnOk, Ok, Err, codes, length};
+ghost use Rattle.std.specs.Prelude.{◌≡◌, ◌≢◌, ◌≤◌, ◌++◌, [], IfOk, IfErr, OnOk, Ok, Err, codes, length};
+ghost use Rattle.pan_ast.specs.TemplatesSeen.{template_seen};
 ghost use Rattle.path_tree.specs.Plain as plain;
-ghost use Rattle.pan_top.specs.Objects.{literal_tree, fault_of, put_at, assigned, tree_after, tree_of_template, tree_of, file_of, outcome_of, dependencies_of, IsFault};
+ghost use Rattle.pan_top.specs.Objects.{literal_tree, fault_of, put_at, assigned, tree_after, tree_of_template, template_of, tree_of, file_of, outcome_of, dependencies_of, IsFault};
 ghost use Rattle.pan_top.specs.declared.compile.CompileError.TheVariants.{Memory};
 
-use crate::template::{Assignment, Literal, TemplateError, template};
+use crate::statements::{Assignment, Literal, Unbuilt, assignments};
 use json_profile::profile_text;
-use pan_ast::{Code, Fault};
+use pan_ast::{Code, Fault, Place, Template};
 use pan_lexer::{LexError, lex};
+use pan_parser::{ParseError, parse};
 use path_tree::{PutError, Refused, Tree};
 use small_types::{Bytes, Text};
 use std::alloc::{AllocError, AllocFailed, Global};
@@ -112,6 +114,47 @@ fn tree_after(alloc: Global, assignments: &[Assignment]) -> Result<Tree, Compile
     Ok(tree)
 }
 
+/// A fault of this kind without a detail.
+fn fault_at(alloc: Global, code: Code, place: Place) -> Result<Fault, AllocError>
+    ensures { IfOk result (λ f. f ≡ record { code = code; place = place; detail = [] }) }
+{
+    Fault::new(alloc, code, place, "")
+}
+
+/// The tree of an object with this template.
+fn tree_of_template(alloc: Global, name: &str, template: &Template) -> Result<Tree, CompileError>
+    ensures ok { IfOk result (λ t. tree_of_template name.now (template_seen template.now) ≡ Ok t) }
+    ensures err { IfErr result (IsFault (tree_of_template name.now (template_seen template.now))) }
+{
+    if template.name.as_str() != name {
+        let place = template.name_place.share()?;
+        return Err(CompileError::Fault(fault_at(alloc, Code::WrongTemplate, place)?));
+    }
+    match assignments(alloc, &template.statements) {
+        Ok(assignments) => tree_after(alloc, &assignments),
+        Err(Unbuilt::At(place)) => Err(CompileError::Fault(fault_at(alloc, Code::NotBuilt, place)?)),
+        Err(Unbuilt::Memory) => Err(CompileError::Memory),
+    }
+}
+
+/// The template of a text, from the file of this name.
+fn template_of(alloc: Global, file: &Text, text: &[u8]) -> Result<Template, CompileError>
+    requires { length text.now ≤ 1000000 }
+    ensures ok { IfOk result (λ t. template_of file.now text.now ≡ Ok (template_seen t)) }
+    ensures err { IfErr result (IsFault (template_of file.now text.now)) }
+{
+    let tokens = match lex(alloc, text, file) {
+        Ok(tokens) => tokens,
+        Err(LexError::Fault(fault)) => return Err(CompileError::Fault(fault)),
+        Err(LexError::Memory) => return Err(CompileError::Memory),
+    };
+    match parse(alloc, tokens.as_slice()) {
+        Ok(template) => Ok(template),
+        Err(ParseError::Fault(fault)) => Err(CompileError::Fault(fault)),
+        Err(ParseError::Memory) => Err(CompileError::Memory),
+    }
+}
+
 /// The tree of an object.
 fn tree_of(alloc: Global, name: &str, file: &Text, text: &[u8]) -> Result<Tree, CompileError>
     requires short { length text.now ≤ 1000000 }
@@ -119,21 +162,8 @@ fn tree_of(alloc: Global, name: &str, file: &Text, text: &[u8]) -> Result<Tree, 
     ensures ok { IfOk result (λ t. tree_of name.now text.now ≡ Ok t) }
     ensures err { IfErr result (IsFault (tree_of name.now text.now)) }
 {
-    let tokens = match lex(alloc, text, file) {
-        Ok(tokens) => tokens,
-        Err(LexError::Fault(fault)) => return Err(CompileError::Fault(fault)),
-        Err(LexError::Memory) => return Err(CompileError::Memory),
-    };
-    match template(alloc, name, tokens.as_slice()) {
-        Ok(assignments) => tree_after(alloc, &assignments),
-        Err(TemplateError::NotBuilt(place)) => Err(CompileError::Fault(Fault::new(
-            alloc,
-            Code::NotBuilt,
-            place,
-            "",
-        )?)),
-        Err(TemplateError::Memory) => Err(CompileError::Memory),
-    }
+    let template = template_of(alloc, file, text)?;
+    tree_of_template(alloc, name, &template)
 }
 
 fn file_of(alloc: Global, name: &str) -> Result<Text, AllocError>
