@@ -62,6 +62,9 @@ for_parts p = Further AtSemicolon (λ a. Further AtSemicolon (λ c. Further AtCl
 abbrev pub foreach_parts : Place → List ℕ → List ℕ → Parts
 foreach_parts p k v = Further AtClose (λ r. Last (λ b. nodes.Foreach p k v r b))
 
+abbrev pub right_side : Reference → Parts
+right_side r = Last (λ y. assigned r y)
+
 -- what waits for an item, and what waits for a node of a level, from the inside out
 mutual
   pub data ItemStack : Type 0 where
@@ -159,50 +162,103 @@ when_some None f other = other
 
 -- ---- statements
 
--- a statement that begins at p, `final` or not
+-- the item, or the full type, of a statement
+abbrev pub item_of : Header → List Statement → (Item → Statement) → State
+item_of h ss make = NeedItem (Out (StatementItem h ss make))
+
+abbrev pub full_of : Header → List Statement → (FullType → Statement) → State
+full_of h ss make = NeedFull (StatementType h ss make)
+
+-- a statement that begins at p, after the word or the text that tells what it is
+abbrev pub path_read : Place → Bool → Header → List Statement → Token → State
+path_read p last h ss t = Takes ASetting (λ a. item_of h ss (λ i. stated p (statements.Assign last t.value (conditional a) i)))
+
+abbrev pub variable_read : Place → Bool → Header → List Statement → State
+variable_read p last h ss = Takes AWord (λ w. Takes ASetting (λ a. item_of h ss (λ i. stated p (statements.Variable last w.value (conditional a) i))))
+
+abbrev pub function_read : Place → Header → List Statement → State
+function_read p h ss = Takes AWord (λ w. Takes AnAssign (λ e. item_of h ss (λ i. stated p (statements.Function w.value i))))
+
+abbrev pub type_read : Place → Header → List Statement → State
+type_read p h ss = Takes AWord (λ w. Takes AnAssign (λ e. full_of h ss (λ f. stated p (statements.Define w.value f))))
+
+abbrev pub bind_read : Place → Header → List Statement → State
+bind_read p h ss = Takes AText (λ x. Takes AnAssign (λ e. full_of h ss (λ f. stated p (statements.Bind x.value f))))
+
+abbrev pub valid_read : Place → Header → List Statement → State
+valid_read p h ss = Takes AText (λ x. Takes AnAssign (λ e. item_of h ss (λ i. stated p (statements.Valid x.value i))))
+
+abbrev pub prefix_read : Place → Header → List Statement → State
+prefix_read p h ss = Takes AText (λ x. Takes ASemicolon (λ e. Statements h (ss ++ stated p (statements.Prefix x.value) ∷ [])))
+
 abbrev pub setting_at : Place → Bool → Header → List Statement → Token → Option State
-setting_at p last h ss t =
-    when sorts.Text (sort t) (Takes ASetting (λ a. NeedItem (Out (StatementItem h ss (λ i. stated p (statements.Assign last t.value (conditional a) i))))))
-    (when sorts.Variable (sort t) (Takes AWord (λ w. Takes ASetting (λ a. NeedItem (Out (StatementItem h ss (λ i. stated p (statements.Variable last w.value (conditional a) i))))))) None)
+setting_at p last h ss t = when sorts.Text (sort t) (path_read p last h ss t) (when sorts.Variable (sort t) (variable_read p last h ss) None)
 
 abbrev pub statements_at : Header → List Statement → Token → Option State
 statements_at h ss t =
     when sorts.End (sort t) (Done (template h ss))
     (when sorts.Final (sort t) (FinalRead t.place h ss)
-    (when sorts.Function (sort t) (Takes AWord (λ w. Takes AnAssign (λ e. NeedItem (Out (StatementItem h ss (λ i. stated t.place (statements.Function w.value i)))))))
-    (when sorts.«Type» (sort t) (Takes AWord (λ w. Takes AnAssign (λ e. NeedFull (StatementType h ss (λ f. stated t.place (statements.Define w.value f))))))
-    (when sorts.Bind (sort t) (Takes AText (λ x. Takes AnAssign (λ e. NeedFull (StatementType h ss (λ f. stated t.place (statements.Bind x.value f))))))
-    (when sorts.Valid (sort t) (Takes AText (λ x. Takes AnAssign (λ e. NeedItem (Out (StatementItem h ss (λ i. stated t.place (statements.Valid x.value i)))))))
+    (when sorts.Function (sort t) (function_read t.place h ss)
+    (when sorts.«Type» (sort t) (type_read t.place h ss)
+    (when sorts.Bind (sort t) (bind_read t.place h ss)
+    (when sorts.Valid (sort t) (valid_read t.place h ss)
     (when sorts.Include (sort t) (IncludeRead t.place h ss)
-    (when sorts.Prefix (sort t) (Takes AText (λ x. Takes ASemicolon (λ e. Statements h (ss ++ stated t.place (statements.Prefix x.value) ∷ []))))
+    (when sorts.Prefix (sort t) (prefix_read t.place h ss)
     (setting_at t.place false h ss t))))))))
 
+abbrev pub text_included_read : Place → Header → List Statement → Token → State
+text_included_read p h ss t = Takes ASemicolon (λ e. Statements h (ss ++ stated p (statements.Include (plain (nodes.Text t.place t.value))) ∷ []))
+
+abbrev pub block_included_read : Place → Header → List Statement → Token → State
+block_included_read p h ss t = BlockOpen t.place [] (Out (StatementItem h ss (λ i. stated p (statements.Include i))))
+
 abbrev pub included_at : Place → Header → List Statement → Token → Option State
-included_at p h ss t =
-    when sorts.Text (sort t) (Takes ASemicolon (λ e. Statements h (ss ++ stated p (statements.Include (plain (nodes.Text t.place t.value))) ∷ [])))
-    (when sorts.OpenBrace (sort t) (BlockOpen t.place [] (Out (StatementItem h ss (λ i. stated p (statements.Include i))))) None)
+included_at p h ss t = when sorts.Text (sort t) (text_included_read p h ss t) (when sorts.OpenBrace (sort t) (block_included_read p h ss t) None)
 
 -- a header that begins at p, after `template`
 abbrev pub name_wanted : TemplateKind → Place → State
 name_wanted kind p = Takes AName (λ n. Takes ASemicolon (λ s. Statements (record { kind = kind; place = p; name = n }) []))
 
+abbrev pub kind_read : Place → TemplateKind → State
+kind_read p kind = Takes ATemplate (λ w. name_wanted kind p)
+
 abbrev pub start_at : Token → Option State
-start_at t = when sorts.Template (sort t) (name_wanted kinds.Ordinary t.place) (when_some (kind_of (sort t)) (λ kind. Takes ATemplate (λ w. name_wanted kind t.place)) None)
+start_at t = when sorts.Template (sort t) (name_wanted kinds.Ordinary t.place) (when_some (kind_of (sort t)) (kind_read t.place) None)
 
 -- ---- types
 
+abbrev pub minus_read : (ℤ → State) → State
+minus_read next = Takes AnInt (λ n. next (neg_ℤ (number n)))
+
 abbrev pub signed_at : (ℤ → State) → Token → Option State
-signed_at next t = when sorts.Int (sort t) (next (number t)) (when sorts.Minus (sort t) (Takes AnInt (λ n. next (neg_ℤ (number n)))) None)
+signed_at next t = when sorts.Int (sort t) (next (number t)) (when sorts.Minus (sort t) (minus_read next) None)
+
+-- after `..` at the front, and after the second number
+abbrev pub high_wanted : Closing → Place → (Bounds → State) → State
+high_wanted c p next = NeedSigned (λ n. Takes (Closes c) (λ k. next (bounds p None (Some n))))
+
+abbrev pub high_read : Closing → Place → ℤ → (Bounds → State) → ℤ → State
+high_read c p n next m = Takes (Closes c) (λ k. next (bounds p (Some n) (Some m)))
 
 abbrev pub bounds_at : Closing → (Bounds → State) → Token → Option State
 bounds_at c next t =
-    when sorts.Range (sort t) (NeedSigned (λ n. Takes (Closes c) (λ k. next (bounds t.place None (Some n)))))
+    when sorts.Range (sort t) (high_wanted c t.place next)
     (signed_at (λ n. HasLow c t.place n next) t)
+
+-- after a key, and after `include`
+abbrev pub key_read : Token → Bool → List Field → FullStack → State
+key_read k extensible fs s = Takes AMark (λ c. NeedFull (InField k c extensible fs s))
+
+abbrev pub include_read : Token → Bool → List Field → FullStack → State
+include_read i extensible fs s = Takes ATypeName (λ n. FieldsOpen extensible (fs ++ included i n ∷ []) s)
+
+abbrev pub is_key_text : Token → Bool
+is_key_text t = at sorts.Text (sort t) && is_key t.value
 
 abbrev pub fields_at : Bool → List Field → FullStack → Token → Option State
 fields_at extensible fs s t =
-    when_that (at sorts.Text (sort t) && is_key t.value) (Takes AMark (λ c. NeedFull (InField t c extensible fs s)))
-    (when sorts.Include (sort t) (Takes ATypeName (λ n. FieldsOpen extensible (fs ++ included t n ∷ []) s))
+    when_that (is_key_text t) (key_read t extensible fs s)
+    (when sorts.Include (sort t) (include_read t extensible fs s)
     (when sorts.CloseBrace (sort t) (HasHead (recorded extensible fs) [] s) None))
 
 abbrev pub has_full : FullStack → FullType → Token → Option State
@@ -215,26 +271,47 @@ has_default f e s t = when sorts.With (sort t) (NeedItem (Out (AfterWith f e s))
 abbrev pub has_form : TypeForm → FullStack → Token → Option State
 has_form f s t = when sorts.Assign (sort t) (NeedItem (Out (AfterEquals f s))) (has_default f None s t)
 
+-- after `[` and `{` of a suffix
+abbrev pub list_open : Head → List Suffix → FullStack → State
+list_open h ss s = RangeOpen Brackets (λ b. HasHead h (ss ++ suffixes.List b ∷ []) s)
+
+abbrev pub dict_open : Head → List Suffix → FullStack → State
+dict_open h ss s = RangeOpen Braces (λ b. HasHead h (ss ++ suffixes.Dict b ∷ []) s)
+
 abbrev pub has_head : Head → List Suffix → FullStack → Token → Option State
 has_head h ss s t =
-    when sorts.OpenBracket (sort t) (RangeOpen Brackets (λ b. HasHead h (ss ++ suffixes.List b ∷ []) s))
-    (when sorts.OpenBrace (sort t) (RangeOpen Braces (λ b. HasHead h (ss ++ suffixes.Dict b ∷ []) s))
+    when sorts.OpenBracket (sort t) (list_open h ss s)
+    (when sorts.OpenBrace (sort t) (dict_open h ss s)
     (when sorts.Star (sort t) (HasHead h (ss ++ suffixes.Link ∷ []) s)
     (has_form (Formed h ss) s t)))
+
+-- after `extensible`, after `choice`, and after `,` in a choice
+abbrev pub extensible_read : FullStack → State
+extensible_read s = Takes AnOpenBrace (λ o. FieldsOpen true [] s)
+
+abbrev pub text_wanted : List (List ℕ) → FullStack → State
+text_wanted xs s = Takes AText (λ x. TextsOpen (xs ++ x.value ∷ []) s)
+
+abbrev pub choice_read : FullStack → State
+choice_read s = Takes AnOpen (λ o. text_wanted [] s)
+
+-- after the `(` of bounds
+abbrev pub bounds_wanted : Token → FullStack → State
+bounds_wanted n s = NeedBounds Parens (λ b. HasHead (named n (Some b)) [] s)
 
 abbrev pub full_at : Token → FullStack → Option State
 full_at t s =
     when sorts.OpenBrace (sort t) (FieldsOpen false [] s)
-    (when sorts.Extensible (sort t) (Takes AnOpenBrace (λ o. FieldsOpen true [] s))
-    (when sorts.Choice (sort t) (Takes AnOpen (λ o. Takes AText (λ x. TextsOpen (x.value ∷ []) s)))
+    (when sorts.Extensible (sort t) (extensible_read s)
+    (when sorts.Choice (sort t) (choice_read s)
     (when_that (is_type_name (sort t)) (NameRead t s) None)))
 
 abbrev pub name_then : Token → FullStack → Token → Option State
-name_then n s t = when sorts.Open (sort t) (NeedBounds Parens (λ b. HasHead (named n (Some b)) [] s)) (has_head (named n None) [] s t)
+name_then n s t = when sorts.Open (sort t) (bounds_wanted n s) (has_head (named n None) [] s t)
 
 abbrev pub texts_then : List (List ℕ) → FullStack → Token → Option State
 texts_then xs s t =
-    when sorts.Comma (sort t) (Takes AText (λ x. TextsOpen (xs ++ x.value ∷ []) s))
+    when sorts.Comma (sort t) (text_wanted xs s)
     (when sorts.Close (sort t) (HasHead (types.Choice xs) [] s) None)
 
 abbrev pub hole_has : Hole → Item → Token → Option State
@@ -251,13 +328,26 @@ unary_at t n =
     (when sorts.Open (sort t) (NeedItem (InParens t.place n))
     (when_some (unary_of (sort t)) (λ op. NeedUnary (Signed op t.place n)) None)))
 
+-- after `if`, `while`, `for` and `foreach`
+abbrev pub if_read : Place → ItemStack → State
+if_read p s = Takes AnOpen (λ o. NeedItem (InParts (if_parts p) s))
+
+abbrev pub while_read : Place → ItemStack → State
+while_read p s = Takes AnOpen (λ o. NeedItem (InParts (while_parts p) s))
+
+abbrev pub for_read : Place → ItemStack → State
+for_read p s = Takes AnOpen (λ o. NeedItem (InParts (for_parts p) s))
+
+abbrev pub foreach_read : Place → ItemStack → State
+foreach_read p s = Takes AnOpen (λ o. Takes AWord (λ k. Takes ASemicolon (λ s1. Takes AWord (λ v. Takes ASemicolon (λ s2. NeedItem (InParts (foreach_parts p k.value v.value) s))))))
+
 abbrev pub item_at : Token → ItemStack → Option State
 item_at t s =
     when sorts.OpenBrace (sort t) (BlockOpen t.place [] s)
-    (when sorts.If (sort t) (Takes AnOpen (λ o. NeedItem (InParts (if_parts t.place) s)))
-    (when sorts.While (sort t) (Takes AnOpen (λ o. NeedItem (InParts (while_parts t.place) s)))
-    (when sorts.For (sort t) (Takes AnOpen (λ o. NeedItem (InParts (for_parts t.place) s)))
-    (when sorts.Foreach (sort t) (Takes AnOpen (λ o. Takes AWord (λ k. Takes ASemicolon (λ s1. Takes AWord (λ v. Takes ASemicolon (λ s2. NeedItem (InParts (foreach_parts t.place k.value v.value) s)))))))
+    (when sorts.If (sort t) (if_read t.place s)
+    (when sorts.While (sort t) (while_read t.place s)
+    (when sorts.For (sort t) (for_read t.place s)
+    (when sorts.Foreach (sort t) (foreach_read t.place s)
     (when_that (is_plain (sort t)) (ItemWord t s)
     (unary_at t (down 9 (Chained s))))))))
 
@@ -290,7 +380,7 @@ has_primary n x t = when sorts.OpenBracket (sort t) (NeedItem (InIndex x n)) (ha
 abbrev pub has_reference : Token → List Item → Node → ItemStack → Token → Option State
 has_reference f is x s t =
     when sorts.OpenBracket (sort t) (NeedItem (InReference f is x s))
-    (when sorts.Assign (sort t) (NeedItem (InParts (Last (λ y. assigned (reference f is) y)) s))
+    (when sorts.Assign (sort t) (NeedItem (InParts (right_side (reference f is)) s))
     (has_node (down 9 (Chained s)) x t))
 
 abbrev pub step : State → Token → Option State
@@ -307,7 +397,7 @@ step (HasHead h ss s) t = has_head h ss s t
 step (NeedSigned next) t = signed_at next t
 step (NeedBounds c next) t = bounds_at c next t
 step (HasLow c p n next) t = when (closing c) (sort t) (next (bounds p (Some n) (Some n))) (when sorts.Range (sort t) (RangeRead c p n next) None)
-step (RangeRead c p n next) t = when (closing c) (sort t) (next (bounds p (Some n) None)) (signed_at (λ m. Takes (Closes c) (λ k. next (bounds p (Some n) (Some m)))) t)
+step (RangeRead c p n next) t = when (closing c) (sort t) (next (bounds p (Some n) None)) (signed_at (high_read c p n next) t)
 step (RangeOpen c next) t = when (closing c) (sort t) (next None) (bounds_at c (λ b. next (Some b)) t)
 step (NeedItem s) t = item_at t s
 step (NeedUnary n) t = unary_at t n
@@ -354,6 +444,43 @@ signed s = is_some (unary_of s)
 
 abbrev pub starts_record : Sort → Bool
 starts_record s = at sorts.OpenBrace s || at sorts.Extensible s
+
+-- what an item can begin with
+abbrev pub item_start : Sort → Bool
+item_start sorts.OpenBrace = true
+item_start sorts.If = true
+item_start sorts.While = true
+item_start sorts.For = true
+item_start sorts.Foreach = true
+item_start sorts.Int = true
+item_start sorts.Text = true
+item_start sorts.True = true
+item_start sorts.False = true
+item_start sorts.Undef = true
+item_start sorts.Null = true
+item_start sorts.Open = true
+item_start sorts.Plus = true
+item_start sorts.Minus = true
+item_start sorts.Not = true
+item_start sorts.Flip = true
+item_start sorts.With = true
+item_start sorts.Extensible = true
+item_start sorts.Include = true
+item_start sorts.Choice = true
+item_start sorts.Object = true
+item_start sorts.Structure = true
+item_start sorts.Unique = true
+item_start sorts.Declaration = true
+item_start sorts.Template = true
+item_start sorts.Final = true
+item_start sorts.Variable = true
+item_start sorts.Function = true
+item_start sorts.«Type» = true
+item_start sorts.Bind = true
+item_start sorts.Valid = true
+item_start sorts.Prefix = true
+item_start sorts.Word = true
+item_start _ = false
 
 -- the depth of the deepest construct that begins at a token, or 0
 abbrev pub unary_opens : ℕ → Sort → ℕ
