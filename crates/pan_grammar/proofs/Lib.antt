@@ -4,3 +4,7 @@ pub mod Sound
 pub mod Follow
 pub mod CompleteTypes
 pub mod Complete
+pub mod Fill
+pub mod Filled
+pub mod Ended
+pub mod Mays

@@ -26,7 +26,7 @@ use Rattle.pan_grammar.specs.Waiting.{IsOne, one, IsThat, that, StatementsWait, 
 use Rattle.pan_grammar.specs.Begins.{FullMay}
 use Rattle.pan_grammar.proofs.Tests.{at_true, at_miss, that_cases, that_only, when_cases, when_only, some_only, some_cases}
 
-both : (a b : Bool) → (a && b) ≡ true → (a ≡ true) × (b ≡ true)
+pub both : (a b : Bool) → (a && b) ≡ true → (a ≡ true) × (b ≡ true)
 both true b e = (refl, e)
 both false b e = absurd cc
 
