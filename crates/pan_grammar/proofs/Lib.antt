@@ -8,3 +8,6 @@ pub mod Fill
 pub mod Filled
 pub mod Ended
 pub mod Mays
+pub mod Runs
+pub mod Exact
+pub mod Ends
