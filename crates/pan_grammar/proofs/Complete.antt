@@ -31,7 +31,7 @@ item_at_other : (t : Token) (s : ItemStack) (P : Sort → Bool) → P sorts.Open
     → item_at t s ≡ when_that (is_plain (sort t)) (ItemWord t s) (unary_at t (down 9 (Chained s)))
 item_at_other t s P b1 b2 b3 b4 b5 h =
     miss sorts.OpenBrace (sort t) _ _ (differs P (sort t) sorts.OpenBrace h b1) ∙ (miss sorts.If (sort t) _ _ (differs P (sort t) sorts.If h b2) ∙ (miss sorts.While (sort t) _ _ (differs P (sort t) sorts.While h b3)
-        ∙ (miss sorts.For (sort t) _ _ (differs P (sort t) sorts.For h b4) ∙ miss sorts.Foreach (sort t) _ _ (differs P (sort t) sorts.Foreach h b5))))
+    ∙ (miss sorts.For (sort t) _ _ (differs P (sort t) sorts.For h b4) ∙ miss sorts.Foreach (sort t) _ _ (differs P (sort t) sorts.Foreach h b5))))
 
 pub item_word : (t : Token) (s : ItemStack) → is_plain (sort t) ≡ true → item_at t s ≡ Some (ItemWord t s)
 item_word t s e = item_at_other t s is_plain refl refl refl refl refl e ∙ taken (is_plain (sort t)) _ _ e
@@ -314,12 +314,11 @@ module _ (May : ℕ → Tokens → Type 0) where
   item_leads s t ts i rest z (a_while {o = o} {k = k} {ts = ts0} {ts1 = ts1} {c = c} {b = b} m e ko hc ke hb) w = (while_read t.place s, rw e refl, (o, ts0, that (at_is _ _ ko), (c, k ∷ ts1, hc, (b, ts1, rest, one ke, hb, w))))
   item_leads s t ts i rest z (a_for {o = o} {k1 = k1} {k2 = k2} {k3 = k3} {ts = ts0} {ts1 = ts1} {ts2 = ts2} {ts3 = ts3} {a = a} {c = c} {n = n} {b = b} m e ko ha e1 hc e2 hn e3 hb) w =
       (for_read t.place s, rw e refl, (o, ts0, that (at_is _ _ ko), (a, k1 ∷ ts1, ha, (c, ts1, k2 ∷ ts2, one e1, hc, (n, ts2, k3 ∷ ts3, one e2, hn, (b, ts3, rest, one e3, hb, w))))))
-  item_leads s t ts i rest z (a_foreach {o = o} {k = k} {s1 = s1} {v = v} {s2 = s2} {e = e1} {ts = ts0} {ts1 = ts1} {r = r} {b = b} m e ko kk k1 kv k2 hr ke hb) w =
-      (
-        foreach_read t.place s,
-        rw e refl,
-        (o, k ∷ s1 ∷ v ∷ s2 ∷ ts0, that (at_is _ _ ko), (k, s1 ∷ v ∷ s2 ∷ ts0, that kk, (s1, v ∷ s2 ∷ ts0, that (at_is _ _ k1), (v, s2 ∷ ts0, that kv, (s2, ts0, that (at_is _ _ k2), (r, e1 ∷ ts1, hr, (b, ts1, rest, one ke, hb, w))))))),
-      )
+  item_leads s t ts i rest z (a_foreach {o = o} {k = k} {s1 = s1} {v = v} {s2 = s2} {e = e1} {ts = ts0} {ts1 = ts1} {r = r} {b = b} m e ko kk k1 kv k2 hr ke hb) w = (
+    foreach_read t.place s,
+    rw e refl,
+    (o, k ∷ s1 ∷ v ∷ s2 ∷ ts0, that (at_is _ _ ko), (k, s1 ∷ v ∷ s2 ∷ ts0, that kk, (s1, v ∷ s2 ∷ ts0, that (at_is _ _ k1), (v, s2 ∷ ts0, that kv, (s2, ts0, that (at_is _ _ k2), (r, e1 ∷ ts1, hr, (b, ts1, rest, one ke, hb, w))))))),
+  )
   item_leads s t ts i rest z (an_assign {e = e} {ts1 = ts1} {r = r} {y = y} m h k it) w = assign_leads s t ts ts1 rest e r y z h k it w
   item_leads s t ts i rest z (a_chain {x = x} m c) w = let g = chain_split 9 (t ∷ ts) x rest c in unary_item s t ts g.0 x g.1 rest z g.2 g.3 w
 

@@ -1,7 +1,6 @@
 -- What completes a state with a token completes the state after it: statements and types.
-use Rattle.std.proofs.Common.{◌≡◌, ◌≢◌, ℕ, zero, suc, ℤ, neg_ℤ, Bool, true, false, List, [], ◌∷◌, ◌++◌, Option, Some, None, refl, sym, subst, append_assoc, ◌∙◌, ◌⊎◌, inl, inr}
+use Rattle.std.proofs.Common.{◌≡◌, ◌≢◌, ℕ, suc, ℤ, Bool, true, false, List, [], ◌∷◌, ◌++◌, Option, Some, None, refl, sym, subst, append_assoc, ◌∙◌, ◌⊎◌, inl, inr}
 use Rattle.std.proofs.lemmas.List.{append-nil}
-use Rattle.path_tree.specs.Grammar.{is_key, is_name}
 use Rattle.pan_ast.specs.declared.sort.Sort.{Sort}
 use Rattle.pan_ast.specs.declared.sort.Sort.TheVariants as sorts
 use Rattle.pan_ast.specs.declared.token.Token.{Token}
@@ -18,9 +17,9 @@ use Rattle.pan_ast.specs.Types as types
 use Rattle.pan_ast.specs.Templates.{Statement, Template}
 use Rattle.pan_ast.specs.Templates as statements
 use Rattle.pan_grammar.specs.Grammar.{Tokens, number, IsItem}
-use Rattle.pan_grammar.specs.Types.{bounds, named, recorded, own, included, is_suffix, IsSigned, a_number, a_negative, IsHigh, exactly, at_least, from_to, IsBounds, from_low, at_most, IsRange, no_range, a_range, IsBounded, unbounded, bounded, IsSuffixes, no_suffix, a_list, a_dict, a_link, IsTexts, no_text, a_text, IsOption, absent, present, IsFull, a_full, a_named, a_record, an_extensible, a_choice, IsFields, no_field, own_field, include_field}
+use Rattle.pan_grammar.specs.Types.{bounds, named, recorded, own, included, IsSigned, a_number, a_negative, IsHigh, exactly, at_least, from_to, IsBounds, from_low, at_most, IsRange, no_range, a_range, IsBounded, unbounded, bounded, IsSuffixes, no_suffix, a_list, a_dict, a_link, IsTexts, no_text, a_text, IsOption, absent, present, IsFull, a_full, a_named, a_record, an_extensible, a_choice, IsFields, no_field, own_field, include_field}
 use Rattle.pan_grammar.specs.Templates.{stated, kind_of, Header, template, IsSetting, of_path, of_variable, IsIncluded, text_included, block_included, IsStatement, a_setting, a_final, a_function, a_type, a_bind, a_valid, an_include, a_prefix, IsStatements, no_statement, a_statement, IsNamed, is_named, IsTemplate, ordinary, of_kind}
-use Rattle.pan_grammar.specs.Machine.{FullStack, StatementType, InField, Hole, StatementItem, AfterEquals, AfterWith, Out, Closing, Parens, closing, Wanted, Closes, fits, State, Start, Takes, Statements, FinalRead, IncludeRead, NeedFull, NameRead, TextsOpen, FieldsOpen, HasHead, NeedSigned, NeedBounds, HasLow, RangeRead, RangeOpen, NeedItem, Done, when, path_read, variable_read, function_read, type_read, bind_read, valid_read, prefix_read, setting_at, statements_at, text_included_read, block_included_read, included_at, name_wanted, kind_read, start_at, minus_read, signed_at, high_wanted, high_read, bounds_at, key_read, include_read, is_key_text, fields_at, has_full, has_default, has_form, list_open, dict_open, has_head, extensible_read, text_wanted, choice_read, full_at, bounds_wanted, name_then, texts_then, hole_has, step, full_holders}
+use Rattle.pan_grammar.specs.Machine.{FullStack, StatementType, InField, Hole, StatementItem, AfterEquals, AfterWith, Out, Closing, closing, Wanted, fits, State, Takes, Statements, FinalRead, IncludeRead, NameRead, TextsOpen, FieldsOpen, HasHead, HasLow, RangeRead, RangeOpen, NeedItem, Done, when, path_read, variable_read, function_read, type_read, bind_read, valid_read, prefix_read, setting_at, statements_at, text_included_read, block_included_read, included_at, name_wanted, kind_read, start_at, minus_read, signed_at, high_wanted, high_read, bounds_at, key_read, include_read, is_key_text, fields_at, has_full, has_default, has_form, list_open, dict_open, has_head, extensible_read, text_wanted, choice_read, full_at, bounds_wanted, name_then, texts_then, hole_has, step, full_holders}
 use Rattle.pan_grammar.specs.Waiting.{IsOne, one, IsThat, that, StatementsWait, StatementEnds, TypeGoes, FullWaits, HeadWaits, FieldsWait, DefaultWaits, HoleWaits, Completes}
 use Rattle.pan_grammar.proofs.Tests.{at_is, differs, taken, passed, hit, miss}
 use Rattle.pan_grammar.proofs.Follow.{or_false, and_true, item_end, number_start, bounds_start, closing_apart, number_bounds}
@@ -187,12 +186,11 @@ module _ (May : ℕ → Tokens → Type 0) where
   head_complete a ss s t ts z w = head_leads a ss s t ts z w.0 w.1 w.2 w.3
 
   pub full_leads : (s : FullStack) (t : Token) (ts : Tokens) (z : Template) (f : FullType) (rest : Tokens) → IsFull May (full_holders s) (t ∷ ts) f rest → FullWaits May s f rest z → Leads (full_at t s) ts z
-  full_leads s t ts z f rest (a_full {ts1 = r1} {ts2 = r2} {e = e} {w = w} (a_named {ts1 = r0} {b = b} {ss = ss} m k kb sx) d v) q =
-      (
-        NameRead t s,
-        miss sorts.OpenBrace (sort t) _ _ (differs is_type_name (sort t) sorts.OpenBrace k refl) ∙ (miss sorts.Extensible (sort t) _ _ (differs is_type_name (sort t) sorts.Extensible k refl) ∙ (miss sorts.Choice (sort t) _ _ (differs is_type_name (sort t) sorts.Choice k refl) ∙ taken (is_type_name (sort t)) _ _ k)),
-        (b, r0, kb, (ss, r1, sx, (e, w, r2, rest, d, v, q))),
-      )
+  full_leads s t ts z f rest (a_full {ts1 = r1} {ts2 = r2} {e = e} {w = w} (a_named {ts1 = r0} {b = b} {ss = ss} m k kb sx) d v) q = (
+    NameRead t s,
+    miss sorts.OpenBrace (sort t) _ _ (differs is_type_name (sort t) sorts.OpenBrace k refl) ∙ (miss sorts.Extensible (sort t) _ _ (differs is_type_name (sort t) sorts.Extensible k refl) ∙ (miss sorts.Choice (sort t) _ _ (differs is_type_name (sort t) sorts.Choice k refl) ∙ taken (is_type_name (sort t)) _ _ k)),
+    (b, r0, kb, (ss, r1, sx, (e, w, r2, rest, d, v, q))),
+  )
   full_leads s t ts z f rest (a_full {ts1 = r1} {ts2 = r2} {e = e} {w = w} (a_record {ts1 = r0} {fs = fs} {ss = ss} m n k g sx) d v) q = (FieldsOpen false [] s, rw k refl, (fs, r0, g, (ss, r1, sx, (e, w, r2, rest, d, v, q))))
   full_leads s t ts z f rest (a_full {ts1 = r1} {ts2 = r2} {e = e} {w = w} (an_extensible {o = o} {ts = ts0} {ts1 = r0} {fs = fs} {ss = ss} m n k ko g sx) d v) q =
       (extensible_read s, rw k refl, (o, ts0, that (at_is _ _ ko), (fs, r0, g, (ss, r1, sx, (e, w, r2, rest, d, v, q)))))

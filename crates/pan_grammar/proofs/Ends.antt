@@ -1,21 +1,18 @@
 -- A text whose last token is an End is never left wanting: a fault stands at a token.
-use Rattle.std.proofs.Common.{◌≡◌, ◌≢◌, ℕ, zero, suc, ℤ, Bool, true, false, List, [], ◌∷◌, ◌++◌, Option, Some, None, Result, Ok, Err, refl, sym, ◌∙◌, arith}
+use Rattle.std.proofs.Common.{◌≡◌, ◌≢◌, ℕ, zero, suc, Bool, true, false, List, [], ◌∷◌, ◌++◌, Option, Some, None, Err, refl, sym, ◌∙◌, arith}
 use Rattle.pan_ast.specs.declared.sort.Sort.TheVariants as sorts
 use Rattle.pan_ast.specs.declared.token.Token.{Token}
-use Rattle.pan_ast.specs.declared.place.Place.{Place}
-use Rattle.pan_ast.specs.declared.types.Bounds.{Bounds}
 use Rattle.pan_ast.specs.declared.types.Suffix.{Suffix}
 use Rattle.pan_ast.specs.Sorts.{sort}
 use Rattle.pan_ast.specs.Syntax.{Item, Node}
 use Rattle.pan_ast.specs.Syntax as nodes
 use Rattle.pan_ast.specs.Types.{FullType, Full, TypeForm, Formed, Head}
-use Rattle.pan_ast.specs.Types as types
 use Rattle.pan_ast.specs.Templates.{Template}
 use Rattle.pan_grammar.specs.Grammar.{Tokens, plain, joined, name, op_of, level}
 use Rattle.pan_grammar.specs.Types.{named, bounds}
 use Rattle.pan_grammar.specs.Templates.{template}
-use Rattle.pan_grammar.specs.Machine.{FullStack, StatementType, InField, Hole, StatementItem, AfterEquals, AfterWith, Divider, AtSemicolon, AtClose, divider, Last, Further, MayElse, ItemStack, Out, InBlock, InParts, InReference, InIndex, InParens, InCall, NodeStack, Chained, Signed, First, Operand, down, Closing, Parens, Brackets, Braces, closing, Wanted, ATemplate, AName, ASemicolon, AnAssign, ASetting, AText, AWord, ATypeName, AnInt, AnOpen, AnOpenBrace, AMark, Closes, fits, State, Start, Takes, Statements, FinalRead, IncludeRead, NeedFull, NameRead, TextsOpen, FieldsOpen, HasHead, NeedSigned, NeedBounds, HasLow, RangeRead, RangeOpen, NeedItem, NeedUnary, BlockOpen, WordRead, ItemWord, HasReference, CallOpen, HasItem, HasPrimary, HasNode, Done, when, when_that, item_at, unary_at, has_full, has_default, has_form, has_head, hole_has, has_item, has_node, has_primary, has_reference, signed_at, bounds_at, high_read, step, opens, over, Stop, Bad, Deep, and_run, at_end, run}
-use Rattle.pan_grammar.proofs.Tests.{at_is, at_false, passed, miss, none_passed, that_only}
+use Rattle.pan_grammar.specs.Machine.{FullStack, StatementType, InField, Hole, StatementItem, AfterEquals, AfterWith, Divider, AtSemicolon, AtClose, divider, Last, Further, MayElse, ItemStack, Out, InBlock, InParts, InReference, InIndex, InParens, InCall, NodeStack, Chained, Signed, First, Operand, down, Closing, Parens, Brackets, Braces, closing, Wanted, ATemplate, AName, ASemicolon, AnAssign, ASetting, AText, AWord, ATypeName, AnInt, AnOpen, AnOpenBrace, AMark, Closes, fits, State, Start, Takes, Statements, FinalRead, IncludeRead, NeedFull, NameRead, TextsOpen, FieldsOpen, HasHead, NeedSigned, NeedBounds, HasLow, RangeRead, RangeOpen, NeedItem, NeedUnary, BlockOpen, WordRead, ItemWord, HasReference, CallOpen, HasItem, HasPrimary, HasNode, Done, when, has_full, has_default, has_head, hole_has, has_item, has_node, has_primary, has_reference, signed_at, bounds_at, high_read, step, opens, over, Bad, and_run, at_end, run}
+use Rattle.pan_grammar.proofs.Tests.{miss, none_passed, that_only}
 use Rattle.pan_grammar.proofs.Follow.{op_none}
 
 -- nothing that is wanted is an End

@@ -1,24 +1,23 @@
 -- The tokens that fill a state complete it. What begins in them may be as deep as it likes.
-use Rattle.std.proofs.Common.{◌≡◌, ◌≢◌, ℕ, zero, suc, ℤ, length, ◌≤◌, arith, Bool, true, false, List, [], ◌∷◌, ◌++◌, Option, Some, None, refl, sym, ◌∙◌, ◌⊎◌, inl, inr}
+use Rattle.std.proofs.Common.{◌≡◌, ◌≢◌, ℕ, zero, suc, length, ◌≤◌, arith, true, List, [], ◌∷◌, ◌++◌, Some, None, refl, sym, ◌∙◌, inl, inr}
 use Rattle.pan_ast.specs.declared.sort.Sort.{Sort}
 use Rattle.pan_ast.specs.declared.sort.Sort.TheVariants as sorts
 use Rattle.pan_ast.specs.declared.template.TemplateKind.TheVariants as kinds
 use Rattle.pan_ast.specs.declared.types.Suffix.{Suffix}
-use Rattle.pan_ast.specs.Sorts.{sort}
 use Rattle.pan_ast.specs.Syntax.{Item, Node}
 use Rattle.pan_ast.specs.Syntax as nodes
 use Rattle.pan_ast.specs.Types.{FullType, Full, Formed, Head}
 use Rattle.pan_ast.specs.Types as types
 use Rattle.pan_ast.specs.Templates.{Statement, Template}
 use Rattle.pan_ast.specs.Templates as statements
-use Rattle.pan_grammar.specs.Grammar.{Tokens, NotElse, literal, joined, block, plain, name, called, inside, index, number, IsItem, a_chain, IsChain, a_unary, a_line, tail_ends, a_primary, suffix_ends, a_literal, closed, no_item, no_arg, args_end}
+use Rattle.pan_grammar.specs.Grammar.{Tokens, NotElse, joined, block, plain, name, called, inside, index, number, IsItem, a_chain, IsChain, a_unary, a_line, tail_ends, a_primary, suffix_ends, a_literal, closed, no_item, no_arg, args_end}
 use Rattle.pan_grammar.specs.Types.{bounds, named, recorded, own, a_number, exactly, from_low, no_range, IsBounded, unbounded, IsSuffixes, no_suffix, no_text, IsOption, absent, a_full, a_named, no_field}
 use Rattle.pan_grammar.specs.Templates.{stated, conditional, Header, template, of_path, text_included, no_statement, is_named, ordinary}
-use Rattle.pan_grammar.specs.Machine.{FullStack, StatementType, InField, Hole, StatementItem, AfterEquals, AfterWith, divider, Parts, Last, Further, MayElse, ItemStack, Out, InBlock, InParts, InReference, InIndex, InParens, InCall, NodeStack, Chained, Signed, First, Operand, closing, Wanted, AName, fits, State, Start, Takes, Statements, FinalRead, IncludeRead, NeedFull, NameRead, TextsOpen, FieldsOpen, HasHead, NeedSigned, NeedBounds, HasLow, RangeRead, RangeOpen, NeedItem, NeedUnary, BlockOpen, WordRead, ItemWord, HasReference, CallOpen, HasItem, HasPrimary, HasNode, Done, full_holders, holders, node_holders}
-use Rattle.pan_grammar.specs.Waiting.{IsOne, one, that, no_else, IsChainFrom, from_unary, from_line, PartsGo, StatementsWait, StatementEnds, FullWaits, HeadWaits, HoleWaits, ItemWaits, NodeWaits, Completes}
+use Rattle.pan_grammar.specs.Machine.{FullStack, StatementType, InField, Hole, StatementItem, AfterEquals, AfterWith, Parts, Last, Further, MayElse, ItemStack, Out, InBlock, InParts, InReference, InIndex, InParens, InCall, NodeStack, Chained, Signed, First, Operand, AName, State, Start, Takes, Statements, FinalRead, IncludeRead, NeedFull, NameRead, TextsOpen, FieldsOpen, HasHead, NeedSigned, NeedBounds, HasLow, RangeRead, RangeOpen, NeedItem, NeedUnary, BlockOpen, WordRead, ItemWord, HasReference, CallOpen, HasItem, HasPrimary, HasNode, Done, full_holders, holders}
+use Rattle.pan_grammar.specs.Waiting.{one, that, no_else, IsChainFrom, from_unary, from_line, PartsGo, StatementsWait, StatementEnds, FullWaits, HeadWaits, HoleWaits, ItemWaits, NodeWaits, Completes}
 use Rattle.path_tree.specs.Grammar.{is_name}
 use Rattle.pan_grammar.proofs.SoundTypes.{both}
-use Rattle.pan_grammar.proofs.Fill.{an_int, a_text_token, a_name_token, a_word, an_end, the_template, a_semicolon, an_equals, a_close_brace, a_close, a_close_bracket, sort_an_int, sort_a_text_token, sort_a_name_token, sort_a_word, sort_an_end, sort_the_template, sort_a_semicolon, sort_an_equals, sort_a_close_brace, sort_a_close, sort_a_close_bracket, divide, divides, close_by, closes_by, sample, sample_fits, zero_node, full_fill, hole_fill, parts_fill, item_fill, node_fill, fill, not_else}
+use Rattle.pan_grammar.proofs.Fill.{an_int, a_text_token, a_name_token, a_word, an_end, the_template, a_semicolon, an_equals, a_close_brace, sort_an_int, sort_a_text_token, sort_a_name_token, sort_a_word, sort_an_end, sort_the_template, sort_a_semicolon, sort_an_equals, sort_a_close_brace, sort_a_close, sort_a_close_bracket, divides, close_by, closes_by, sample, sample_fits, zero_node, full_fill, hole_fill, parts_fill, item_fill, node_fill, fill, not_else}
 
 name_fits : is_name a_name_token.value ≡ true
 unfolding sample
@@ -134,8 +133,7 @@ module _ (May : ℕ → Tokens → Type 0) (m : ℕ) (free : (d : ℕ) (ts : Tok
       (template q ((ss ++ stated p (statements.Include i) ∷ []) ++ []), (i, a_semicolon ∷ an_end ∷ [], text_included (free 1 _ h) sort_a_text_token, ended q ss (stated p (statements.Include i))))
   filled (NeedFull s) h =
       let a = Formed (named a_word None) [] in
-      let g = full_filled s (Full a None None) in
-      (
+      let g = full_filled s (Full a None None) in (
         g.0,
         (
           Full a None None,

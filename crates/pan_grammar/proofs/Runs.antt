@@ -1,12 +1,12 @@
 -- Whole runs.
-use Rattle.std.proofs.Common.{◌≡◌, ◌≢◌, ℕ, zero, suc, ◌≤◌, ◌<◌, length, Bool, true, false, cond, ltb, List, [], ◌∷◌, ◌++◌, Option, Some, None, Result, Ok, Err, refl, sym, ap, subst, append_assoc, ◌∙◌, ◌⊎◌, inl, inr, arith}
+use Rattle.std.proofs.Common.{◌≡◌, ℕ, suc, ◌≤◌, ◌<◌, length, Bool, true, false, [], ◌∷◌, ◌++◌, Option, Some, None, Ok, Err, refl, sym, ap, subst, append_assoc, inl, inr, arith}
 use Rattle.pan_ast.specs.declared.token.Token.{Token}
 use Rattle.pan_ast.specs.Templates.{Template}
 use Rattle.pan_grammar.specs.Grammar.{Tokens}
-use Rattle.pan_grammar.specs.Machine.{State, Start, Done, step, opens, over, Stop, Bad, Deep, and_run, at_end, run}
+use Rattle.pan_grammar.specs.Machine.{State, Start, Done, step, opens, over, Bad, Deep, and_run, at_end, run}
 use Rattle.pan_grammar.specs.Waiting.{Completes}
 use Rattle.pan_grammar.specs.Begins.{StepMay}
-use Rattle.pan_grammar.specs.Faults.{ParsesWhere, Anywhere, Parses, DeepInLast, IsViable, IsShallow, IsFirstBad, IsTooDeep}
+use Rattle.pan_grammar.specs.Faults.{ParsesWhere, Anywhere, Parses, DeepInLast, IsFirstBad, IsTooDeep}
 use Rattle.pan_grammar.proofs.Sound.{step_sound}
 use Rattle.pan_grammar.proofs.Complete.{step_complete}
 use Rattle.pan_grammar.proofs.Fill.{fill}

@@ -1,5 +1,5 @@
 -- Which constructs begin at a token that a state takes.
-use Rattle.std.specs.Prelude.{◌≡◌, ℕ, zero, suc, true, false, ◌∷◌}
+use Rattle.std.specs.Prelude.{◌≡◌, ℕ, suc, true, false, ◌∷◌}
 use Rattle.pan_ast.specs.declared.sort.Sort.TheVariants as sorts
 use Rattle.pan_ast.specs.declared.token.Token.{Token}
 use Rattle.pan_ast.specs.Sorts.{sort, at}

@@ -1,6 +1,6 @@
 -- Items. IsX d ts x rest says that an X stands at the front of the tokens ts, that x is its tree, and that rest
 -- stands after it; d constructs that count for the limit of nesting hold it.
-use Rattle.std.specs.Prelude.{◌≡◌, ◌≢◌, ℕ, zero, suc, ◌-◌, ◌^◌, min, ℤ, pos, Bool, true, false, List, [], ◌∷◌, Option, Some, None, ◌==◌, if◌then◌else◌}
+use Rattle.std.specs.Prelude.{◌≡◌, ◌≢◌, ℕ, zero, suc, ◌-◌, ◌^◌, min, ℤ, pos, true, false, List, [], ◌∷◌, Option, Some, None, ◌==◌, if◌then◌else◌}
 use Rattle.path_tree.specs.Grammar.{number_of}
 use Rattle.path_tree.specs.declared.operators.UnaryOp.{UnaryOp}
 use Rattle.path_tree.specs.declared.operators.UnaryOp.TheVariants as unary
