@@ -10,7 +10,9 @@ use Rattle.pan_ast.specs.Syntax.{Item, Node, Reference}
 use Rattle.pan_ast.specs.Syntax as nodes
 use Rattle.pan_ast.specs.Templates.{Template}
 use Rattle.pan_grammar.specs.Grammar.{Tokens, Operator, op_of, joined, level, literal, unary_of, block, plain, reference, assigned, name, called, inside, index, IsItem, a_block, an_if, an_if_else, a_while, a_for, a_foreach, a_chain, an_assign, IsReference, a_reference, IsIndexes, no_index, one_index, IsItems, no_item, items_from, IsMore, closed, closed_late, more, IsChain, a_unary, a_line, IsTail, tail_ends, tail_more, IsUnary, a_sign, a_primary, IsSuffix, suffix_ends, an_index, IsPrimary, a_literal, a_name, a_call, parens, IsArgs, no_arg, args_from, IsMoreArgs, args_end, more_args}
-use Rattle.pan_grammar.specs.Machine.{Last, Further, MayElse, divider, right_side, ItemStack, Out, InBlock, InParts, InReference, InIndex, InParens, InCall, NodeStack, Chained, Signed, First, Operand, down, State, Start, Takes, Statements, FinalRead, IncludeRead, NeedFull, NameRead, TextsOpen, FieldsOpen, HasHead, NeedSigned, NeedBounds, HasLow, RangeRead, RangeOpen, NeedItem, NeedUnary, BlockOpen, WordRead, ItemWord, HasReference, CallOpen, HasItem, HasPrimary, HasNode, Done, when_that, when, unary_at, if_read, while_read, for_read, foreach_read, item_at, has_item, has_node, has_primary, has_reference, step, holders, node_holders, item_start}
+use Rattle.pan_grammar.specs.States.{Last, Further, MayElse, divider, right_side, ItemStack, Out, InBlock, InParts, InReference, InIndex, InParens, InCall, NodeStack, Chained, Signed, First, Operand, down, State, Start, Takes, Statements, FinalRead, IncludeRead, NeedFull, NameRead, TextsOpen, FieldsOpen, HasHead, NeedSigned, NeedBounds, HasLow, RangeRead, RangeOpen, NeedItem, NeedUnary, BlockOpen, WordRead, ItemWord, HasReference, CallOpen, HasItem, HasPrimary, HasNode, Done}
+use Rattle.pan_grammar.specs.Machine.{when_that, when, unary_at, if_read, while_read, for_read, foreach_read, item_at, has_item, has_node, has_primary, has_reference, step}
+use Rattle.pan_grammar.specs.Depths.{holders, node_holders, item_start}
 use Rattle.pan_grammar.specs.Waiting.{IsOne, one, that, IsElse, no_else, an_else, IsChainFrom, from_unary, from_line, ReferenceGoes, ItemWaits, NodeWaits, PrimaryWaits, CallWaits, UnaryNeeded, Completes}
 use Rattle.pan_grammar.proofs.Tests.{at_is, differs, taken, passed, that_cases, hit, miss, when_cases, some_taken, none_passed, some_cases, some_only}
 use Rattle.pan_grammar.proofs.Follow.{item_end, level-item_end, divider_ends, op_level, op_none, bare_start, bare_not_plain, literal_bare, sign_bare, sign_no_literal, plain_no_literal, bare_item, plain_item}

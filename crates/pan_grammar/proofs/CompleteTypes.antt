@@ -19,7 +19,9 @@ use Rattle.pan_ast.specs.Templates as statements
 use Rattle.pan_grammar.specs.Grammar.{Tokens, number, IsItem}
 use Rattle.pan_grammar.specs.Types.{bounds, named, recorded, own, included, IsSigned, a_number, a_negative, IsHigh, exactly, at_least, from_to, IsBounds, from_low, at_most, IsRange, no_range, a_range, IsBounded, unbounded, bounded, IsSuffixes, no_suffix, a_list, a_dict, a_link, IsTexts, no_text, a_text, IsOption, absent, present, IsFull, a_full, a_named, a_record, an_extensible, a_choice, IsFields, no_field, own_field, include_field}
 use Rattle.pan_grammar.specs.Templates.{stated, kind_of, Header, template, IsSetting, of_path, of_variable, IsIncluded, text_included, block_included, IsStatement, a_setting, a_final, a_function, a_type, a_bind, a_valid, an_include, a_prefix, IsStatements, no_statement, a_statement, IsNamed, is_named, IsTemplate, ordinary, of_kind}
-use Rattle.pan_grammar.specs.Machine.{FullStack, StatementType, InField, Hole, StatementItem, AfterEquals, AfterWith, Out, Closing, closing, Wanted, fits, State, Takes, Statements, FinalRead, IncludeRead, NameRead, TextsOpen, FieldsOpen, HasHead, HasLow, RangeRead, RangeOpen, NeedItem, Done, when, path_read, variable_read, function_read, type_read, bind_read, valid_read, prefix_read, setting_at, statements_at, text_included_read, block_included_read, included_at, name_wanted, kind_read, start_at, minus_read, signed_at, high_wanted, high_read, bounds_at, key_read, include_read, is_key_text, fields_at, has_full, has_default, has_form, list_open, dict_open, has_head, extensible_read, text_wanted, choice_read, full_at, bounds_wanted, name_then, texts_then, hole_has, step, full_holders}
+use Rattle.pan_grammar.specs.States.{FullStack, StatementType, InField, Hole, StatementItem, AfterEquals, AfterWith, Out, Closing, closing, Wanted, fits, State, Takes, Statements, FinalRead, IncludeRead, NameRead, TextsOpen, FieldsOpen, HasHead, HasLow, RangeRead, RangeOpen, NeedItem, Done}
+use Rattle.pan_grammar.specs.Machine.{when, path_read, variable_read, function_read, type_read, bind_read, valid_read, prefix_read, setting_at, statements_at, text_included_read, block_included_read, included_at, name_wanted, kind_read, start_at, minus_read, signed_at, high_wanted, high_read, bounds_at, key_read, include_read, is_key_text, fields_at, has_full, has_default, has_form, list_open, dict_open, has_head, extensible_read, text_wanted, choice_read, full_at, bounds_wanted, name_then, texts_then, hole_has, step}
+use Rattle.pan_grammar.specs.Depths.{full_holders}
 use Rattle.pan_grammar.specs.Waiting.{IsOne, one, IsThat, that, StatementsWait, StatementEnds, TypeGoes, FullWaits, HeadWaits, FieldsWait, DefaultWaits, HoleWaits, Completes}
 use Rattle.pan_grammar.proofs.Tests.{at_is, differs, taken, passed, hit, miss}
 use Rattle.pan_grammar.proofs.Follow.{or_false, and_true, item_end, number_start, bounds_start, closing_apart, number_bounds}

@@ -12,7 +12,8 @@ use Rattle.pan_ast.specs.Templates.{Statement, Template}
 use Rattle.pan_grammar.specs.Grammar.{Tokens, joined, plain, name, IsItem, a_chain, an_assign, IsIndexes, no_index, IsItems, items_from, IsChain, a_unary, a_line, IsTail, tail_ends, IsUnary, a_primary, IsSuffix, suffix_ends, IsArgs, args_from}
 use Rattle.pan_grammar.specs.Types.{IsHigh, exactly, IsRange, a_range, IsFull, a_full}
 use Rattle.pan_grammar.specs.Templates.{IsStatement, IsStatements, a_statement}
-use Rattle.pan_grammar.specs.Machine.{FullStack, StatementType, InField, Hole, StatementItem, AfterEquals, AfterWith, Last, Further, MayElse, ItemStack, Out, InBlock, InParts, InReference, InIndex, InParens, InCall, NodeStack, Chained, Signed, First, Operand, down, State, Start, Takes, Statements, FinalRead, IncludeRead, NeedFull, NameRead, TextsOpen, FieldsOpen, HasHead, NeedSigned, NeedBounds, HasLow, RangeRead, RangeOpen, NeedItem, NeedUnary, BlockOpen, WordRead, ItemWord, HasReference, CallOpen, HasItem, HasPrimary, HasNode, Done, holders}
+use Rattle.pan_grammar.specs.States.{FullStack, StatementType, InField, Hole, StatementItem, AfterEquals, AfterWith, Last, Further, MayElse, ItemStack, Out, InBlock, InParts, InReference, InIndex, InParens, InCall, NodeStack, Chained, Signed, First, Operand, down, State, Start, Takes, Statements, FinalRead, IncludeRead, NeedFull, NameRead, TextsOpen, FieldsOpen, HasHead, NeedSigned, NeedBounds, HasLow, RangeRead, RangeOpen, NeedItem, NeedUnary, BlockOpen, WordRead, ItemWord, HasReference, CallOpen, HasItem, HasPrimary, HasNode, Done}
+use Rattle.pan_grammar.specs.Depths.{holders}
 use Rattle.pan_grammar.specs.Waiting.{IsOne, IsElse, no_else, IsChainFrom, ReferenceGoes, FullWaits, HoleWaits, ItemWaits, NodeWaits, PrimaryWaits, Completes}
 use Rattle.pan_grammar.proofs.Complete.{down_node}
 

@@ -13,7 +13,8 @@ use Rattle.pan_ast.specs.Templates as statements
 use Rattle.pan_grammar.specs.Grammar.{Tokens, NotElse, joined, block, plain, name, called, inside, index, number, IsItem, a_chain, IsChain, a_unary, a_line, tail_ends, a_primary, suffix_ends, a_literal, closed, no_item, no_arg, args_end}
 use Rattle.pan_grammar.specs.Types.{bounds, named, recorded, own, a_number, exactly, from_low, no_range, IsBounded, unbounded, IsSuffixes, no_suffix, no_text, IsOption, absent, a_full, a_named, no_field}
 use Rattle.pan_grammar.specs.Templates.{stated, conditional, Header, template, of_path, text_included, no_statement, is_named, ordinary}
-use Rattle.pan_grammar.specs.Machine.{FullStack, StatementType, InField, Hole, StatementItem, AfterEquals, AfterWith, Parts, Last, Further, MayElse, ItemStack, Out, InBlock, InParts, InReference, InIndex, InParens, InCall, NodeStack, Chained, Signed, First, Operand, AName, State, Start, Takes, Statements, FinalRead, IncludeRead, NeedFull, NameRead, TextsOpen, FieldsOpen, HasHead, NeedSigned, NeedBounds, HasLow, RangeRead, RangeOpen, NeedItem, NeedUnary, BlockOpen, WordRead, ItemWord, HasReference, CallOpen, HasItem, HasPrimary, HasNode, Done, full_holders, holders}
+use Rattle.pan_grammar.specs.States.{FullStack, StatementType, InField, Hole, StatementItem, AfterEquals, AfterWith, Parts, Last, Further, MayElse, ItemStack, Out, InBlock, InParts, InReference, InIndex, InParens, InCall, NodeStack, Chained, Signed, First, Operand, AName, State, Start, Takes, Statements, FinalRead, IncludeRead, NeedFull, NameRead, TextsOpen, FieldsOpen, HasHead, NeedSigned, NeedBounds, HasLow, RangeRead, RangeOpen, NeedItem, NeedUnary, BlockOpen, WordRead, ItemWord, HasReference, CallOpen, HasItem, HasPrimary, HasNode, Done}
+use Rattle.pan_grammar.specs.Depths.{full_holders, holders}
 use Rattle.pan_grammar.specs.Waiting.{one, that, no_else, IsChainFrom, from_unary, from_line, PartsGo, StatementsWait, StatementEnds, FullWaits, HeadWaits, HoleWaits, ItemWaits, NodeWaits, Completes}
 use Rattle.path_tree.specs.Grammar.{is_name}
 use Rattle.pan_grammar.proofs.SoundTypes.{both}

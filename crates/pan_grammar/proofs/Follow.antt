@@ -8,7 +8,8 @@ use Rattle.pan_ast.specs.declared.token.Token.{Token}
 use Rattle.pan_ast.specs.Sorts.{at, is_plain}
 use Rattle.pan_ast.specs.Syntax.{Node}
 use Rattle.pan_grammar.specs.Grammar.{literal, unary_of, level, Operator, operator, op_of}
-use Rattle.pan_grammar.specs.Machine.{Closing, Parens, Brackets, Braces, closing, Divider, AtSemicolon, AtClose, divider, signed, item_start}
+use Rattle.pan_grammar.specs.States.{Closing, Parens, Brackets, Braces, closing, Divider, AtSemicolon, AtClose, divider}
+use Rattle.pan_grammar.specs.Depths.{signed, item_start}
 
 pub or_false : (a b : Bool) → (a || b) ≡ false → (a ≡ false) × (b ≡ false)
 or_false false b e = (refl, e)

@@ -10,7 +10,8 @@ use Rattle.pan_ast.specs.Templates.{Template}
 use Rattle.pan_grammar.specs.Grammar.{Tokens, IsItem, a_block, an_if, an_if_else, a_while, a_for, a_foreach, a_chain, an_assign, IsReference, a_reference, IsItems, no_item, items_from, IsChain, a_unary, a_line, IsUnary, a_sign, a_primary, IsPrimary, a_literal, a_name, a_call, parens, IsArgs, no_arg, args_from}
 use Rattle.pan_grammar.specs.Types.{IsFull, a_full, IsType, a_named, a_record, an_extensible, a_choice}
 use Rattle.pan_grammar.specs.Templates.{IsIncluded, text_included, block_included}
-use Rattle.pan_grammar.specs.Machine.{State, IncludeRead, NeedFull, NeedItem, NeedUnary, BlockOpen, CallOpen, full_holders, holders, node_holders, signed, starts_record, unary_opens, item_opens, opens}
+use Rattle.pan_grammar.specs.States.{State, IncludeRead, NeedFull, NeedItem, NeedUnary, BlockOpen, CallOpen}
+use Rattle.pan_grammar.specs.Depths.{full_holders, holders, node_holders, signed, starts_record, unary_opens, item_opens, opens}
 use Rattle.pan_grammar.specs.Waiting.{Completes}
 use Rattle.pan_grammar.specs.Begins.{UnaryMay, ItemMay, FullMay, StepMay}
 use Rattle.pan_grammar.proofs.Tests.{differs, at_miss}

@@ -3,7 +3,9 @@ use Rattle.std.proofs.Common.{◌≡◌, ℕ, suc, ◌≤◌, ◌<◌, length, B
 use Rattle.pan_ast.specs.declared.token.Token.{Token}
 use Rattle.pan_ast.specs.Templates.{Template}
 use Rattle.pan_grammar.specs.Grammar.{Tokens}
-use Rattle.pan_grammar.specs.Machine.{State, Start, Done, step, opens, over, Bad, Deep, and_run, at_end, run}
+use Rattle.pan_grammar.specs.States.{State, Start, Done}
+use Rattle.pan_grammar.specs.Machine.{step, over, Bad, Deep, and_run, at_end, run}
+use Rattle.pan_grammar.specs.Depths.{opens}
 use Rattle.pan_grammar.specs.Waiting.{Completes}
 use Rattle.pan_grammar.specs.Begins.{StepMay}
 use Rattle.pan_grammar.specs.Faults.{ParsesWhere, Anywhere, Parses, DeepInLast, IsFirstBad, IsTooDeep}

@@ -1,7 +1,6 @@
--- Reading token by token: what is open, and where a token leads.
-use Rattle.std.specs.Prelude.{ℕ, zero, suc, ℤ, neg_ℤ, Bool, true, false, ◌||◌, ◌&&◌, nat_lt, is_some, List, [], ◌∷◌, ◌++◌, Option, Some, None, Result, Ok, Err, if◌then◌else◌}
-use Rattle.path_tree.specs.Grammar.{is_key, is_name}
-use Rattle.path_tree.specs.declared.operators.UnaryOp.{UnaryOp}
+-- Reading token by token: where a token leads.
+use Rattle.std.specs.Prelude.{ℕ, zero, suc, ℤ, neg_ℤ, Bool, true, false, ◌&&◌, nat_lt, List, [], ◌∷◌, ◌++◌, Option, Some, None, Result, Ok, Err, if◌then◌else◌}
+use Rattle.path_tree.specs.Grammar.{is_key}
 use Rattle.pan_ast.specs.declared.sort.Sort.{Sort}
 use Rattle.pan_ast.specs.declared.sort.Sort.TheVariants as sorts
 use Rattle.pan_ast.specs.declared.token.Token.{Token}
@@ -11,143 +10,18 @@ use Rattle.pan_ast.specs.declared.template.TemplateKind.TheVariants as kinds
 use Rattle.pan_ast.specs.declared.types.Bounds.{Bounds}
 use Rattle.pan_ast.specs.declared.types.Suffix.{Suffix}
 use Rattle.pan_ast.specs.declared.types.Suffix.TheVariants as suffixes
-use Rattle.pan_ast.specs.Sorts.{sort, at, is_word, is_plain, is_type_name}
+use Rattle.pan_ast.specs.Sorts.{sort, at, is_plain, is_type_name}
 use Rattle.pan_ast.specs.Syntax.{Item, Node, Reference, choice}
 use Rattle.pan_ast.specs.Syntax as nodes
 use Rattle.pan_ast.specs.Types.{FullType, Full, TypeForm, Formed, Head, Field}
 use Rattle.pan_ast.specs.Types as types
 use Rattle.pan_ast.specs.Templates.{Statement, Template}
 use Rattle.pan_ast.specs.Templates as statements
-use Rattle.pan_grammar.specs.Grammar.{Tokens, block, plain, reference, assigned, name, called, inside, index, number, literal, unary_of, Operator, op_of, joined}
-use Rattle.pan_grammar.specs.Types.{bounds, named, recorded, own, included, is_mark}
-use Rattle.pan_grammar.specs.Templates.{stated, is_setting, conditional, kind_of, Header, template}
-
--- ---- what is open
-
--- the statements before, and how the awaited full type makes the next one; or a record's field, its key, the sign
--- after it, whether the record is extensible, and the fields before
-pub data FullStack : Type 0 where
-  StatementType : Header → List Statement → (FullType → Statement) → FullStack
-  InField : Token → Token → Bool → List Field → FullStack → FullStack
-
--- what waits for an item, and is none
-pub data Hole : Type 0 where
-  StatementItem : Header → List Statement → (Item → Statement) → Hole
-  AfterEquals : TypeForm → FullStack → Hole
-  AfterWith : TypeForm → Option Item → FullStack → Hole
-
-pub data Divider : Type 0 where
-  AtSemicolon AtClose : Divider
-
-abbrev pub divider : Divider → Sort
-divider AtSemicolon = sorts.Semicolon
-divider AtClose = sorts.Close
-
--- the parts of an item from an awaited item on: it is the last; or a sign and further parts follow it; or perhaps an
--- `else` does
-pub data Parts : Type 0 where
-  Last : (Item → Item) → Parts
-  Further : Divider → (Item → Parts) → Parts
-  MayElse : (Item → Option Item → Item) → Parts
-
-abbrev pub if_parts : Place → Parts
-if_parts p = Further AtClose (λ c. MayElse (λ a b. choice p c a b))
-
-abbrev pub while_parts : Place → Parts
-while_parts p = Further AtClose (λ c. Last (λ b. nodes.While p c b))
-
-abbrev pub for_parts : Place → Parts
-for_parts p = Further AtSemicolon (λ a. Further AtSemicolon (λ c. Further AtClose (λ n. Last (λ b. nodes.For p a c n b))))
-
-abbrev pub foreach_parts : Place → List ℕ → List ℕ → Parts
-foreach_parts p k v = Further AtClose (λ r. Last (λ b. nodes.Foreach p k v r b))
-
-abbrev pub right_side : Reference → Parts
-right_side r = Last (λ y. assigned r y)
-
--- what waits for an item, and what waits for a node of a level, from the inside out
-mutual
-  pub data ItemStack : Type 0 where
-    Out : Hole → ItemStack
-    InBlock : Place → List Item → ItemStack → ItemStack
-    InParts : Parts → ItemStack → ItemStack
-    InReference : Token → List Item → Node → ItemStack → ItemStack
-    InIndex : Node → NodeStack zero → ItemStack
-    InParens : Place → NodeStack zero → ItemStack
-    InCall : Token → List Item → NodeStack zero → ItemStack
-
-  pub data NodeStack : ℕ → Type 0 where
-    Chained : ItemStack → NodeStack 9
-    Signed : UnaryOp → Place → NodeStack zero → NodeStack zero
-    First : {l : ℕ} → NodeStack (suc l) → NodeStack l
-    Operand : {l : ℕ} → Operator → Node → NodeStack (suc l) → NodeStack l
-
--- down to a Unary of an operand
-abbrev pub down : (l : ℕ) → NodeStack l → NodeStack zero
-down zero n = n
-down (suc l) n = down l (First n)
-
--- a sign that closes Bounds
-pub data Closing : Type 0 where
-  Parens Brackets Braces : Closing
-
-abbrev pub closing : Closing → Sort
-closing Parens = sorts.Close
-closing Brackets = sorts.CloseBracket
-closing Braces = sorts.CloseBrace
-
--- the tokens that stand alone at their place
-pub data Wanted : Type 0 where
-  ATemplate AName ASemicolon AnAssign ASetting AText AWord ATypeName AnInt AnOpen AnOpenBrace AMark : Wanted
-  Closes : Closing → Wanted
-
-abbrev pub fits : Wanted → Token → Bool
-fits ATemplate t = at sorts.Template (sort t)
-fits AName t = at sorts.Name (sort t) && is_name t.value
-fits ASemicolon t = at sorts.Semicolon (sort t)
-fits AnAssign t = at sorts.Assign (sort t)
-fits ASetting t = is_setting (sort t)
-fits AText t = at sorts.Text (sort t)
-fits AWord t = is_word (sort t)
-fits ATypeName t = is_type_name (sort t)
-fits AnInt t = at sorts.Int (sort t)
-fits AnOpen t = at sorts.Open (sort t)
-fits AnOpenBrace t = at sorts.OpenBrace (sort t)
-fits AMark t = is_mark (sort t)
-fits (Closes c) t = at (closing c) (sort t)
-
-pub data State : Type 0 where
-  Start : State
-  -- one token, and then the state that it leads to
-  Takes : Wanted → (Token → State) → State
-  -- the statements before
-  Statements : Header → List Statement → State
-  FinalRead : Place → Header → List Statement → State
-  IncludeRead : Place → Header → List Statement → State
-  NeedFull : FullStack → State
-  NameRead : Token → FullStack → State
-  TextsOpen : List (List ℕ) → FullStack → State
-  FieldsOpen : Bool → List Field → FullStack → State
-  HasHead : Head → List Suffix → FullStack → State
-  -- a number, Bounds, or perhaps Bounds, and then the state that they lead to
-  NeedSigned : (ℤ → State) → State
-  NeedBounds : Closing → (Bounds → State) → State
-  HasLow : Closing → Place → ℤ → (Bounds → State) → State
-  RangeRead : Closing → Place → ℤ → (Bounds → State) → State
-  RangeOpen : Closing → (Option Bounds → State) → State
-  NeedItem : ItemStack → State
-  NeedUnary : NodeStack zero → State
-  BlockOpen : Place → List Item → ItemStack → State
-  WordRead : Token → NodeStack zero → State
-  ItemWord : Token → ItemStack → State
-  HasReference : Token → List Item → Node → ItemStack → State
-  CallOpen : Token → NodeStack zero → State
-  HasItem : Item → ItemStack → State
-  HasPrimary : Node → NodeStack zero → State
-  HasNode : {l : ℕ} → Node → NodeStack l → State
-  Done : Template → State
-
--- ---- where a token leads
+use Rattle.pan_grammar.specs.Grammar.{Tokens, block, plain, reference, name, called, inside, index, number, literal, unary_of, Operator, op_of, joined}
+use Rattle.pan_grammar.specs.Types.{bounds, named, recorded, own, included}
+use Rattle.pan_grammar.specs.Templates.{stated, conditional, kind_of, Header, template}
+pub use Rattle.pan_grammar.specs.States.{FullStack, StatementType, InField, Hole, StatementItem, AfterEquals, AfterWith, Divider, AtSemicolon, AtClose, divider, Parts, Last, Further, MayElse, if_parts, while_parts, for_parts, foreach_parts, right_side, ItemStack, Out, InBlock, InParts, InReference, InIndex, InParens, InCall, NodeStack, Chained, Signed, First, Operand, down, Closing, Parens, Brackets, Braces, closing, Wanted, ATemplate, AName, ASemicolon, AnAssign, ASetting, AText, AWord, ATypeName, AnInt, AnOpen, AnOpenBrace, AMark, Closes, fits, State, Start, Takes, Statements, FinalRead, IncludeRead, NeedFull, NameRead, TextsOpen, FieldsOpen, HasHead, NeedSigned, NeedBounds, HasLow, RangeRead, RangeOpen, NeedItem, NeedUnary, BlockOpen, WordRead, ItemWord, HasReference, CallOpen, HasItem, HasPrimary, HasNode, Done}
+pub use Rattle.pan_grammar.specs.Depths.{full_holders, hole_holders, holders, node_holders, signed, starts_record, item_start, unary_opens, item_opens, full_opens, opens}
 
 -- the first where the test holds, or else the second
 abbrev pub when_that : {A : Type 0} → Bool → A → Option A → Option A
@@ -410,96 +284,6 @@ step (HasItem i s) t = has_item s i t
 step (HasPrimary x n) t = has_primary n x t
 step (HasNode x n) t = has_node n x t
 step (Done z) t = None
-
--- ---- how deep what begins is
-
--- how many constructs that count hold what is awaited
-abbrev pub full_holders : FullStack → ℕ
-full_holders (StatementType h ss make) = 0
-full_holders (InField k c e fs s) = suc (suc (full_holders s))
-
-abbrev pub hole_holders : Hole → ℕ
-hole_holders (StatementItem h ss make) = 0
-hole_holders (AfterEquals f s) = full_holders s
-hole_holders (AfterWith f e s) = full_holders s
-
-abbrev mutual
-  pub holders : ItemStack → ℕ
-  holders (Out o) = hole_holders o
-  holders (InBlock p is s) = suc (holders s)
-  holders (InParts parts s) = suc (holders s)
-  holders (InReference f is x s) = suc (holders s)
-  holders (InIndex x n) = node_holders n
-  holders (InParens p n) = node_holders n
-  holders (InCall f is n) = node_holders n
-
-  pub node_holders : {l : ℕ} → NodeStack l → ℕ
-  node_holders (Chained s) = suc (holders s)
-  node_holders (Signed op p n) = suc (node_holders n)
-  node_holders (First n) = node_holders n
-  node_holders (Operand op a n) = node_holders n
-
-abbrev pub signed : Sort → Bool
-signed s = is_some (unary_of s)
-
-abbrev pub starts_record : Sort → Bool
-starts_record s = at sorts.OpenBrace s || at sorts.Extensible s
-
--- what an item can begin with
-abbrev pub item_start : Sort → Bool
-item_start sorts.OpenBrace = true
-item_start sorts.If = true
-item_start sorts.While = true
-item_start sorts.For = true
-item_start sorts.Foreach = true
-item_start sorts.Int = true
-item_start sorts.Text = true
-item_start sorts.True = true
-item_start sorts.False = true
-item_start sorts.Undef = true
-item_start sorts.Null = true
-item_start sorts.Open = true
-item_start sorts.Plus = true
-item_start sorts.Minus = true
-item_start sorts.Not = true
-item_start sorts.Flip = true
-item_start sorts.With = true
-item_start sorts.Extensible = true
-item_start sorts.Include = true
-item_start sorts.Choice = true
-item_start sorts.Object = true
-item_start sorts.Structure = true
-item_start sorts.Unique = true
-item_start sorts.Declaration = true
-item_start sorts.Template = true
-item_start sorts.Final = true
-item_start sorts.Variable = true
-item_start sorts.Function = true
-item_start sorts.«Type» = true
-item_start sorts.Bind = true
-item_start sorts.Valid = true
-item_start sorts.Prefix = true
-item_start sorts.Word = true
-item_start _ = false
-
--- the depth of the deepest construct that begins at a token, or 0
-abbrev pub unary_opens : ℕ → Sort → ℕ
-unary_opens d s = if signed s then suc d else 0
-
-abbrev pub item_opens : ℕ → Sort → ℕ
-item_opens d s = if signed s then suc (suc d) else suc d
-
-abbrev pub full_opens : ℕ → Sort → ℕ
-full_opens d s = if starts_record s then suc (suc d) else suc d
-
-abbrev pub opens : State → Token → ℕ
-opens (NeedItem s) t = item_opens (holders s) (sort t)
-opens (NeedUnary n) t = unary_opens (node_holders n) (sort t)
-opens (BlockOpen p is s) t = if at sorts.CloseBrace (sort t) then 0 else item_opens (suc (holders s)) (sort t)
-opens (CallOpen f n) t = if at sorts.Close (sort t) then 0 else item_opens (node_holders n) (sort t)
-opens (NeedFull s) t = full_opens (full_holders s) (sort t)
-opens (IncludeRead p h ss) t = 1
-opens _ t = 0
 
 -- ---- whole readings
 
