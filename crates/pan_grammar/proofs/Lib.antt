@@ -11,3 +11,4 @@ pub mod Mays
 pub mod Runs
 pub mod Exact
 pub mod Ends
+pub mod TreesShallow

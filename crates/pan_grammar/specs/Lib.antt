@@ -7,3 +7,4 @@ pub mod Depths
 pub mod Machine
 pub mod Waiting
 pub mod Begins
+pub mod TreeDepths
