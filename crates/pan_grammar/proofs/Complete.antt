@@ -1,80 +1,22 @@
 -- What completes a state with a token completes the state after it: items, and all states.
-use Rattle.std.proofs.Common.{◌≡◌, ◌≢◌, ℕ, zero, suc, ◌<◌, Bool, true, false, List, [], ◌∷◌, ◌++◌, Option, Some, None, refl, sym, subst, append_assoc, ◌∙◌, ◌⊎◌, inl, inr, arith}
+use Rattle.std.proofs.Common.{◌≡◌, ◌≢◌, ℕ, zero, suc, ◌<◌, true, false, List, [], ◌∷◌, ◌++◌, Option, Some, None, refl, sym, subst, append_assoc, ◌∙◌, ◌⊎◌, inl, inr, arith}
 use Rattle.std.proofs.lemmas.List.{append-nil}
-use Rattle.path_tree.specs.declared.operators.UnaryOp.{UnaryOp}
 use Rattle.pan_ast.specs.declared.sort.Sort.{Sort}
 use Rattle.pan_ast.specs.declared.sort.Sort.TheVariants as sorts
 use Rattle.pan_ast.specs.declared.token.Token.{Token}
-use Rattle.pan_ast.specs.Sorts.{sort, is_plain}
+use Rattle.pan_ast.specs.Sorts.{sort}
 use Rattle.pan_ast.specs.Syntax.{Item, Node, Reference}
 use Rattle.pan_ast.specs.Syntax as nodes
 use Rattle.pan_ast.specs.Templates.{Template}
-use Rattle.pan_grammar.specs.Grammar.{Tokens, Operator, op_of, joined, level, literal, unary_of, block, plain, reference, assigned, name, called, inside, index, IsItem, a_block, an_if, an_if_else, a_while, a_for, a_foreach, a_chain, an_assign, IsReference, a_reference, IsIndexes, no_index, one_index, IsItems, no_item, items_from, IsMore, closed, closed_late, more, IsChain, a_unary, a_line, IsTail, tail_ends, tail_more, IsUnary, a_sign, a_primary, IsSuffix, suffix_ends, an_index, IsPrimary, a_literal, a_name, a_call, parens, IsArgs, no_arg, args_from, IsMoreArgs, args_end, more_args}
+use Rattle.pan_grammar.specs.Grammar.{Tokens, Operator, op_of, joined, level, literal, block, plain, reference, assigned, name, called, inside, index, IsItem, a_block, an_if, an_if_else, a_while, a_for, a_foreach, a_chain, an_assign, IsReference, a_reference, IsIndexes, no_index, one_index, IsItems, no_item, items_from, IsMore, closed, closed_late, more, IsChain, a_unary, a_line, IsTail, tail_ends, tail_more, IsUnary, a_sign, a_primary, IsSuffix, suffix_ends, an_index, IsPrimary, a_literal, a_name, a_call, parens, IsArgs, no_arg, args_from, IsMoreArgs, args_end, more_args}
 use Rattle.pan_grammar.specs.States.{Last, Further, MayElse, divider, right_side, ItemStack, Out, InBlock, InParts, InReference, InIndex, InParens, InCall, NodeStack, Chained, Signed, First, Operand, down, State, Start, Takes, Statements, FinalRead, IncludeRead, NeedFull, NameRead, TextsOpen, FieldsOpen, HasHead, NeedSigned, NeedBounds, HasLow, RangeRead, RangeOpen, NeedItem, NeedUnary, BlockOpen, WordRead, ItemWord, HasReference, CallOpen, HasItem, HasPrimary, HasNode, Done}
-use Rattle.pan_grammar.specs.Machine.{when_that, when, unary_at, if_read, while_read, for_read, foreach_read, item_at, has_item, has_node, has_primary, has_reference, step}
+use Rattle.pan_grammar.specs.Machine.{when, unary_at, if_read, while_read, for_read, foreach_read, item_at, has_item, has_node, has_primary, has_reference, step}
 use Rattle.pan_grammar.specs.Depths.{holders, node_holders, item_start}
 use Rattle.pan_grammar.specs.Waiting.{IsOne, one, that, IsElse, no_else, an_else, IsChainFrom, from_unary, from_line, ReferenceGoes, ItemWaits, NodeWaits, PrimaryWaits, CallWaits, UnaryNeeded, Completes}
-use Rattle.pan_grammar.proofs.Tests.{at_is, differs, taken, passed, that_cases, hit, miss, when_cases, some_taken, none_passed, some_cases, some_only}
-use Rattle.pan_grammar.proofs.Follow.{item_end, level-item_end, divider_ends, op_level, op_none, bare_start, bare_not_plain, literal_bare, sign_bare, sign_no_literal, plain_no_literal, bare_item, plain_item}
+use Rattle.pan_grammar.proofs.Tests.{at_is, differs, hit, miss, some_taken, none_passed}
+use Rattle.pan_grammar.proofs.Follow.{item_end, level-item_end, divider_ends, op_level, op_none, literal_bare, sign_bare}
+use Rattle.pan_grammar.proofs.Firsts.{unary_word, unary_sign, item_word, item_bare, item_first}
 use Rattle.pan_grammar.proofs.CompleteTypes.{one_cases, Leads, takes_complete, setting_leads, statements_complete, included_leads, start_complete, signed_leads, bounds_leads, low_complete, range_complete, open_complete, fields_complete, hole_complete, head_complete, full_leads, name_leads, texts_complete, hole_follow}
-
--- ---- where the first token of an item leads
-
-unary_word : (t : Token) (n : NodeStack zero) → is_plain (sort t) ≡ true → unary_at t n ≡ Some (WordRead t n)
-unary_word t n e = none_passed (literal (sort t) t) _ _ (plain_no_literal (sort t) t e) ∙ taken (is_plain (sort t)) _ _ e
-
-unary_sign : (t : Token) (n : NodeStack zero) (op : UnaryOp) → unary_of (sort t) ≡ Some op → unary_at t n ≡ Some (NeedUnary (Signed op t.place n))
-unary_sign t n op e =
-    none_passed (literal (sort t) t) _ _ (sign_no_literal (sort t) t op e) ∙ (passed (is_plain (sort t)) _ _ (bare_not_plain (sort t) (sign_bare (sort t) op e)) ∙ (miss sorts.Open (sort t) _ _ not_open ∙ some_taken (unary_of (sort t)) _ _ op e)) where
-      not_open : sort t ≢ sorts.Open
-      not_open q = let k : unary_of sorts.Open ≡ Some op = rw q at e in absurd cc
-
-item_at_other : (t : Token) (s : ItemStack) (P : Sort → Bool) → P sorts.OpenBrace ≡ false → P sorts.If ≡ false → P sorts.While ≡ false → P sorts.For ≡ false → P sorts.Foreach ≡ false → P (sort t) ≡ true
-    → item_at t s ≡ when_that (is_plain (sort t)) (ItemWord t s) (unary_at t (down 9 (Chained s)))
-item_at_other t s P b1 b2 b3 b4 b5 h =
-    miss sorts.OpenBrace (sort t) _ _ (differs P (sort t) sorts.OpenBrace h b1) ∙ (miss sorts.If (sort t) _ _ (differs P (sort t) sorts.If h b2) ∙ (miss sorts.While (sort t) _ _ (differs P (sort t) sorts.While h b3)
-    ∙ (miss sorts.For (sort t) _ _ (differs P (sort t) sorts.For h b4) ∙ miss sorts.Foreach (sort t) _ _ (differs P (sort t) sorts.Foreach h b5))))
-
-pub item_word : (t : Token) (s : ItemStack) → is_plain (sort t) ≡ true → item_at t s ≡ Some (ItemWord t s)
-item_word t s e = item_at_other t s is_plain refl refl refl refl refl e ∙ taken (is_plain (sort t)) _ _ e
-
-pub item_bare : (t : Token) (s : ItemStack) → bare_start (sort t) ≡ true → item_at t s ≡ unary_at t (down 9 (Chained s))
-item_bare t s e = item_at_other t s bare_start refl refl refl refl refl e ∙ passed (is_plain (sort t)) _ _ (bare_not_plain (sort t) e)
-
-unary_first : (t : Token) (n : NodeStack zero) (y : State) → unary_at t n ≡ Some y → item_start (sort t) ≡ true
-unary_first t n y e =
-    elim (some_cases (literal (sort t) t) (λ x. HasPrimary x n) _ y e) [
-      | inl h ↦ bare_item (sort t) (literal_bare (sort t) t h.0 h.1).0
-      | inr k ↦ elim (that_cases (is_plain (sort t)) (WordRead t n) _ y k.1) [
-        | inl h ↦ plain_item (sort t) h.0
-        | inr k ↦ elim (when_cases sorts.Open (sort t) (NeedItem (InParens t.place n)) _ y k.1) [
-          | inl h ↦ rw h.0 refl
-          | inr k ↦ let h = some_only (unary_of (sort t)) (λ op. NeedUnary (Signed op t.place n)) y k.1 in bare_item (sort t) (sign_bare (sort t) h.0 h.1)
-        ]
-      ]
-    ]
-
-pub item_first : (t : Token) (s : ItemStack) (y : State) → item_at t s ≡ Some y → item_start (sort t) ≡ true
-item_first t s y e =
-    elim (when_cases sorts.OpenBrace (sort t) (BlockOpen t.place [] s) _ y e) [
-      | inl h ↦ rw h.0 refl
-      | inr k ↦ elim (when_cases sorts.If (sort t) (if_read t.place s) _ y k.1) [
-        | inl h ↦ rw h.0 refl
-        | inr k ↦ elim (when_cases sorts.While (sort t) (while_read t.place s) _ y k.1) [
-          | inl h ↦ rw h.0 refl
-          | inr k ↦ elim (when_cases sorts.For (sort t) (for_read t.place s) _ y k.1) [
-            | inl h ↦ rw h.0 refl
-            | inr k ↦ elim (when_cases sorts.Foreach (sort t) (foreach_read t.place s) _ y k.1) [
-              | inl h ↦ rw h.0 refl
-              | inr k ↦ elim (that_cases (is_plain (sort t)) (ItemWord t s) _ y k.1) [
-                | inl h ↦ plain_item (sort t) h.0
-                | inr k ↦ unary_first t (down 9 (Chained s)) y k.1
-              ]
-            ]
-          ]
-        ]
-      ]
-    ]
 
 module _ (May : ℕ → Tokens → Type 0) where
   -- ---- what the grammar's lines are at a first token

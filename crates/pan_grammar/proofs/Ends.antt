@@ -12,7 +12,7 @@ use Rattle.pan_grammar.specs.Grammar.{Tokens, plain, joined, name, op_of, level}
 use Rattle.pan_grammar.specs.Types.{named, bounds}
 use Rattle.pan_grammar.specs.Templates.{template}
 use Rattle.pan_grammar.specs.States.{FullStack, StatementType, InField, Hole, StatementItem, AfterEquals, AfterWith, Divider, AtSemicolon, AtClose, divider, Last, Further, MayElse, ItemStack, Out, InBlock, InParts, InReference, InIndex, InParens, InCall, NodeStack, Chained, Signed, First, Operand, down, Closing, Parens, Brackets, Braces, closing, Wanted, ATemplate, AName, ASemicolon, AnAssign, ASetting, AText, AWord, ATypeName, AnInt, AnOpen, AnOpenBrace, AMark, Closes, fits, State, Start, Takes, Statements, FinalRead, IncludeRead, NeedFull, NameRead, TextsOpen, FieldsOpen, HasHead, NeedSigned, NeedBounds, HasLow, RangeRead, RangeOpen, NeedItem, NeedUnary, BlockOpen, WordRead, ItemWord, HasReference, CallOpen, HasItem, HasPrimary, HasNode, Done}
-use Rattle.pan_grammar.specs.Machine.{when, has_full, has_default, has_head, hole_has, has_item, has_node, has_primary, has_reference, signed_at, bounds_at, high_read, step, over, Bad, and_run, at_end, run}
+use Rattle.pan_grammar.specs.Machine.{when, has_full, has_default, has_head, hole_has, has_item, has_node, has_primary, has_reference, signed_at, bounds_at, high_read, step, over, Bad, Deep, and_run, at_end, run}
 use Rattle.pan_grammar.specs.Depths.{opens}
 use Rattle.pan_grammar.proofs.Tests.{miss, none_passed, that_only}
 use Rattle.pan_grammar.proofs.Follow.{op_none}
@@ -139,3 +139,15 @@ never_left (t ∷ before) end σ e h = by (λ y k. never_left before end y e k) 
   by again None q b k = cc
   by again (Some y) q true k = cc
   by again (Some y) q false k = again y k
+
+-- a fault of nesting stands at a token, in any text
+pub deep_somewhere : (ts : Tokens) (σ : State) → run ts σ ≡ Err (Deep []) → ⊥
+deep_somewhere [] σ h = none σ h where
+  none : (σ : State) → at_end σ ≡ Err (Deep []) → ⊥
+  none (Done z) h = cc
+  none _ h = cc
+deep_somewhere (t ∷ ts) σ h = by (λ y k. deep_somewhere ts y k) (step σ t) (over (opens σ t)) h where
+  by : ((y : State) → run ts y ≡ Err (Deep []) → ⊥) → (o : Option State) (b : Bool) → and_run o b (run ts) (t ∷ ts) ≡ Err (Deep []) → ⊥
+  by again None b k = cc
+  by again (Some y) true k = cc
+  by again (Some y) false k = again y k

@@ -2,6 +2,7 @@ pub mod Tests
 pub mod SoundTypes
 pub mod Sound
 pub mod Follow
+pub mod Firsts
 pub mod CompleteTypes
 pub mod Complete
 pub mod Fill

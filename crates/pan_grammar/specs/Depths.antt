@@ -3,7 +3,7 @@ use Rattle.std.specs.Prelude.{ℕ, suc, Bool, true, false, ◌||◌, is_some, if
 use Rattle.pan_ast.specs.declared.sort.Sort.{Sort}
 use Rattle.pan_ast.specs.declared.sort.Sort.TheVariants as sorts
 use Rattle.pan_ast.specs.declared.token.Token.{Token}
-use Rattle.pan_ast.specs.Sorts.{sort, at}
+use Rattle.pan_ast.specs.Sorts.{sort, at, is_type_name}
 use Rattle.pan_grammar.specs.Grammar.{unary_of}
 use Rattle.pan_grammar.specs.States.{FullStack, StatementType, InField, Hole, StatementItem, AfterEquals, AfterWith, ItemStack, Out, InBlock, InParts, InReference, InIndex, InParens, InCall, NodeStack, Chained, Signed, First, Operand, State, IncludeRead, NeedFull, NeedItem, NeedUnary, BlockOpen, CallOpen}
 
@@ -75,6 +75,10 @@ item_start sorts.Valid = true
 item_start sorts.Prefix = true
 item_start sorts.Word = true
 item_start _ = false
+
+-- what a full type can begin with
+abbrev pub full_start : Sort → Bool
+full_start s = is_type_name s || (at sorts.OpenBrace s || (at sorts.Extensible s || at sorts.Choice s))
 
 -- the depth of the deepest construct that begins at a token, or 0
 abbrev pub unary_opens : ℕ → Sort → ℕ
