@@ -92,14 +92,6 @@ pub sort_an_equals : sort an_equals ≡ sorts.Assign
 unfolding an_equals written
 sort_an_equals = refl
 
-pub sort_an_open : sort an_open ≡ sorts.Open
-unfolding an_open written
-sort_an_open = refl
-
-pub sort_an_open_brace : sort an_open_brace ≡ sorts.OpenBrace
-unfolding an_open_brace written
-sort_an_open_brace = refl
-
 pub sort_a_close_brace : sort a_close_brace ≡ sorts.CloseBrace
 unfolding a_close_brace written
 sort_a_close_brace = refl
@@ -111,10 +103,6 @@ sort_a_close = refl
 pub sort_a_close_bracket : sort a_close_bracket ≡ sorts.CloseBracket
 unfolding a_close_bracket written
 sort_a_close_bracket = refl
-
-pub sort_a_colon : sort a_colon ≡ sorts.Colon
-unfolding a_colon written
-sort_a_colon = refl
 
 pub divide : Divider → Token
 divide AtSemicolon = a_semicolon

@@ -17,13 +17,13 @@ use Rattle.pan_grammar.specs.Grammar.{assigned, Operator}
 use Rattle.pan_grammar.specs.Types.{is_mark}
 use Rattle.pan_grammar.specs.Templates.{is_setting, Header}
 
--- the statements before, and how the awaited full type makes the next one; or a record's field, its key, the sign
--- after it, whether the record is extensible, and the fields before
+-- what waits for a full type: a statement, by those before it and by how the type makes it; or a field, by its key, the
+-- sign after it, whether the record is extensible, the fields before, and what waits for the record's full type
 pub data FullStack : Type 0 where
   StatementType : Header → List Statement → (FullType → Statement) → FullStack
   InField : Token → Token → Bool → List Field → FullStack → FullStack
 
--- what waits for an item, and is none
+-- what waits for an item, and is no item itself
 pub data Hole : Type 0 where
   StatementItem : Header → List Statement → (Item → Statement) → Hole
   AfterEquals : TypeForm → FullStack → Hole

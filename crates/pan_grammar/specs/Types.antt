@@ -62,6 +62,9 @@ pub data IsBounds : Tokens → Bounds → Tokens → Type 0 where
   at_most : {r : Token} {ts rest : Tokens} {n : ℤ}
       → sort r ≡ sorts.Range → IsSigned ts n rest → IsBounds (r ∷ ts) (bounds r.place None (Some n)) rest
 
+-- A part in brackets that is left out is not followed by the token that it would begin with; after a type such a token
+-- can be nothing else.
+
 -- [ Bounds ] and a sign that closes
 pub data IsRange (close : Sort) : Tokens → Option Bounds → Tokens → Type 0 where
   no_range : {k : Token} {rest : Tokens} → sort k ≡ close → IsRange close (k ∷ rest) None rest
