@@ -1,1 +1,5 @@
 pub mod Chars
+pub mod Forms
+pub mod Places
+pub mod Spines
+pub mod TypeForms

@@ -1,5 +1,5 @@
 -- The plain syntax that a tree in memory spells.
-use Rattle.std.specs.Prelude.{ℕ, List, map, option_map, Option, Some, None}
+use Rattle.std.specs.Prelude.{List, map, option_map, Option, Some, None}
 use Rattle.pan_ast.specs.declared.place.Place.{Place}
 use Rattle.pan_ast.specs.declared.syntax.Item.{Item as RItem, fold-Item}
 use Rattle.pan_ast.specs.declared.syntax.Node.{Node as RNode, fold-Node}

@@ -1,8 +1,7 @@
 -- The plain type that a type in memory spells.
-use Rattle.std.specs.Prelude.{ℕ, List, map, Option, Some, None, option_map}
+use Rattle.std.specs.Prelude.{List, map, Option, option_map}
 use Rattle.std.specs.declared.rc.Rc.{Rc}
 use Rattle.std.specs.declared.alloc.Global.{Global}
-use Rattle.pan_ast.specs.declared.place.Place.{Place}
 use Rattle.pan_ast.specs.declared.syntax.Item.{Item as RItem}
 use Rattle.pan_ast.specs.declared.types.FullType.{FullType as RFullType, fold-FullType}
 use Rattle.pan_ast.specs.declared.types.TypeForm.{TypeForm as RTypeForm, fold-TypeForm}

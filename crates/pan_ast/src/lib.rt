@@ -5,10 +5,14 @@
 //!
 //! In reading order: `place` (a place in a file), `fault` (the fault codes, a fault, its printed line),
 //! `sort` (what a token is to the grammar), `token` (a piece of a template's text), `syntax` (items and the chains
-//! of operators in them), `types` (types), `template` (statements and templates).
+//! of operators in them), `types` (types), `template` (statements and templates), `make_items`, `make_types` and
+//! `make_statements` (how a reader of tokens builds each of them).
 #![tactic(auto)]
 
 mod fault;
+pub mod make_items;
+pub mod make_statements;
+pub mod make_types;
 mod place;
 mod sort;
 mod syntax;

@@ -1,4 +1,8 @@
+ghost use Rattle.std.specs.Prelude.{◌≡◌};
+ghost use Rattle.pan_ast.specs.Sorts.{sort};
+
 use crate::place::Place;
+use crate::sort::{Sort, sort_of};
 use small_types::Text;
 
 /// The kinds of tokens. A Name is the name of a template in its header; an End stands after the last token.
@@ -22,4 +26,13 @@ pub struct Token {
     pub end: usize,
     pub place: Place,
     pub value: Text,
+}
+
+impl Token {
+    /// What this token is to the grammar.
+    pub fn sort(&self) -> Sort
+        ensures { result ≡ sort self.now }
+    {
+        sort_of(self.kind, self.value.as_str())
+    }
 }

@@ -1,0 +1,300 @@
+ghost use Rattle.std.specs.Prelude.{◌≡◌, IfOk};
+ghost use Rattle.pan_ast.specs.Syntax.{Assign, Binary, Block, Boolean, Call, For, Foreach, Index, Inside, Long, Name, Null, Plain, Refer, Unary, Undef, While, choice, node_place, stepped};
+ghost use Rattle.pan_ast.specs.Syntax as plain;
+ghost use Rattle.pan_ast.specs.Seen.{item_seen, items_seen, node_seen, reference_seen, step_seen};
+
+use crate::place::Place;
+use crate::syntax::{Form, Item, ItemForm, Node, Reference, Step};
+use path_tree::{BinaryOp, UnaryOp};
+use small_types::Text;
+use std::alloc::{AllocError, Global};
+
+#[tactic(auto, using(crate::proofs::Forms::nodes))]
+pub fn make_long(place: &Place, value: i64) -> Result<Node, AllocError>
+    ensures { IfOk result (λ y. node_seen y ≡ Long place.now value) }
+{
+    Ok(Node {
+        place: place.share()?,
+        form: Form::Long(value),
+    })
+}
+
+#[tactic(auto, using(crate::proofs::Forms::nodes))]
+pub fn make_text(place: &Place, value: &Text) -> Result<Node, AllocError>
+    ensures { IfOk result (λ y. node_seen y ≡ plain.Text place.now value.now) }
+{
+    Ok(Node {
+        place: place.share()?,
+        form: Form::Text(value.share()?),
+    })
+}
+
+#[tactic(auto, using(crate::proofs::Forms::nodes))]
+pub fn make_boolean(place: &Place, value: bool) -> Result<Node, AllocError>
+    ensures { IfOk result (λ y. node_seen y ≡ Boolean place.now value) }
+{
+    Ok(Node {
+        place: place.share()?,
+        form: Form::Boolean(value),
+    })
+}
+
+#[tactic(auto, using(crate::proofs::Forms::nodes))]
+pub fn make_undef(place: &Place) -> Result<Node, AllocError>
+    ensures { IfOk result (λ y. node_seen y ≡ Undef place.now) }
+{
+    Ok(Node {
+        place: place.share()?,
+        form: Form::Undef,
+    })
+}
+
+#[tactic(auto, using(crate::proofs::Forms::nodes))]
+pub fn make_null(place: &Place) -> Result<Node, AllocError>
+    ensures { IfOk result (λ y. node_seen y ≡ Null place.now) }
+{
+    Ok(Node {
+        place: place.share()?,
+        form: Form::Null,
+    })
+}
+
+/// The reading of a name.
+#[tactic(auto, using(crate::proofs::Forms::nodes))]
+pub fn make_name(place: &Place, name: &Text) -> Result<Node, AllocError>
+    ensures { IfOk result (λ y. node_seen y ≡ Name place.now name.now) }
+{
+    Ok(Node {
+        place: place.share()?,
+        form: Form::Name(name.share()?),
+    })
+}
+
+/// `name(argument, argument, ..)`
+#[tactic(auto, using(crate::proofs::Forms::nodes))]
+pub fn make_call(place: &Place, name: &Text, arguments: Vec<Item>) -> Result<Node, AllocError>
+    ensures { IfOk result (λ y. node_seen y ≡ Call place.now name.now (items_seen arguments.items)) }
+{
+    Ok(Node {
+        place: place.share()?,
+        form: Form::Call(name.share()?, arguments),
+    })
+}
+
+/// `(item)`, with the place of the parenthesis.
+#[tactic(auto, using(crate::proofs::Forms::nodes))]
+pub fn make_inside(alloc: Global, place: &Place, item: Item) -> Result<Node, AllocError>
+    ensures { IfOk result (λ y. node_seen y ≡ Inside place.now (item_seen item)) }
+{
+    Ok(Node {
+        place: place.share()?,
+        form: Form::Inside(Box::new(alloc, item)?),
+    })
+}
+
+/// An operator before its operand.
+#[tactic(auto, using(crate::proofs::Forms::nodes))]
+pub fn make_unary(
+    alloc: Global,
+    place: &Place,
+    operator: UnaryOp,
+    operand: Node,
+) -> Result<Node, AllocError>
+    ensures { IfOk result (λ y. node_seen y ≡ Unary place.now operator (node_seen operand)) }
+{
+    Ok(Node {
+        place: place.share()?,
+        form: Form::Unary(operator, Box::new(alloc, operand)?),
+    })
+}
+
+/// A left operand with its first step.
+#[tactic(auto, using(crate::proofs::Spines::started))]
+fn start_spine(alloc: Global, left: Node, step: Step) -> Result<Node, AllocError>
+    ensures { IfOk result (λ y. node_seen y ≡ stepped (node_place (node_seen left)) (node_seen left) (step_seen step)) }
+{
+    Ok(Node {
+        place: left.place.share()?,
+        form: Form::Spine(
+            Box::new(alloc, left)?,
+            Box::new(alloc, step)?,
+            Vec::new(alloc),
+        ),
+    })
+}
+
+/// A left operand with one step more. A spine takes it at its end, so that no chain nests.
+#[tactic(auto, using(crate::proofs::Spines::grown))]
+fn with_step(alloc: Global, left: Node, step: Step) -> Result<Node, AllocError>
+    ensures { IfOk result (λ y. node_seen y ≡ stepped (node_place (node_seen left)) (node_seen left) (step_seen step)) }
+{
+    let Node { place, form } = left;
+    match form {
+        Form::Spine(first, second, mut rest) => {
+            rest.push(step)?;
+            Ok(Node {
+                place,
+                form: Form::Spine(first, second, rest),
+            })
+        }
+        form => start_spine(alloc, Node { place, form }, step),
+    }
+}
+
+/// `left[item]`, with the place of its left operand.
+#[tactic(auto, using(crate::proofs::Forms::seen_step_index))]
+pub fn make_index(alloc: Global, left: Node, item: Item) -> Result<Node, AllocError>
+    ensures { IfOk result (λ y. node_seen y ≡ Index (node_place (node_seen left)) (node_seen left) (item_seen item)) }
+{
+    with_step(alloc, left, Step::Index(item))
+}
+
+/// An operator between two operands, with the place of the left one.
+#[tactic(auto, using(crate::proofs::Forms::seen_step_binary))]
+pub fn make_binary(
+    alloc: Global,
+    operator: BinaryOp,
+    left: Node,
+    right: Node,
+) -> Result<Node, AllocError>
+    ensures { IfOk result (λ y. node_seen y ≡ Binary (node_place (node_seen left)) operator (node_seen left) (node_seen right)) }
+{
+    with_step(alloc, left, Step::Binary(operator, right))
+}
+
+/// `left && right`, with the place of the left one.
+#[tactic(auto, using(crate::proofs::Forms::seen_step_and))]
+pub fn make_and(alloc: Global, left: Node, right: Node) -> Result<Node, AllocError>
+    ensures { IfOk result (λ y. node_seen y ≡ plain.And (node_place (node_seen left)) (node_seen left) (node_seen right)) }
+{
+    with_step(alloc, left, Step::And(right))
+}
+
+/// `left || right`, with the place of the left one.
+#[tactic(auto, using(crate::proofs::Forms::seen_step_or))]
+pub fn make_or(alloc: Global, left: Node, right: Node) -> Result<Node, AllocError>
+    ensures { IfOk result (λ y. node_seen y ≡ plain.Or (node_place (node_seen left)) (node_seen left) (node_seen right)) }
+{
+    with_step(alloc, left, Step::Or(right))
+}
+
+/// `{ item; item; .. }`
+#[tactic(auto, using(crate::proofs::Forms::items))]
+pub fn make_block(place: &Place, items: Vec<Item>) -> Result<Item, AllocError>
+    ensures { IfOk result (λ y. item_seen y ≡ Block place.now (items_seen items.items)) }
+{
+    Ok(Item {
+        place: place.share()?,
+        form: ItemForm::Block(items),
+    })
+}
+
+/// `if (condition) then`
+#[tactic(auto, using(crate::proofs::Forms::items))]
+pub fn make_if(place: &Place, condition: Box<Item>, then: Box<Item>) -> Result<Item, AllocError>
+    ensures { IfOk result (λ y. item_seen y ≡ choice place.now (item_seen condition.value) (item_seen then.value) None) }
+{
+    Ok(Item {
+        place: place.share()?,
+        form: ItemForm::If(condition, then, None),
+    })
+}
+
+/// `if (condition) then else otherwise`
+#[tactic(auto, using(crate::proofs::Forms::items))]
+pub fn make_if_else(
+    place: &Place,
+    condition: Box<Item>,
+    then: Box<Item>,
+    otherwise: Box<Item>,
+) -> Result<Item, AllocError>
+    ensures { IfOk result (λ y. item_seen y ≡ choice place.now (item_seen condition.value) (item_seen then.value) (Some (item_seen otherwise.value))) }
+{
+    Ok(Item {
+        place: place.share()?,
+        form: ItemForm::If(condition, then, Some(otherwise)),
+    })
+}
+
+/// `while (condition) body`
+#[tactic(auto, using(crate::proofs::Forms::items))]
+pub fn make_while(place: &Place, condition: Box<Item>, body: Box<Item>) -> Result<Item, AllocError>
+    ensures { IfOk result (λ y. item_seen y ≡ While place.now (item_seen condition.value) (item_seen body.value)) }
+{
+    Ok(Item {
+        place: place.share()?,
+        form: ItemForm::While(condition, body),
+    })
+}
+
+/// `for (first; condition; step) body`
+#[tactic(auto, using(crate::proofs::Forms::items))]
+pub fn make_for(
+    place: &Place,
+    first: Box<Item>,
+    condition: Box<Item>,
+    step: Box<Item>,
+    body: Box<Item>,
+) -> Result<Item, AllocError>
+    ensures { IfOk result (λ y. item_seen y ≡ For place.now (item_seen first.value) (item_seen condition.value) (item_seen step.value) (item_seen body.value)) }
+{
+    Ok(Item {
+        place: place.share()?,
+        form: ItemForm::For(first, condition, step, body),
+    })
+}
+
+/// `foreach (key; value; items) body`
+#[tactic(auto, using(crate::proofs::Forms::items))]
+pub fn make_foreach(
+    place: &Place,
+    key: &Text,
+    value: &Text,
+    items: Box<Item>,
+    body: Box<Item>,
+) -> Result<Item, AllocError>
+    ensures { IfOk result (λ y. item_seen y ≡ Foreach place.now key.now value.now (item_seen items.value) (item_seen body.value)) }
+{
+    Ok(Item {
+        place: place.share()?,
+        form: ItemForm::Foreach(key.share()?, value.share()?, items, body),
+    })
+}
+
+/// `name[index][index]..`
+#[tactic(auto, using(crate::proofs::Forms::items))]
+pub fn make_reference(
+    place: &Place,
+    name: &Text,
+    indexes: Vec<Item>,
+) -> Result<Reference, AllocError>
+    ensures { IfOk result (λ y. reference_seen y ≡ Refer place.now name.now (items_seen indexes.items)) }
+{
+    Ok(Reference {
+        place: place.share()?,
+        name: name.share()?,
+        indexes,
+    })
+}
+
+/// `reference = item`
+#[tactic(auto, using(crate::proofs::Forms::items))]
+pub fn make_assign(place: &Place, reference: Reference, item: Box<Item>) -> Result<Item, AllocError>
+    ensures { IfOk result (λ y. item_seen y ≡ Assign place.now (reference_seen reference) (item_seen item.value)) }
+{
+    Ok(Item {
+        place: place.share()?,
+        form: ItemForm::Assign(reference, item),
+    })
+}
+
+/// A chain of operators as an item.
+#[tactic(auto, using(crate::proofs::Forms::items, crate::proofs::Places::place_seen))]
+pub fn make_plain(node: Node) -> Result<Item, AllocError>
+    ensures { IfOk result (λ y. item_seen y ≡ Plain (node_place (node_seen node)) (node_seen node)) }
+{
+    Ok(Item {
+        place: node.place.share()?,
+        form: ItemForm::Plain(node),
+    })
+}
