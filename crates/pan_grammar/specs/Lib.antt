@@ -8,3 +8,4 @@ pub mod Machine
 pub mod Waiting
 pub mod Begins
 pub mod TreeDepths
+pub mod Parsed

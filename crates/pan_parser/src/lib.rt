@@ -1,13 +1,6 @@
-//! The tokens of a template file to its syntax tree.
-//!
-//! What is read and which fault comes stands in the definitions of `pan_grammar`. The functions here descend by the
-//! grammar's lines; each has a contract "for whatever is open around what it reads", by the states of the machine
-//! there.
-//!
-//! In reading order: `stopped` (why a reading ends early), `tokens` (one token), `tables` (which words and signs stand
-//! for what), `items` (items), `chains` (operators and operands).
+//! Stub.
 #![tactic(auto)]
 
-mod stopped;
-mod tables;
-mod tokens;
+mod template;
+
+pub use template::{ParseError, parse};

@@ -6,3 +6,4 @@ pub mod Naming
 pub mod Wanting
 pub mod Ending
 pub mod Reading
+pub mod Ended

@@ -113,6 +113,6 @@ abbrev pub outcome_of : List ℕ → List ℕ → Outcome
 outcome_of name text = outcome_with name (tree_of name text)
 
 -- an error other than want of memory is the fault
-abbrev pub IsFault : Result Plain Fault → CompileError → Type 0
+abbrev pub IsFault : {A : Type 0} → Result A Fault → CompileError → Type 0
 IsFault made (errors.Fault fault) = made ≡ Err fault
 IsFault made errors.Memory = Unit {0}

@@ -132,7 +132,11 @@ fn tree_of_template(alloc: Global, name: &str, template: &Template) -> Result<Tr
     }
     match assignments(alloc, &template.statements) {
         Ok(assignments) => tree_after(alloc, &assignments),
-        Err(Unbuilt::At(place)) => Err(CompileError::Fault(fault_at(alloc, Code::NotBuilt, place)?)),
+        Err(Unbuilt::At(place)) => Err(CompileError::Fault(fault_at(
+            alloc,
+            Code::NotBuilt,
+            place,
+        )?)),
         Err(Unbuilt::Memory) => Err(CompileError::Memory),
     }
 }

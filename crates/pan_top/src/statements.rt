@@ -1,6 +1,7 @@
 ghost use Rattle.std.specs.Prelude.{◌≡◌, ◌≤◌, List, map, IsErr, IfOk, IfErr, Ok, Err, Some, None, length};
 ghost use Rattle.std.specs.List.{list_all};
 ghost use Rattle.pan_ast.specs.Seen.{item_seen, node_seen};
+ghost use Rattle.pan_ast.specs.Syntax.{item_place};
 ghost use Rattle.pan_ast.specs.TemplatesSeen.{statement_seen};
 ghost use Rattle.pan_top.specs.Statements.{literal_of, literal_in, is_key_term, built_terms, path_terms, set_to, built, assignments, IsRefused, IsRefusedAt};
 ghost use Rattle.pan_top.specs.declared.statements.Unbuilt.TheVariants.{Memory};
@@ -59,6 +60,7 @@ fn refused<T>(place: &Place) -> Result<T, Unbuilt>
     Err(Unbuilt::At(place.share()?))
 }
 
+#[tactic(auto, using(crate::proofs::Reading::spelled))]
 fn literal_of(node: &Node) -> Result<Option<Literal>, AllocError>
     ensures { IfOk result (λ l. l ≡ literal_of (node_seen node.now)) }
 {
@@ -66,7 +68,10 @@ fn literal_of(node: &Node) -> Result<Option<Literal>, AllocError>
         Form::Text(text) => Ok(Some(Literal::Text(text.share()?))),
         Form::Long(value) => Ok(Some(Literal::Long(*value))),
         Form::Boolean(value) => Ok(Some(Literal::Boolean(*value))),
-        _ => Ok(None),
+        Form::Undef | Form::Null | Form::Name(_) | Form::Call(_, _) => Ok(None),
+        Form::Inside(_) => Ok(None),
+        Form::Unary(_, _) => Ok(None),
+        Form::Spine(_, _, _) => Ok(None),
     }
 }
 
@@ -120,8 +125,8 @@ fn path_terms(alloc: Global, text: &str) -> Result<Option<Seq<Term>>, AllocError
 
 /// The assignment of an item to a path, in a statement that begins here.
 fn set_to(alloc: Global, place: &Place, path: &Text, item: &Item) -> Result<Assignment, Unbuilt>
-    ensures ok { IfOk result (λ a. set_to place.now path.now (path_terms path.now) (literal_in (item_seen item.now)) item.now.place ≡ Ok a) }
-    ensures err { IfErr result (IsRefused (set_to place.now path.now (path_terms path.now) (literal_in (item_seen item.now)) item.now.place)) }
+    ensures ok { IfOk result (λ a. set_to place.now path.now (path_terms path.now) (literal_in (item_seen item.now)) (item_place (item_seen item.now)) ≡ Ok a) }
+    ensures err { IfErr result (IsRefused (set_to place.now path.now (path_terms path.now) (literal_in (item_seen item.now)) (item_place (item_seen item.now)))) }
 {
     let Some(terms) = path_terms(alloc, path.as_str())? else {
         return refused(place);
@@ -151,7 +156,7 @@ fn built(alloc: Global, statement: &Statement) -> Result<Assignment, Unbuilt>
             if *last || *conditional {
                 return refused(&statement.place);
             }
-            set_to(alloc, &statement.place, path, item)
+            Ok(set_to(alloc, &statement.place, path, item)?)
         }
         _ => refused(&statement.place),
     }
