@@ -1,0 +1,149 @@
+//! Builds over devices in memory, some calls of which fail: prints the status, the faults, the text and the shelf.
+//!
+//! Each line says something of the next run. `file NAME TEXT` is a file of the source, TEXT being all behind NAME, and
+//! a line feed; `many COUNT NAME TEXT` are the files `0NAME`, `1NAME` and so on. `kept NAME TEXT` stands on the shelf
+//! before the run. `fail DEVICE CALL` has a call of the `source`, the `shelf` or the `sink` fail, the first being 0.
+//! `run WORD ..` calls the compiler with these words, and forgets what was said. Behind `status` stand the faults that
+//! the source, the shelf and the sink counted. Any other line is a remark. The expected output is written by hand.
+#![tactic(auto)]
+
+use anyhow::{Result, anyhow};
+use outside::{Held, MemFile, MemShelf, MemSink, MemSource, Shelf, Sink, Source};
+use pan_top::pan;
+use small_types::{Bytes, Seq, Text};
+use std::alloc::{AllocError, Global};
+use std::mem;
+
+/// What is said of a run.
+#[derive(Drop)]
+struct Case {
+    files: Vec<MemFile>,
+    held: Vec<Held>,
+    source_fails: Vec<u64>,
+    shelf_fails: Vec<u64>,
+    sink_fails: Vec<u64>,
+}
+
+fn new_case(alloc: Global) -> Case {
+    Case {
+        files: Vec::new(alloc),
+        held: Vec::new(alloc),
+        source_fails: Vec::new(alloc),
+        shelf_fails: Vec::new(alloc),
+        sink_fails: Vec::new(alloc),
+    }
+}
+
+fn text_line(alloc: Global, text: &str) -> Result<Bytes, AllocError> {
+    let mut bytes = Vec::from_slice(alloc, text.as_bytes())?;
+    bytes.push(b'\n')?;
+    Ok(Bytes::from_vec(bytes))
+}
+
+fn file(alloc: Global, case: &mut Case, name: &str, text: &str) -> Result<()> {
+    case.files.push(MemFile {
+        name: Text::new(alloc, name)?,
+        content: Some(text_line(alloc, text)?),
+    })?;
+    Ok(())
+}
+
+fn many(alloc: Global, case: &mut Case, count: &str, rest: &str) -> Result<()> {
+    let (name, text) = split(rest);
+    for i in 0..count.parse::<u32>()? {
+        let name = format!(in alloc; "{i}{name}")?;
+        file(alloc, case, name.as_str(), text)?;
+    }
+    Ok(())
+}
+
+fn kept(alloc: Global, case: &mut Case, name: &str, text: &str) -> Result<()> {
+    case.held.push(Held {
+        name: Text::new(alloc, name)?,
+        bytes: text_line(alloc, text)?,
+    })?;
+    Ok(())
+}
+
+fn fail(case: &mut Case, device: &str, call: &str) -> Result<()> {
+    let call = call.parse::<u64>()?;
+    match device {
+        "source" => case.source_fails.push(call)?,
+        "shelf" => case.shelf_fails.push(call)?,
+        "sink" => case.sink_fails.push(call)?,
+        _ => return Err(anyhow!("no device")),
+    }
+    Ok(())
+}
+
+fn words_of(alloc: Global, text: &str) -> Result<Vec<Text>, AllocError> {
+    let mut words = Vec::new(alloc);
+    for word in text.split(' ') {
+        words.push(Text::new(alloc, word)?)?;
+    }
+    Ok(words)
+}
+
+fn print_shelf(rt: &HostRuntime, held: &[Held]) -> Result<()> {
+    for each in held {
+        let text = str::from_utf8(each.bytes.as_slice())?;
+        print!(rt; "-- {} {}", each.name.as_str(), text)?;
+    }
+    Ok(())
+}
+
+fn run(rt: &HostRuntime, case: Case, words: &str) -> Result<()> {
+    let alloc = rt.alloc();
+    let Case {
+        files,
+        held,
+        source_fails,
+        shelf_fails,
+        sink_fails,
+    } = case;
+    let mut pictures = Vec::new(alloc);
+    pictures.push(Seq::from_vec(files))?;
+    let mut source = MemSource::new(alloc, pictures, source_fails);
+    let mut shelf = MemShelf::new(alloc, held, shelf_fails);
+    let mut sink = MemSink::new(alloc, sink_fails);
+    let words = words_of(alloc, words)?;
+    let status = pan(alloc, &words, &mut source, &mut shelf, &mut sink);
+    print!(rt;
+        "status {} {} {} {}\n{}",
+        status.exit_code(),
+        source.faults(),
+        shelf.faults(),
+        sink.faults(),
+        str::from_utf8(sink.written())?
+    )?;
+    print_shelf(rt, shelf.held())
+}
+
+/// A line's first word, and what stands behind the blank that follows it.
+fn split(line: &str) -> (&str, &str) {
+    line.split_once(' ').unwrap_or((line, ""))
+}
+
+fn say(rt: &HostRuntime, case: &mut Case, line: &str) -> Result<()> {
+    let alloc = rt.alloc();
+    let (what, rest) = split(line);
+    let (name, text) = split(rest);
+    match what {
+        "file" => file(alloc, case, name, text),
+        "many" => many(alloc, case, name, text),
+        "kept" => kept(alloc, case, name, text),
+        "fail" => fail(case, name, text),
+        "run" => run(rt, mem::replace(case, new_case(alloc)), rest),
+        _ => Ok(()),
+    }
+}
+
+fn main(rt: HostRuntime) -> Result<()> {
+    let mut case = new_case(rt.alloc());
+    for line in rt.lines(rt.alloc()) {
+        let line = line?;
+        println!(rt; "> {line}")?;
+        say(&rt, &mut case, line.as_str())?;
+    }
+    Ok(())
+}
