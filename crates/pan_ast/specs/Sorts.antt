@@ -1,5 +1,5 @@
 -- What a token is to the grammar.
-use Rattle.std.specs.Prelude.{ℕ, Bool, ◌&&◌, ◌==◌, nat_le, not, if◌then◌else◌, List, [], ◌∷◌, codes}
+use Rattle.std.specs.Prelude.{◌≡◌, ℕ, Bool, ◌&&◌, ◌==◌, nat_le, not, if◌then◌else◌, List, [], ◌∷◌, ◌++◌, codes}
 use Rattle.std.specs.Cmp.Lexicographic.{pointwise}
 use Rattle.pan_ast.specs.declared.sort.Sort.{Sort}
 use Rattle.pan_ast.specs.declared.sort.Sort.TheVariants.{Int, Text, Name, End, If, Else, While, For, Foreach, True, False, Undef, Null, With, Extensible, Include, Choice, Object, Structure, Unique, Declaration, Template, Final, Variable, Function, «Type», Bind, Valid, Prefix, Word, OpenBrace, CloseBrace, Open, Close, OpenBracket, CloseBracket, Semicolon, Comma, Colon, Question, ConditionalAssign, Assign, Equal, Differs, Less, AtMost, Greater, AtLeast, Plus, Minus, Star, Slash, Percent, Not, Flip, And, Ands, Bar, Bars, Caret, Range, NoSign}
@@ -45,6 +45,10 @@ sort_of kinds.End value = End
 
 abbrev pub sort : Token → Sort
 sort t = sort_of t.kind t.value
+
+-- the last token is an End
+abbrev pub EndsInEnd : List Token → Type 0
+EndsInEnd ts = (before : List Token) × (end : Token) × (sort end ≡ End) × (ts ≡ before ++ end ∷ [])
 
 -- a number for each sort, by which sorts are told apart
 abbrev pub code : Sort → ℕ

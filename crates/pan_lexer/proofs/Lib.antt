@@ -7,6 +7,7 @@ pub mod CleanTexts
 pub mod Cuts
 pub mod Digits
 pub mod Docs
+pub mod Ended
 pub mod Exclude
 pub mod Faults
 pub mod FirstWord

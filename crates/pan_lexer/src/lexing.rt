@@ -1,4 +1,5 @@
 ghost use Rattle.std.specs.Prelude.{◌≡◌, ◌≤◌, ◌<◌, ◌+◌, ◌^◌, length, IfOk, List, IsUtf8};
+ghost use Rattle.pan_ast.specs.Sorts.{EndsInEnd};
 ghost use Rattle.pan_lexer.specs.Lexed.{place_after, is_naming, is_template, mode_after, lexed, lexed_file, origin};
 ghost use Rattle.pan_lexer.specs.Answers.{Gives, OnFault};
 ghost use Rattle.pan_lexer.specs.Faulty.{Faulty};
@@ -171,6 +172,7 @@ pub fn lex(alloc: Global, bytes: &[u8], file: &Text) -> Result<Seq<Token>, LexEr
     ensures faulty { OnFault (Faulty file.now bytes.now) result }
     ensures first { (f : Fault) → Faulty file.now bytes.now f → Gives result (Err f) }
     ensures ended { IfOk result EndsOnce }
+    ensures closed { IfOk result EndsInEnd }
     ensures values { IfOk result (AreValues (length bytes.now)) }
     ensures order { IfOk result (AreInOrder 0 (length bytes.now)) }
 {

@@ -10,9 +10,6 @@ use Rattle.pan_grammar.specs.Grammar.{Tokens}
 use Rattle.pan_parser.specs.declared.template.ParseError.{ParseError}
 use Rattle.pan_parser.specs.declared.template.ParseError.TheVariants as errors
 
-abbrev pub EndsInEnd : Tokens → Type 0
-EndsInEnd ts = (before : Tokens) × (end : Token) × (sort end ≡ sorts.End) × (ts ≡ before ++ end ∷ [])
-
 abbrev pub Fails : ParseError → Result Seen Fault → Type 0
 Fails errors.Memory read = Unit {0}
 Fails (errors.Fault f) read = read ≡ Err f

@@ -1,6 +1,7 @@
 ghost use Rattle.std.specs.Prelude.{◌≡◌};
 ghost use Rattle.pan_grammar.specs.Parsed.{parsed};
-ghost use Rattle.pan_parser.specs.Parses.{Gives, EndsInEnd};
+ghost use Rattle.pan_parser.specs.Parses.{Gives};
+ghost use Rattle.pan_ast.specs.Sorts.{EndsInEnd};
 ghost use Rattle.pan_parser.specs.declared.template.ParseError.TheVariants.{Memory};
 
 use pan_ast::{Fault, Template, Token};

@@ -6,4 +6,3 @@ pub mod Naming
 pub mod Wanting
 pub mod Ending
 pub mod Reading
-pub mod Ended

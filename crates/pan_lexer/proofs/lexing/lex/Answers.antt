@@ -8,6 +8,7 @@ use Rattle.pan_lexer.specs.Lexed.{lexed, origin, fault, place_after}
 use Rattle.pan_lexer.specs.Tokens.{EndsOnce, AreValues}
 use Rattle.pan_lexer.specs.declared.parts.At.{At}
 use Rattle.pan_lexer.specs.declared.parts.Mode.TheVariants.{Before}
+use Rattle.pan_lexer.proofs.Ended.{closed}
 use Rattle.pan_lexer.proofs.Faults.{gives_faulty, faulty_gives, not_utf8}
 use Rattle.pan_lexer.proofs.Laws.{gives_spelled, spelled_gives}
 use Rattle.pan_lexer.proofs.Spans.{lexed_spans, gives_spans}
@@ -27,6 +28,7 @@ returns-in-Ok c =
       faulty = gives_faulty file bytes c.tokens_of.result c.in-Ok.ensures.cases.1 c.tokens_of.ensures;
       first = λ f h. faulty_gives file bytes c.tokens_of.result f c.in-Ok.ensures.cases.1 c.tokens_of.ensures h;
       ended = sound.0;
+      closed = closed c.tokens_of.result sound.0;
       values = sound.1;
       order = gives_spans (length bytes) c.tokens_of.result (lexed file 0 Before origin bytes) c.tokens_of.ensures (lexed_spans file (length bytes) bytes 0 Before origin (omega arith) (omega arith));
     }
