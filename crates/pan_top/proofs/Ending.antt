@@ -10,7 +10,7 @@ use Rattle.pan_top.specs.declared.status.End.TheVariants as E
 use Rattle.pan_top.specs.declared.status.Status.{Status}
 use Rattle.pan_top.specs.declared.status.Status.TheVariants.{Clean, SomeFaults, Usage, SourceFault, ShelfFault, OutFault, Memory, TooMuch}
 use Rattle.pan_top.specs.Commands.{is_command}
-use Rattle.pan_top.specs.Ends.{IsPublishingEnd, IsOutEnd}
+use Rattle.pan_top.specs.Ends.{IsEndOf, OfName, OfSink}
 use Rattle.pan_top.specs.Scans.{scanned_of}
 use Rattle.pan_top.specs.Shelves.{Stopped}
 use Rattle.pan_top.specs.Session.{Session, WritesEarly, Says, Comes, session_of, scanned_session}
@@ -22,26 +22,26 @@ none_of text None = (0, refl)
 none_of text (Some bytes) = (0, ap (λ b. Some b) (sym (append-nil bytes)))
 
 -- a publication that ended early wrote nothing
-pub quiet : (text : List ℕ) (held : Option (List ℕ)) (e : End) → IsPublishingEnd e → WritesEarly text e held held
-quiet text held E.Source kind = absurd kind
-quiet text held E.Shelf kind = absurd kind
+pub quiet : (text : List ℕ) (held : Option (List ℕ)) (e : End) → IsEndOf OfName e → WritesEarly text e held held
+quiet text held E.Source kind = cc
+quiet text held E.Shelf kind = cc
 quiet text held (E.Publishing m) kind = refl
-quiet text held E.Out kind = absurd kind
+quiet text held E.Out kind = cc
 quiet text held E.Memory kind = none_of text held
 
 -- a text that could not be written whole
-early_part : (text : List ℕ) (old new : Option (List ℕ)) (e : End) → IsOutEnd e → AppendsPart old text new → WritesEarly text e old new
-early_part text old new E.Source kind part = absurd kind
-early_part text old new E.Shelf kind part = absurd kind
-early_part text old new (E.Publishing m) kind part = absurd kind
+early_part : (text : List ℕ) (old new : Option (List ℕ)) (e : End) → IsEndOf OfSink e → AppendsPart old text new → WritesEarly text e old new
+early_part text old new E.Source kind part = cc
+early_part text old new E.Shelf kind part = cc
+early_part text old new (E.Publishing m) kind part = cc
 early_part text old new E.Out kind part = part
 early_part text old new E.Memory kind part = part
 
-early_usage : (told : Option (List (List MemFile))) (words : List (List ℕ)) (old new : Option (List ℕ)) (e : End) → is_command words ≡ false → IsOutEnd e → AppendsPart old (codes "usage fault\n") new → IfSome told (λ ps. WritesEarly (session_of words (next_picture ps)).text e old new)
+early_usage : (told : Option (List (List MemFile))) (words : List (List ℕ)) (old new : Option (List ℕ)) (e : End) → is_command words ≡ false → IsEndOf OfSink e → AppendsPart old (codes "usage fault\n") new → IfSome told (λ ps. WritesEarly (session_of words (next_picture ps)).text e old new)
 early_usage None words old new e other kind part = tt
 early_usage (Some ps) words old new e other kind part = rw other (early_part (codes "usage fault\n") old new e kind part)
 
-pub usage_unwritten : (told : Option (List (List MemFile))) (words : List (List ℕ)) (old new : Option (List ℕ)) (r : Result Status End) → is_command words ≡ false → IfErr r IsOutEnd → OnErr r (AppendsPart old (codes "usage fault\n") new) → IfErr r (λ e. IfSome told (λ ps. WritesEarly (session_of words (next_picture ps)).text e old new))
+pub usage_unwritten : (told : Option (List (List MemFile))) (words : List (List ℕ)) (old new : Option (List ℕ)) (r : Result Status End) → is_command words ≡ false → IfErr r (IsEndOf OfSink) → OnErr r (AppendsPart old (codes "usage fault\n") new) → IfErr r (λ e. IfSome told (λ ps. WritesEarly (session_of words (next_picture ps)).text e old new))
 usage_unwritten told words old new (Ok status) other kind part = tt
 usage_unwritten told words old new (Err e) other kind part = early_usage told words old new e other kind part
 

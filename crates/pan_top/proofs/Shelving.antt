@@ -11,7 +11,7 @@ use Rattle.outside.specs.Cells.{Cell, given, Opens, Gives}
 use Rattle.pan_top.specs.declared.publish.Want.{Want}
 use Rattle.pan_top.specs.declared.status.End.{End}
 use Rattle.pan_top.specs.declared.status.End.TheVariants as E
-use Rattle.pan_top.specs.Ends.{is_file_of, IsEndAt, IsPublishingEnd}
+use Rattle.pan_top.specs.Ends.{IsEndOf, is_file_of, IsEndAt, OfName}
 use Rattle.pan_top.specs.Shelves.{is_own, wanted, proper, published, goes, swept, cleared, put_where, placed, Leaves, Stopped, Underway, Lists}
 
 -- A step that is a part of what is left leads on, and each name stands as at the start or as in the end.
@@ -53,19 +53,19 @@ left_early (E.Publishing m) left will start now new name keeps own u opens at = 
 left_early E.Out left will start now new name keeps own u opens at = absurd at
 left_early E.Memory left will start now new name keeps own u opens at = (name, left_at (bytes_eq name) left will start now new name keeps own u opens (λ n closed. closed))
 
-pub publishing_from_at : (n : List ℕ) (e : End) → IsEndAt n e → IsPublishingEnd e
-publishing_from_at n E.Source at = at
-publishing_from_at n E.Shelf at = at
-publishing_from_at n (E.Publishing m) at = tt
-publishing_from_at n E.Out at = at
+pub publishing_from_at : (n : List ℕ) (e : End) → IsEndAt n e → IsEndOf OfName e
+publishing_from_at n E.Source at = absurd at
+publishing_from_at n E.Shelf at = absurd at
+publishing_from_at n (E.Publishing m) at = refl
+publishing_from_at n E.Out at = absurd at
 publishing_from_at n E.Memory at = tt
 
 -- what holds of what is left behind, whatever names are open, holds after an end
-pub stopped_by : (e : End) (left will : List ℕ → Cell → Cell) (now start new : List ℕ → Cell) → IsPublishingEnd e → ((is_open : List ℕ → Bool) → Leaves is_open left now new → Leaves is_open will start new) → Stopped e left now new → Stopped e will start new
-stopped_by E.Source left will now start new kind go stopped = absurd kind
-stopped_by E.Shelf left will now start new kind go stopped = absurd kind
+pub stopped_by : (e : End) (left will : List ℕ → Cell → Cell) (now start new : List ℕ → Cell) → IsEndOf OfName e → ((is_open : List ℕ → Bool) → Leaves is_open left now new → Leaves is_open will start new) → Stopped e left now new → Stopped e will start new
+stopped_by E.Source left will now start new kind go stopped = cc
+stopped_by E.Shelf left will now start new kind go stopped = cc
 stopped_by (E.Publishing m) left will now start new kind go stopped = go (is_file_of m) stopped
-stopped_by E.Out left will now start new kind go stopped = absurd kind
+stopped_by E.Out left will now start new kind go stopped = cc
 stopped_by E.Memory left will now start new kind go stopped = (stopped.0, go (bytes_eq stopped.0) stopped.1)
 
 -- before a publication and after it

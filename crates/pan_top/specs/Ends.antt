@@ -1,5 +1,5 @@
 -- Ends that come before the session's own.
-use Rattle.std.specs.Prelude.{◌≡◌, ◌≤◌, ℕ, List, Bool, true, ◌++◌, ◌||◌, bytes_eq, codes, Result, IfErr}
+use Rattle.std.specs.Prelude.{◌≡◌, ◌≤◌, ℕ, List, Bool, true, ◌++◌, ◌||◌, bytes_eq, codes, Result, IfErr, Option, Some, None, IfSome, ◌⊎◌}
 use Rattle.outside.specs.Causes.{Rose}
 use Rattle.pan_top.specs.declared.status.End.{End}
 use Rattle.pan_top.specs.declared.status.End.TheVariants as E
@@ -43,44 +43,29 @@ IsEndAt n (E.Publishing m) = is_file_of m n ≡ true
 IsEndAt n E.Out = ⊥
 IsEndAt n E.Memory = Unit
 
--- an end of a call on a device of this kind: the ends of one device are no ends of another
-abbrev pub IsPublishingEnd : End → Type 0
-IsPublishingEnd E.Source = ⊥
-IsPublishingEnd E.Shelf = ⊥
-IsPublishingEnd (E.Publishing m) = Unit
-IsPublishingEnd E.Out = ⊥
-IsPublishingEnd E.Memory = Unit
+-- Whose call can end so. Want of memory is anyone's.
+pub data Caller : Type 0 where
+  OfSource : Caller
+  OfShelf : Caller
+  OfName : Caller
+  OfSink : Caller
 
-abbrev pub IsShelfEnd : End → Type 0
-IsShelfEnd E.Source = ⊥
-IsShelfEnd E.Shelf = Unit
-IsShelfEnd (E.Publishing m) = ⊥
-IsShelfEnd E.Out = ⊥
-IsShelfEnd E.Memory = Unit
+abbrev pub caller_of : End → Option Caller
+caller_of E.Source = Some OfSource
+caller_of E.Shelf = Some OfShelf
+caller_of (E.Publishing m) = Some OfName
+caller_of E.Out = Some OfSink
+caller_of E.Memory = None
 
-abbrev pub IsSourceEnd : End → Type 0
-IsSourceEnd E.Source = Unit
-IsSourceEnd E.Shelf = ⊥
-IsSourceEnd (E.Publishing m) = ⊥
-IsSourceEnd E.Out = ⊥
-IsSourceEnd E.Memory = Unit
+-- an end of a call on the source, on the shelf as a whole, on a name of it, or on the sink
+abbrev pub IsEndOf : Caller → End → Type 0
+IsEndOf caller e = IfSome (caller_of e) (λ c. c ≡ caller)
 
-abbrev pub IsOutEnd : End → Type 0
-IsOutEnd E.Source = ⊥
-IsOutEnd E.Shelf = ⊥
-IsOutEnd (E.Publishing m) = ⊥
-IsOutEnd E.Out = Unit
-IsOutEnd E.Memory = Unit
+-- an end of a round, which calls names of the shelf and the sink
+abbrev pub IsRoundEnd : End → Type 0
+IsRoundEnd e = IfSome (caller_of e) (λ c. (c ≡ OfName) ⊎ (c ≡ OfSink))
 
 -- the count didn't fall, and it rose where the call ended with this status
 pub record Caused {T : Type 0} (status : Status) (before now : ℕ) (result : Result T End) : Type 0 where
   pub later : before ≤ now
   pub rose : IfErr result (λ e. status_of e ≡ status → Rose before now)
-
--- an end of a round, which calls the shelf and the sink
-abbrev pub IsRoundEnd : End → Type 0
-IsRoundEnd E.Source = ⊥
-IsRoundEnd E.Shelf = ⊥
-IsRoundEnd (E.Publishing m) = Unit
-IsRoundEnd E.Out = Unit
-IsRoundEnd E.Memory = Unit

@@ -1,7 +1,7 @@
 ghost use Rattle.std.specs.Prelude.{◌≡◌, ℕ, List, IfOk, OnOk, OnErr, IfErr, IfSome, Option, Some, None, true, false, bytes_eq};
 ghost use Rattle.outside.specs.Cells.{Gives, Opens};
 ghost use Rattle.pan_top.specs.Shelves.{is_own, swept, cleared, placed, published, proper, Stopped, Names, Lists};
-ghost use Rattle.pan_top.specs.Ends.{Caused, IsEndAt, IsPublishingEnd, IsShelfEnd, is_file_of};
+ghost use Rattle.pan_top.specs.Ends.{IsEndOf, Caused, IsEndAt, OfName, OfShelf, is_file_of};
 ghost use Rattle.pan_top.specs.declared.publish.Want.{Want};
 
 use crate::status::{End, Status};
@@ -143,7 +143,7 @@ fn clear<H: Shelf>(
     requires { Names names.now wants.now }
     ensures ok { OnOk result ((n : List ℕ) → H.cell shelf.new n ≡ cleared listed.now wants.now n (H.cell shelf.old n)) }
     ensures err { IfErr result (λ e. Stopped e (cleared listed.now wants.now) (H.cell shelf.old) (H.cell shelf.new)) }
-    ensures kind { IfErr result IsPublishingEnd }
+    ensures kind { IfErr result (IsEndOf OfName) }
     ensures cause { Caused Status.ShelfFault (H.fault_count shelf.old) (H.fault_count shelf.new) result }
 {
     for name in listed {
@@ -157,7 +157,7 @@ fn place<H: Shelf>(alloc: Global, shelf: &mut H, wants: &[Want]) -> Result<(), E
     requires { proper wants.now ≡ true }
     ensures ok { OnOk result ((n : List ℕ) → H.cell shelf.new n ≡ placed wants.now n (H.cell shelf.old n)) }
     ensures err { IfErr result (λ e. Stopped e (placed wants.now) (H.cell shelf.old) (H.cell shelf.new)) }
-    ensures kind { IfErr result IsPublishingEnd }
+    ensures kind { IfErr result (IsEndOf OfName) }
     ensures cause { Caused Status.ShelfFault (H.fault_count shelf.old) (H.fault_count shelf.new) result }
 {
     let mut held = Vec::new(alloc);
@@ -177,7 +177,7 @@ fn place<H: Shelf>(alloc: Global, shelf: &mut H, wants: &[Want]) -> Result<(), E
 pub fn listed<H: Shelf>(alloc: Global, shelf: &mut H) -> Result<Vec<Text>, End>
     ensures ok { IfOk result (λ names. Lists names.items (H.cell shelf.old)) }
     ensures same { (n : List ℕ) → H.cell shelf.new n ≡ H.cell shelf.old n }
-    ensures kind { IfErr result IsShelfEnd }
+    ensures kind { IfErr result (IsEndOf OfShelf) }
     ensures cause { Caused Status.ShelfFault (H.fault_count shelf.old) (H.fault_count shelf.new) result }
 {
     let mut names = Vec::new(alloc);
@@ -202,7 +202,7 @@ pub fn publish<H: Shelf>(
     requires listed { Lists listed.now (H.cell shelf.old) }
     ensures ok { OnOk result ((n : List ℕ) → H.cell shelf.new n ≡ published wants.now n (H.cell shelf.old n)) }
     ensures err { IfErr result (λ e. Stopped e (published wants.now) (H.cell shelf.old) (H.cell shelf.new)) }
-    ensures kind { IfErr result IsPublishingEnd }
+    ensures kind { IfErr result (IsEndOf OfName) }
     ensures cause { Caused Status.ShelfFault (H.fault_count shelf.old) (H.fault_count shelf.new) result }
 {
     let names = wanted_names(alloc, wants)?;

@@ -9,7 +9,7 @@ ghost use Rattle.pan_top.specs.Shelves.{Stopped, Lists, proper};
 ghost use Rattle.pan_top.specs.Session.{Session, line_alone, build_of, round_of, scanned_session, session_of, Finished, WritesEarly, Says, Comes, Concludes, IsSessions, IsBuilds, IsUsage, IsUsageEnd, Completes, Takes};
 ghost use Rattle.pan_top.specs.Answers.{wants_of};
 ghost use Rattle.pan_top.specs.Reports.{report_of};
-ghost use Rattle.pan_top.specs.Ends.{Caused, IsOutEnd, IsShelfEnd, IsSourceEnd, IsRoundEnd, status_of, line_of};
+ghost use Rattle.pan_top.specs.Ends.{IsEndOf, Caused, OfSink, OfShelf, OfSource, IsRoundEnd, status_of, line_of};
 ghost use Rattle.pan_top.specs.declared.status.Status.{Status};
 
 use crate::answers::{Answer, answers, count_faults, count_objects, wants};
@@ -28,7 +28,7 @@ const MAX_OBJECTS: usize = 10_000;
 fn write<O: Sink>(out: &mut O, text: &[u8]) -> Result<(), End>
     ensures ok { OnOk result (Appends (O.held out.old) text.now (O.held out.new)) }
     ensures err { OnErr result (AppendsPart (O.held out.old) text.now (O.held out.new)) }
-    ensures kind { IfErr result IsOutEnd }
+    ensures kind { IfErr result (IsEndOf OfSink) }
     ensures cause { Caused Status.OutFault (O.fault_count out.old) (O.fault_count out.new) result }
 {
     match out.write(text) {
@@ -40,7 +40,7 @@ fn write<O: Sink>(out: &mut O, text: &[u8]) -> Result<(), End>
 
 fn open_source<S: Source>(source: &mut S, root: &str) -> Result<(), End>
     ensures coming { S.coming source.new ≡ S.coming source.old }
-    ensures kind { IfErr result IsSourceEnd }
+    ensures kind { IfErr result (IsEndOf OfSource) }
     ensures cause { Caused Status.SourceFault (S.fault_count source.old) (S.fault_count source.new) result }
 {
     match source.open_root(root) {
@@ -52,7 +52,7 @@ fn open_source<S: Source>(source: &mut S, root: &str) -> Result<(), End>
 
 fn open_shelf<H: Shelf>(shelf: &mut H, root: &str) -> Result<(), End>
     ensures same { (n : List ℕ) → H.cell shelf.new n ≡ H.cell shelf.old n }
-    ensures kind { IfErr result IsShelfEnd }
+    ensures kind { IfErr result (IsEndOf OfShelf) }
     ensures cause { Caused Status.ShelfFault (H.fault_count shelf.old) (H.fault_count shelf.new) result }
 {
     match shelf.open_root(root) {
@@ -67,7 +67,7 @@ fn end_with_line<O: Sink>(out: &mut O, line: &[u8], status: Status) -> Result<St
     ensures status { IfOk result (λ reached. reached ≡ status) }
     ensures ok { OnOk result (Appends (O.held out.old) line.now (O.held out.new)) }
     ensures err { OnErr result (AppendsPart (O.held out.old) line.now (O.held out.new)) }
-    ensures kind { IfErr result IsOutEnd }
+    ensures kind { IfErr result (IsEndOf OfSink) }
     ensures cause { Caused Status.OutFault (O.fault_count out.old) (O.fault_count out.new) result }
 {
     write(out, line)?;
@@ -170,7 +170,7 @@ fn run<S: Source, H: Shelf, O: Sink>(
     ensures text { IfErr result (λ e. IfSome (S.coming source.old) (λ ps. WritesEarly (session_of words.now (next_picture ps)).text e (O.held out.old) (O.held out.new))) }
     ensures shelf { IfErr result (λ e. IfSome (S.coming source.old) (λ ps. Stopped e (session_of words.now (next_picture ps)).shelf (H.cell shelf.old) (H.cell shelf.new))) }
     ensures usage { IfOk result (λ status. IsUsage (is_command words.now) status) }
-    ensures quiet { IfErr result (λ e. is_command words.now ≡ false → IsOutEnd e) }
+    ensures quiet { IfErr result (λ e. is_command words.now ≡ false → IsEndOf OfSink e) }
     ensures taken { IfOk result (λ status. Takes status (S.coming source.old) (S.coming source.new)) }
     ensures perhaps { (S.coming source.new ≡ S.coming source.old) ⊎ (S.coming source.new ≡ option_map later_pictures (S.coming source.old)) }
     ensures source_cause { Caused Status.SourceFault (S.fault_count source.old) (S.fault_count source.new) result }

@@ -2,7 +2,7 @@ ghost use Rattle.std.specs.Prelude.{◌≡◌, ◌≤◌, ◌<◌, ◌⊎◌, �
 ghost use Rattle.outside.specs.Pictures.{next_picture, later_pictures};
 ghost use Rattle.outside.specs.Files.{has_short_content};
 ghost use Rattle.pan_top.specs.Scans.{has_file_name, found_of, content_weight, weight_of, with_found, taken_in, scanned_of};
-ghost use Rattle.pan_top.specs.Ends.{Caused, IsSourceEnd};
+ghost use Rattle.pan_top.specs.Ends.{IsEndOf, Caused, OfSource};
 
 use crate::status::{End, Status};
 use outside::{Content, Got, Picture, Source, StoreError, is_file_name};
@@ -61,7 +61,7 @@ fn find<S: Source>(
     ensures scanned { S.scanned source.new ≡ S.scanned source.old }
     ensures coming { S.coming source.new ≡ S.coming source.old }
     ensures count { S.count source.new ≡ S.count source.old }
-    ensures kind { IfErr result IsSourceEnd }
+    ensures kind { IfErr result (IsEndOf OfSource) }
     ensures cause { Caused Status.SourceFault (S.fault_count source.old) (S.fault_count source.new) result }
 {
     if !has_file_name(source, i) {
@@ -115,7 +115,7 @@ fn read_one<S: Source>(
     ensures scanned { S.scanned source.new ≡ S.scanned source.old }
     ensures coming { S.coming source.new ≡ S.coming source.old }
     ensures count { S.count source.new ≡ S.count source.old }
-    ensures kind { IfErr result IsSourceEnd }
+    ensures kind { IfErr result (IsEndOf OfSource) }
     ensures cause { Caused Status.SourceFault (S.fault_count source.old) (S.fault_count source.new) result }
 {
     let Some(content) = find(alloc, source, i, bytes)? else {
@@ -132,7 +132,7 @@ pub fn scan<S: Source>(alloc: Global, source: &mut S) -> Result<Option<Picture>,
     ensures ok { IfOk result (λ got. IfSome (S.coming source.old) (λ ps. got ≡ scanned_of (next_picture ps))) }
     ensures taken { OnOk result (S.coming source.new ≡ option_map later_pictures (S.coming source.old)) }
     ensures err { OnErr result ((S.coming source.new ≡ S.coming source.old) ⊎ (S.coming source.new ≡ option_map later_pictures (S.coming source.old))) }
-    ensures kind { IfErr result IsSourceEnd }
+    ensures kind { IfErr result (IsEndOf OfSource) }
     ensures cause { Caused Status.SourceFault (S.fault_count source.old) (S.fault_count source.new) result }
 {
     let count = match source.begin_scan() {
