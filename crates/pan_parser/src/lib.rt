@@ -1,6 +1,0 @@
-//! Stub.
-#![tactic(auto)]
-
-mod template;
-
-pub use template::{ParseError, parse};
