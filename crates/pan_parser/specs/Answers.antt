@@ -6,7 +6,7 @@ use Rattle.pan_ast.specs.declared.token.Token.{Token}
 use Rattle.pan_ast.specs.Sorts.{sort, at, is_plain}
 use Rattle.pan_ast.specs.Syntax.{Item, Node}
 use Rattle.pan_ast.specs.Templates.{Template}
-use Rattle.pan_grammar.specs.Grammar.{Tokens, Operator, Of, Both, Either, index, unary_of}
+use Rattle.pan_grammar.specs.Grammar.{Tokens, Operator, Of, Both, Either, index, op_of, unary_of}
 use Rattle.pan_grammar.specs.Machine.{Stop, Bad, Deep, State, step, opens, at_end, when_that}
 use Rattle.pan_parser.specs.declared.stopped.Stopped.{Stopped}
 use Rattle.pan_parser.specs.declared.stopped.Stopped.TheVariants as stops
@@ -35,6 +35,15 @@ IsAt s ts rest = (t : Token) × (ts ≡ t ∷ rest) × (at s (sort t) ≡ true)
 abbrev pub NotAt : Sort → Tokens → Type 0
 NotAt s [] = Unit {0}
 NotAt s (t ∷ ts) = at s (sort t) ≡ false
+
+-- an operator of the line stands at the front, and rest after it
+abbrev pub IsOperator : ℕ → Tokens → Operator → Tokens → Type 0
+IsOperator line ts op rest = (t : Token) × (ts ≡ t ∷ rest) × (op_of line (sort t) ≡ Some op)
+
+-- none stands there
+abbrev pub NoOperator : ℕ → Tokens → Type 0
+NoOperator line [] = Unit {0}
+NoOperator line (t ∷ ts) = op_of line (sort t) ≡ None
 
 -- no sign of an operand stands at the front
 abbrev pub NoSign : Tokens → Type 0

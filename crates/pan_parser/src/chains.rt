@@ -7,11 +7,9 @@ ghost use Rattle.pan_parser.specs.Answers.{Goes, NoSign, NotAt, indexed};
 
 use crate::items::item;
 use crate::stopped::Stopped;
-use crate::tables::{join, literal, operator_at, unary_of};
+use crate::tables::{join, literal, next_operator, unary_of};
 use crate::tokens::{cut, expect, next_is};
-use pan_ast::make_items::{
-    make_call, make_index, make_inside, make_name, make_plain, make_unary,
-};
+use pan_ast::make_items::{make_call, make_index, make_inside, make_name, make_plain, make_unary};
 use pan_ast::{Item, Node, Sort, Token};
 use std::alloc::{AllocError, Global};
 
@@ -49,10 +47,7 @@ fn chain(
         return Ok((first, tokens));
     }
     let (mut left, mut rest) = chain(alloc, depth, line - 1, first, tokens)?;
-    while let Some((sign, after)) = cut(rest) {
-        let Some(operator) = operator_at(line, sign.sort()) else {
-            break;
-        };
+    while let Some((operator, after)) = next_operator(line, rest) {
         let (right, more) = operand(alloc, depth, line - 1, after)?;
         left = join(alloc, operator, left, right)?;
         rest = more;

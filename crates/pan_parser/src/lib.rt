@@ -8,6 +8,8 @@
 //! for what), `items` (items), `chains` (operators and operands).
 #![tactic(auto)]
 
+mod chains;
+mod items;
 mod stopped;
 mod tables;
 mod tokens;

@@ -1,10 +1,11 @@
-ghost use Rattle.std.specs.Prelude.{◌≡◌, ◌<◌, ◌≤◌, ◌∷◌, ◌^◌, ◌-◌, [], IfOk, map, min, pos, option_map};
+ghost use Rattle.std.specs.Prelude.{◌≡◌, ◌<◌, ◌≤◌, ◌∷◌, ◌^◌, ◌-◌, [], IfOk, MatchOption, map, min, pos, option_map};
 ghost use Rattle.pan_ast.specs.Sorts.{sort};
 ghost use Rattle.pan_ast.specs.Seen.{item_seen, node_seen};
-ghost use Rattle.pan_grammar.specs.Grammar.{operator, joined, level, literal, name, number, op_of, unary_of};
+ghost use Rattle.pan_grammar.specs.Grammar.{operator, joined, level, literal, name, number, unary_of};
 ghost use Rattle.path_tree.specs.Grammar.{number_of};
-ghost use Rattle.pan_parser.specs.Answers.{indexed, op_seen, starts_item};
+ghost use Rattle.pan_parser.specs.Answers.{IsOperator, NoOperator, indexed, op_seen, starts_item};
 
+use crate::tokens::cut;
 use pan_ast::make_items::{
     make_and, make_binary, make_boolean, make_index, make_long, make_name, make_null, make_or,
     make_text, make_undef,
@@ -76,12 +77,16 @@ fn operator_of(sort: Sort) -> Operator
     }
 }
 
-/// The operator of a line of chains that a sign is.
-pub(crate) fn operator_at(line: u8, sort: Sort) -> Option<Operator>
-    ensures { option_map op_seen result ≡ op_of line sort }
+/// The operator of a line of chains that stands at the front, and the tokens after it.
+pub(crate) fn next_operator(line: u8, tokens: &[Token]) -> Option<(Operator, &[Token])>
+    ensures { MatchOption result (NoOperator line tokens.now) (λ r. IsOperator line tokens.now (op_seen r.0) r.1.now) }
 {
+    let Some((first, rest)) = cut(tokens) else {
+        return None;
+    };
+    let sort = first.sort();
     if level(sort) == line {
-        Some(operator_of(sort))
+        Some((operator_of(sort), rest))
     } else {
         None
     }
