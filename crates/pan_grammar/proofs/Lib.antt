@@ -1,3 +1,15 @@
 pub mod Tests
 pub mod SoundTypes
 pub mod Sound
+pub mod Follow
+pub mod Firsts
+pub mod CompleteTypes
+pub mod Complete
+pub mod Fill
+pub mod Filled
+pub mod Ended
+pub mod Mays
+pub mod Runs
+pub mod Exact
+pub mod Ends
+pub mod TreesShallow

@@ -1,17 +1,17 @@
 -- What completes the state after a token completes the state before it, with the token: items, and all states.
-use Rattle.std.proofs.Common.{◌≡◌, ◌≢◌, ℕ, zero, suc, true, List, [], ◌∷◌, ◌++◌, Option, Some, None, refl, sym, subst, append_assoc, ◌⊎◌, inl, inr}
+use Rattle.std.proofs.Common.{◌≡◌, ℕ, zero, suc, true, List, [], ◌∷◌, ◌++◌, Option, Some, None, refl, sym, subst, append_assoc, inl, inr}
 use Rattle.std.proofs.lemmas.List.{append-nil}
-use Rattle.path_tree.specs.declared.operators.UnaryOp.{UnaryOp}
-use Rattle.pan_ast.specs.declared.sort.Sort.{Sort}
 use Rattle.pan_ast.specs.declared.sort.Sort.TheVariants as sorts
 use Rattle.pan_ast.specs.declared.token.Token.{Token}
 use Rattle.pan_ast.specs.Sorts.{sort, is_plain}
 use Rattle.pan_ast.specs.Syntax.{Item, Node, Reference, choice}
 use Rattle.pan_ast.specs.Syntax as nodes
 use Rattle.pan_ast.specs.Templates.{Template}
-use Rattle.pan_grammar.specs.Grammar.{Tokens, NotElse, Operator, op_of, joined, literal, unary_of, block, plain, reference, assigned, name, called, inside, index, IsItem, a_block, an_if, an_if_else, a_while, a_for, a_foreach, a_chain, an_assign, IsReference, a_reference, IsIndexes, no_index, one_index, IsItems, no_item, items_from, IsMore, closed, closed_late, more, IsChain, a_unary, a_line, IsTail, tail_ends, tail_more, IsUnary, a_sign, a_primary, IsSuffix, suffix_ends, an_index, IsPrimary, a_literal, a_name, a_call, parens, IsArgs, no_arg, args_from, IsMoreArgs, args_end, more_args}
-use Rattle.pan_grammar.specs.Machine.{Parts, Last, Further, MayElse, divider, if_parts, while_parts, for_parts, foreach_parts, ItemStack, Out, InBlock, InParts, InReference, InIndex, InParens, InCall, NodeStack, Chained, Signed, First, Operand, down, Wanted, AnOpen, ASemicolon, AWord, fits, State, Start, Takes, Statements, FinalRead, IncludeRead, NeedFull, NameRead, TextsOpen, FieldsOpen, HasHead, NeedSigned, NeedBounds, HasLow, RangeRead, RangeOpen, NeedItem, NeedUnary, BlockOpen, WordRead, ItemWord, HasReference, CallOpen, HasItem, HasPrimary, HasNode, Done, when, unary_at, item_at, has_item, has_node, has_primary, has_reference, step, holders, node_holders}
-use Rattle.pan_grammar.specs.Waiting.{IsOne, one, IsThat, that, IsElse, no_else, an_else, IsChainFrom, from_unary, from_line, ReferenceGoes, ItemWaits, NodeWaits, PrimaryWaits, CallWaits, ItemNeeded, UnaryNeeded, Completes}
+use Rattle.pan_grammar.specs.Grammar.{Tokens, op_of, joined, literal, unary_of, block, plain, reference, assigned, name, called, inside, index, IsItem, a_block, an_if, an_if_else, a_while, a_for, a_foreach, a_chain, an_assign, a_reference, IsIndexes, no_index, one_index, IsItems, no_item, items_from, IsMore, closed, closed_late, more, IsChain, a_unary, a_line, tail_ends, tail_more, IsUnary, a_sign, a_primary, IsSuffix, suffix_ends, an_index, IsPrimary, a_literal, a_name, a_call, parens, IsArgs, no_arg, args_from, args_end, more_args}
+use Rattle.pan_grammar.specs.States.{Last, Further, MayElse, divider, ItemStack, Out, InBlock, InParts, InReference, InIndex, InParens, InCall, NodeStack, Chained, Signed, First, Operand, down, AnOpen, ASemicolon, AWord, State, Start, Takes, Statements, FinalRead, IncludeRead, NeedFull, NameRead, TextsOpen, FieldsOpen, HasHead, NeedSigned, NeedBounds, HasLow, RangeRead, RangeOpen, NeedItem, NeedUnary, BlockOpen, WordRead, ItemWord, HasReference, CallOpen, HasItem, HasPrimary, HasNode, Done}
+use Rattle.pan_grammar.specs.Machine.{unary_at, item_at, has_item, has_node, has_primary, has_reference, step}
+use Rattle.pan_grammar.specs.Depths.{holders, node_holders}
+use Rattle.pan_grammar.specs.Waiting.{IsOne, one, IsThat, that, IsElse, no_else, an_else, IsChainFrom, from_unary, from_line, ReferenceGoes, ItemWaits, NodeWaits, PrimaryWaits, ItemNeeded, UnaryNeeded, Completes}
 use Rattle.pan_grammar.specs.Begins.{UnaryMay, ItemMay, StepMay}
 use Rattle.pan_grammar.proofs.Tests.{at_true, at_miss, that_cases, when_cases, when_only, some_cases, some_only}
 use Rattle.pan_grammar.proofs.SoundTypes.{back, takes_sound, hole_sound, setting_sound, statements_sound, included_sound, start_sound, signed_sound, bounds_sound, low_sound, range_sound, open_sound, fields_sound, head_sound, full_at_sound, name_sound, texts_sound}

@@ -1,5 +1,5 @@
 -- What completes the state after a token completes the state before it, with the token: statements and types.
-use Rattle.std.proofs.Common.{◌≡◌, ◌≢◌, ℕ, zero, suc, ℤ, neg_ℤ, Bool, true, false, ◌&&◌, List, [], ◌∷◌, ◌++◌, Option, Some, None, refl, sym, subst, append_assoc, ◌⊎◌, inl, inr}
+use Rattle.std.proofs.Common.{◌≡◌, ℕ, suc, ℤ, neg_ℤ, Bool, true, false, ◌&&◌, List, [], ◌∷◌, ◌++◌, Option, Some, None, refl, sym, subst, append_assoc, inl, inr}
 use Rattle.std.proofs.lemmas.List.{append-nil}
 use Rattle.path_tree.specs.Grammar.{is_key}
 use Rattle.pan_ast.specs.declared.sort.Sort.{Sort}
@@ -11,7 +11,7 @@ use Rattle.pan_ast.specs.declared.template.TemplateKind.TheVariants as kinds
 use Rattle.pan_ast.specs.declared.types.Bounds.{Bounds}
 use Rattle.pan_ast.specs.declared.types.Suffix.{Suffix}
 use Rattle.pan_ast.specs.declared.types.Suffix.TheVariants as suffixes
-use Rattle.pan_ast.specs.Sorts.{sort, at, is_word, is_type_name}
+use Rattle.pan_ast.specs.Sorts.{sort, at, is_type_name}
 use Rattle.pan_ast.specs.Syntax.{Item}
 use Rattle.pan_ast.specs.Syntax as nodes
 use Rattle.pan_ast.specs.Types.{FullType, Full, TypeForm, Formed, Head, Field}
@@ -19,14 +19,16 @@ use Rattle.pan_ast.specs.Types as types
 use Rattle.pan_ast.specs.Templates.{Statement, Template}
 use Rattle.pan_ast.specs.Templates as statements
 use Rattle.pan_grammar.specs.Grammar.{Tokens, block, plain, number, IsItem}
-use Rattle.pan_grammar.specs.Types.{bounds, named, recorded, own, included, is_suffix, IsSigned, a_number, a_negative, IsHigh, exactly, at_least, from_to, IsBounds, from_low, at_most, IsRange, no_range, a_range, IsBounded, unbounded, bounded, IsSuffixes, no_suffix, a_list, a_dict, a_link, IsTexts, no_text, a_text, absent, present, IsFull, a_full, IsType, a_named, a_record, an_extensible, a_choice, IsFields, no_field, own_field, include_field}
+use Rattle.pan_grammar.specs.Types.{bounds, named, recorded, own, included, IsSigned, a_number, a_negative, exactly, at_least, from_to, IsBounds, from_low, at_most, IsRange, no_range, a_range, IsBounded, unbounded, bounded, IsSuffixes, no_suffix, a_list, a_dict, a_link, IsTexts, no_text, a_text, absent, present, IsFull, a_full, IsType, a_named, a_record, an_extensible, a_choice, IsFields, no_field, own_field, include_field}
 use Rattle.pan_grammar.specs.Templates.{stated, conditional, kind_of, Header, template, IsSetting, of_path, of_variable, IsIncluded, text_included, block_included, IsStatement, a_setting, a_final, a_function, a_type, a_bind, a_valid, an_include, a_prefix, IsStatements, no_statement, a_statement, IsNamed, is_named, ordinary, of_kind}
-use Rattle.pan_grammar.specs.Machine.{FullStack, StatementType, InField, Hole, StatementItem, AfterEquals, AfterWith, Out, Closing, Brackets, Braces, Parens, closing, Wanted, ATemplate, AName, ASemicolon, AnAssign, ASetting, AText, AWord, ATypeName, AnInt, AnOpen, AnOpenBrace, AMark, Closes, fits, State, Start, Takes, Statements, FinalRead, IncludeRead, NeedFull, NameRead, TextsOpen, FieldsOpen, HasHead, NeedSigned, NeedBounds, HasLow, RangeRead, RangeOpen, NeedItem, BlockOpen, Done, when_that, when, setting_at, statements_at, included_at, name_wanted, start_at, signed_at, bounds_at, fields_at, has_full, has_default, has_form, has_head, full_at, name_then, texts_then, hole_has, step, full_holders}
+use Rattle.pan_grammar.specs.States.{FullStack, StatementType, InField, Hole, StatementItem, AfterEquals, AfterWith, Out, Closing, closing, Wanted, ATemplate, AName, ASemicolon, AnAssign, ASetting, AText, AWord, ATypeName, AnInt, AnOpen, AnOpenBrace, AMark, Closes, fits, State, Start, Takes, Statements, FinalRead, IncludeRead, NeedFull, NameRead, TextsOpen, FieldsOpen, HasHead, NeedSigned, NeedBounds, HasLow, RangeRead, RangeOpen, NeedItem, Done}
+use Rattle.pan_grammar.specs.Machine.{when, setting_at, statements_at, included_at, name_wanted, start_at, signed_at, bounds_at, fields_at, has_full, has_default, has_form, has_head, full_at, name_then, texts_then, hole_has, step}
+use Rattle.pan_grammar.specs.Depths.{full_holders}
 use Rattle.pan_grammar.specs.Waiting.{IsOne, one, IsThat, that, StatementsWait, StatementEnds, TypeGoes, FullWaits, HeadWaits, FieldsWait, DefaultWaits, HoleWaits, Completes}
 use Rattle.pan_grammar.specs.Begins.{FullMay}
-use Rattle.pan_grammar.proofs.Tests.{at_true, at_miss, that_cases, that_only, when_cases, when_only, some_only, some_cases}
+use Rattle.pan_grammar.proofs.Tests.{at_true, at_miss, that_cases, that_only, when_cases, when_only, some_only}
 
-both : (a b : Bool) → (a && b) ≡ true → (a ≡ true) × (b ≡ true)
+pub both : (a b : Bool) → (a && b) ≡ true → (a ≡ true) × (b ≡ true)
 both true b e = (refl, e)
 both false b e = absurd cc
 

@@ -149,6 +149,12 @@ when_only s x a y h = let k = that_only (at s x) a y h in (at_true s x k.0, k.1)
 
 -- ---- when_some
 
+pub some_taken : {A B : Type 0} (o : Option A) (f : A → B) (other : Option B) (a : A) → o ≡ Some a → when_some o f other ≡ Some (f a)
+some_taken o f other a e = rw e refl
+
+pub none_passed : {A B : Type 0} (o : Option A) (f : A → B) (other : Option B) → o ≡ None → when_some o f other ≡ other
+none_passed o f other e = rw e refl
+
 pub some_cases : {A B : Type 0} (o : Option A) (f : A → B) (other : Option B) (y : B) → when_some o f other ≡ Some y → ((a : A) × (o ≡ Some a) × (f a ≡ y)) ⊎ ((o ≡ None) × (other ≡ Some y))
 some_cases (Some a) f other y h = inl (a, refl, cc)
 some_cases None f other y h = inr (refl, h)

@@ -1,10 +1,11 @@
 -- Which constructs begin at a token that a state takes.
-use Rattle.std.specs.Prelude.{◌≡◌, ℕ, zero, suc, true, false, ◌∷◌}
+use Rattle.std.specs.Prelude.{◌≡◌, ℕ, suc, true, false, ◌∷◌}
 use Rattle.pan_ast.specs.declared.sort.Sort.TheVariants as sorts
 use Rattle.pan_ast.specs.declared.token.Token.{Token}
 use Rattle.pan_ast.specs.Sorts.{sort, at}
 use Rattle.pan_grammar.specs.Grammar.{Tokens}
-use Rattle.pan_grammar.specs.Machine.{State, IncludeRead, NeedFull, NeedItem, NeedUnary, BlockOpen, CallOpen, full_holders, holders, node_holders, signed, starts_record}
+use Rattle.pan_grammar.specs.States.{State, IncludeRead, NeedFull, NeedItem, NeedUnary, BlockOpen, CallOpen}
+use Rattle.pan_grammar.specs.Depths.{full_holders, holders, node_holders, signed, starts_record}
 
 module _ (May : ℕ → Tokens → Type 0) where
   -- a Unary, an Item or a Type that d constructs hold may begin with t

@@ -1,7 +1,10 @@
 pub mod Grammar
 pub mod Types
 pub mod Templates
+pub mod Faults
+pub mod States
+pub mod Depths
 pub mod Machine
 pub mod Waiting
 pub mod Begins
-pub mod Faults
+pub mod TreeDepths

@@ -1,7 +1,6 @@
--- Reading token by token: what is open, and where a token leads.
-use Rattle.std.specs.Prelude.{◌≡◌, ℕ, zero, suc, ℤ, neg_ℤ, Bool, true, false, ◌||◌, ◌&&◌, nat_lt, is_some, List, [], ◌∷◌, ◌++◌, Option, Some, None, Result, Ok, Err, if◌then◌else◌}
-use Rattle.path_tree.specs.Grammar.{is_key, is_name}
-use Rattle.path_tree.specs.declared.operators.UnaryOp.{UnaryOp}
+-- Reading token by token: where a token leads.
+use Rattle.std.specs.Prelude.{ℕ, zero, suc, ℤ, neg_ℤ, Bool, true, false, ◌&&◌, nat_lt, List, [], ◌∷◌, ◌++◌, Option, Some, None, Result, Ok, Err, if◌then◌else◌}
+use Rattle.path_tree.specs.Grammar.{is_key}
 use Rattle.pan_ast.specs.declared.sort.Sort.{Sort}
 use Rattle.pan_ast.specs.declared.sort.Sort.TheVariants as sorts
 use Rattle.pan_ast.specs.declared.token.Token.{Token}
@@ -11,140 +10,18 @@ use Rattle.pan_ast.specs.declared.template.TemplateKind.TheVariants as kinds
 use Rattle.pan_ast.specs.declared.types.Bounds.{Bounds}
 use Rattle.pan_ast.specs.declared.types.Suffix.{Suffix}
 use Rattle.pan_ast.specs.declared.types.Suffix.TheVariants as suffixes
-use Rattle.pan_ast.specs.Sorts.{sort, at, is_word, is_plain, is_type_name}
+use Rattle.pan_ast.specs.Sorts.{sort, at, is_plain, is_type_name}
 use Rattle.pan_ast.specs.Syntax.{Item, Node, Reference, choice}
 use Rattle.pan_ast.specs.Syntax as nodes
 use Rattle.pan_ast.specs.Types.{FullType, Full, TypeForm, Formed, Head, Field}
 use Rattle.pan_ast.specs.Types as types
 use Rattle.pan_ast.specs.Templates.{Statement, Template}
 use Rattle.pan_ast.specs.Templates as statements
-use Rattle.pan_grammar.specs.Grammar.{Tokens, block, plain, reference, assigned, name, called, inside, index, number, literal, unary_of, Operator, op_of, joined}
-use Rattle.pan_grammar.specs.Types.{bounds, named, recorded, own, included, is_mark}
-use Rattle.pan_grammar.specs.Templates.{stated, is_setting, conditional, kind_of, Header, template}
-
--- ---- what is open
-
--- the statements before, and how the awaited full type makes the next one; or a record's field, its key, the sign
--- after it, whether the record is extensible, and the fields before
-pub data FullStack : Type 0 where
-  StatementType : Header → List Statement → (FullType → Statement) → FullStack
-  InField : Token → Token → Bool → List Field → FullStack → FullStack
-
--- what waits for an item, and is none
-pub data Hole : Type 0 where
-  StatementItem : Header → List Statement → (Item → Statement) → Hole
-  AfterEquals : TypeForm → FullStack → Hole
-  AfterWith : TypeForm → Option Item → FullStack → Hole
-
-pub data Divider : Type 0 where
-  AtSemicolon AtClose : Divider
-
-abbrev pub divider : Divider → Sort
-divider AtSemicolon = sorts.Semicolon
-divider AtClose = sorts.Close
-
--- the parts of an item from an awaited item on: it is the last; or a sign and further parts follow it; or perhaps an
--- `else` does
-pub data Parts : Type 0 where
-  Last : (Item → Item) → Parts
-  Further : Divider → (Item → Parts) → Parts
-  MayElse : (Item → Option Item → Item) → Parts
-
-abbrev pub if_parts : Place → Parts
-if_parts p = Further AtClose (λ c. MayElse (λ a b. choice p c a b))
-
-abbrev pub while_parts : Place → Parts
-while_parts p = Further AtClose (λ c. Last (λ b. nodes.While p c b))
-
-abbrev pub for_parts : Place → Parts
-for_parts p = Further AtSemicolon (λ a. Further AtSemicolon (λ c. Further AtClose (λ n. Last (λ b. nodes.For p a c n b))))
-
-abbrev pub foreach_parts : Place → List ℕ → List ℕ → Parts
-foreach_parts p k v = Further AtClose (λ r. Last (λ b. nodes.Foreach p k v r b))
-
--- what waits for an item, and what waits for a node of a level, from the inside out
-mutual
-  pub data ItemStack : Type 0 where
-    Out : Hole → ItemStack
-    InBlock : Place → List Item → ItemStack → ItemStack
-    InParts : Parts → ItemStack → ItemStack
-    InReference : Token → List Item → Node → ItemStack → ItemStack
-    InIndex : Node → NodeStack zero → ItemStack
-    InParens : Place → NodeStack zero → ItemStack
-    InCall : Token → List Item → NodeStack zero → ItemStack
-
-  pub data NodeStack : ℕ → Type 0 where
-    Chained : ItemStack → NodeStack 9
-    Signed : UnaryOp → Place → NodeStack zero → NodeStack zero
-    First : {l : ℕ} → NodeStack (suc l) → NodeStack l
-    Operand : {l : ℕ} → Operator → Node → NodeStack (suc l) → NodeStack l
-
--- down to a Unary of an operand
-abbrev pub down : (l : ℕ) → NodeStack l → NodeStack zero
-down zero n = n
-down (suc l) n = down l (First n)
-
--- a sign that closes Bounds
-pub data Closing : Type 0 where
-  Parens Brackets Braces : Closing
-
-abbrev pub closing : Closing → Sort
-closing Parens = sorts.Close
-closing Brackets = sorts.CloseBracket
-closing Braces = sorts.CloseBrace
-
--- the tokens that stand alone at their place
-pub data Wanted : Type 0 where
-  ATemplate AName ASemicolon AnAssign ASetting AText AWord ATypeName AnInt AnOpen AnOpenBrace AMark : Wanted
-  Closes : Closing → Wanted
-
-abbrev pub fits : Wanted → Token → Bool
-fits ATemplate t = at sorts.Template (sort t)
-fits AName t = at sorts.Name (sort t) && is_name t.value
-fits ASemicolon t = at sorts.Semicolon (sort t)
-fits AnAssign t = at sorts.Assign (sort t)
-fits ASetting t = is_setting (sort t)
-fits AText t = at sorts.Text (sort t)
-fits AWord t = is_word (sort t)
-fits ATypeName t = is_type_name (sort t)
-fits AnInt t = at sorts.Int (sort t)
-fits AnOpen t = at sorts.Open (sort t)
-fits AnOpenBrace t = at sorts.OpenBrace (sort t)
-fits AMark t = is_mark (sort t)
-fits (Closes c) t = at (closing c) (sort t)
-
-pub data State : Type 0 where
-  Start : State
-  -- one token, and then the state that it leads to
-  Takes : Wanted → (Token → State) → State
-  -- the statements before
-  Statements : Header → List Statement → State
-  FinalRead : Place → Header → List Statement → State
-  IncludeRead : Place → Header → List Statement → State
-  NeedFull : FullStack → State
-  NameRead : Token → FullStack → State
-  TextsOpen : List (List ℕ) → FullStack → State
-  FieldsOpen : Bool → List Field → FullStack → State
-  HasHead : Head → List Suffix → FullStack → State
-  -- a number, Bounds, or perhaps Bounds, and then the state that they lead to
-  NeedSigned : (ℤ → State) → State
-  NeedBounds : Closing → (Bounds → State) → State
-  HasLow : Closing → Place → ℤ → (Bounds → State) → State
-  RangeRead : Closing → Place → ℤ → (Bounds → State) → State
-  RangeOpen : Closing → (Option Bounds → State) → State
-  NeedItem : ItemStack → State
-  NeedUnary : NodeStack zero → State
-  BlockOpen : Place → List Item → ItemStack → State
-  WordRead : Token → NodeStack zero → State
-  ItemWord : Token → ItemStack → State
-  HasReference : Token → List Item → Node → ItemStack → State
-  CallOpen : Token → NodeStack zero → State
-  HasItem : Item → ItemStack → State
-  HasPrimary : Node → NodeStack zero → State
-  HasNode : {l : ℕ} → Node → NodeStack l → State
-  Done : Template → State
-
--- ---- where a token leads
+use Rattle.pan_grammar.specs.Grammar.{Tokens, block, plain, reference, name, called, inside, index, number, literal, unary_of, Operator, op_of, joined}
+use Rattle.pan_grammar.specs.Types.{bounds, named, recorded, own, included}
+use Rattle.pan_grammar.specs.Templates.{stated, conditional, kind_of, Header, template}
+pub use Rattle.pan_grammar.specs.States.{FullStack, StatementType, InField, Hole, StatementItem, AfterEquals, AfterWith, Divider, AtSemicolon, AtClose, divider, Parts, Last, Further, MayElse, if_parts, while_parts, for_parts, foreach_parts, right_side, ItemStack, Out, InBlock, InParts, InReference, InIndex, InParens, InCall, NodeStack, Chained, Signed, First, Operand, down, Closing, Parens, Brackets, Braces, closing, Wanted, ATemplate, AName, ASemicolon, AnAssign, ASetting, AText, AWord, ATypeName, AnInt, AnOpen, AnOpenBrace, AMark, Closes, fits, State, Start, Takes, Statements, FinalRead, IncludeRead, NeedFull, NameRead, TextsOpen, FieldsOpen, HasHead, NeedSigned, NeedBounds, HasLow, RangeRead, RangeOpen, NeedItem, NeedUnary, BlockOpen, WordRead, ItemWord, HasReference, CallOpen, HasItem, HasPrimary, HasNode, Done}
+pub use Rattle.pan_grammar.specs.Depths.{full_holders, hole_holders, holders, node_holders, signed, starts_record, item_start, full_start, unary_opens, item_opens, full_opens, opens}
 
 -- the first where the test holds, or else the second
 abbrev pub when_that : {A : Type 0} → Bool → A → Option A → Option A
@@ -159,50 +36,103 @@ when_some None f other = other
 
 -- ---- statements
 
--- a statement that begins at p, `final` or not
+-- the item, or the full type, of a statement
+abbrev pub item_of : Header → List Statement → (Item → Statement) → State
+item_of h ss make = NeedItem (Out (StatementItem h ss make))
+
+abbrev pub full_of : Header → List Statement → (FullType → Statement) → State
+full_of h ss make = NeedFull (StatementType h ss make)
+
+-- a statement that begins at p, after the word or the text that tells what it is
+abbrev pub path_read : Place → Bool → Header → List Statement → Token → State
+path_read p last h ss t = Takes ASetting (λ a. item_of h ss (λ i. stated p (statements.Assign last t.value (conditional a) i)))
+
+abbrev pub variable_read : Place → Bool → Header → List Statement → State
+variable_read p last h ss = Takes AWord (λ w. Takes ASetting (λ a. item_of h ss (λ i. stated p (statements.Variable last w.value (conditional a) i))))
+
+abbrev pub function_read : Place → Header → List Statement → State
+function_read p h ss = Takes AWord (λ w. Takes AnAssign (λ e. item_of h ss (λ i. stated p (statements.Function w.value i))))
+
+abbrev pub type_read : Place → Header → List Statement → State
+type_read p h ss = Takes AWord (λ w. Takes AnAssign (λ e. full_of h ss (λ f. stated p (statements.Define w.value f))))
+
+abbrev pub bind_read : Place → Header → List Statement → State
+bind_read p h ss = Takes AText (λ x. Takes AnAssign (λ e. full_of h ss (λ f. stated p (statements.Bind x.value f))))
+
+abbrev pub valid_read : Place → Header → List Statement → State
+valid_read p h ss = Takes AText (λ x. Takes AnAssign (λ e. item_of h ss (λ i. stated p (statements.Valid x.value i))))
+
+abbrev pub prefix_read : Place → Header → List Statement → State
+prefix_read p h ss = Takes AText (λ x. Takes ASemicolon (λ e. Statements h (ss ++ stated p (statements.Prefix x.value) ∷ [])))
+
 abbrev pub setting_at : Place → Bool → Header → List Statement → Token → Option State
-setting_at p last h ss t =
-    when sorts.Text (sort t) (Takes ASetting (λ a. NeedItem (Out (StatementItem h ss (λ i. stated p (statements.Assign last t.value (conditional a) i))))))
-    (when sorts.Variable (sort t) (Takes AWord (λ w. Takes ASetting (λ a. NeedItem (Out (StatementItem h ss (λ i. stated p (statements.Variable last w.value (conditional a) i))))))) None)
+setting_at p last h ss t = when sorts.Text (sort t) (path_read p last h ss t) (when sorts.Variable (sort t) (variable_read p last h ss) None)
 
 abbrev pub statements_at : Header → List Statement → Token → Option State
 statements_at h ss t =
     when sorts.End (sort t) (Done (template h ss))
     (when sorts.Final (sort t) (FinalRead t.place h ss)
-    (when sorts.Function (sort t) (Takes AWord (λ w. Takes AnAssign (λ e. NeedItem (Out (StatementItem h ss (λ i. stated t.place (statements.Function w.value i)))))))
-    (when sorts.«Type» (sort t) (Takes AWord (λ w. Takes AnAssign (λ e. NeedFull (StatementType h ss (λ f. stated t.place (statements.Define w.value f))))))
-    (when sorts.Bind (sort t) (Takes AText (λ x. Takes AnAssign (λ e. NeedFull (StatementType h ss (λ f. stated t.place (statements.Bind x.value f))))))
-    (when sorts.Valid (sort t) (Takes AText (λ x. Takes AnAssign (λ e. NeedItem (Out (StatementItem h ss (λ i. stated t.place (statements.Valid x.value i)))))))
+    (when sorts.Function (sort t) (function_read t.place h ss)
+    (when sorts.«Type» (sort t) (type_read t.place h ss)
+    (when sorts.Bind (sort t) (bind_read t.place h ss)
+    (when sorts.Valid (sort t) (valid_read t.place h ss)
     (when sorts.Include (sort t) (IncludeRead t.place h ss)
-    (when sorts.Prefix (sort t) (Takes AText (λ x. Takes ASemicolon (λ e. Statements h (ss ++ stated t.place (statements.Prefix x.value) ∷ []))))
+    (when sorts.Prefix (sort t) (prefix_read t.place h ss)
     (setting_at t.place false h ss t))))))))
 
+abbrev pub text_included_read : Place → Header → List Statement → Token → State
+text_included_read p h ss t = Takes ASemicolon (λ e. Statements h (ss ++ stated p (statements.Include (plain (nodes.Text t.place t.value))) ∷ []))
+
+abbrev pub block_included_read : Place → Header → List Statement → Token → State
+block_included_read p h ss t = BlockOpen t.place [] (Out (StatementItem h ss (λ i. stated p (statements.Include i))))
+
 abbrev pub included_at : Place → Header → List Statement → Token → Option State
-included_at p h ss t =
-    when sorts.Text (sort t) (Takes ASemicolon (λ e. Statements h (ss ++ stated p (statements.Include (plain (nodes.Text t.place t.value))) ∷ [])))
-    (when sorts.OpenBrace (sort t) (BlockOpen t.place [] (Out (StatementItem h ss (λ i. stated p (statements.Include i))))) None)
+included_at p h ss t = when sorts.Text (sort t) (text_included_read p h ss t) (when sorts.OpenBrace (sort t) (block_included_read p h ss t) None)
 
 -- a header that begins at p, after `template`
 abbrev pub name_wanted : TemplateKind → Place → State
 name_wanted kind p = Takes AName (λ n. Takes ASemicolon (λ s. Statements (record { kind = kind; place = p; name = n }) []))
 
+abbrev pub kind_read : Place → TemplateKind → State
+kind_read p kind = Takes ATemplate (λ w. name_wanted kind p)
+
 abbrev pub start_at : Token → Option State
-start_at t = when sorts.Template (sort t) (name_wanted kinds.Ordinary t.place) (when_some (kind_of (sort t)) (λ kind. Takes ATemplate (λ w. name_wanted kind t.place)) None)
+start_at t = when sorts.Template (sort t) (name_wanted kinds.Ordinary t.place) (when_some (kind_of (sort t)) (kind_read t.place) None)
 
 -- ---- types
 
+abbrev pub minus_read : (ℤ → State) → State
+minus_read next = Takes AnInt (λ n. next (neg_ℤ (number n)))
+
 abbrev pub signed_at : (ℤ → State) → Token → Option State
-signed_at next t = when sorts.Int (sort t) (next (number t)) (when sorts.Minus (sort t) (Takes AnInt (λ n. next (neg_ℤ (number n)))) None)
+signed_at next t = when sorts.Int (sort t) (next (number t)) (when sorts.Minus (sort t) (minus_read next) None)
+
+-- after `..` at the front, and after the second number
+abbrev pub high_wanted : Closing → Place → (Bounds → State) → State
+high_wanted c p next = NeedSigned (λ n. Takes (Closes c) (λ k. next (bounds p None (Some n))))
+
+abbrev pub high_read : Closing → Place → ℤ → (Bounds → State) → ℤ → State
+high_read c p n next m = Takes (Closes c) (λ k. next (bounds p (Some n) (Some m)))
 
 abbrev pub bounds_at : Closing → (Bounds → State) → Token → Option State
 bounds_at c next t =
-    when sorts.Range (sort t) (NeedSigned (λ n. Takes (Closes c) (λ k. next (bounds t.place None (Some n)))))
+    when sorts.Range (sort t) (high_wanted c t.place next)
     (signed_at (λ n. HasLow c t.place n next) t)
+
+-- after a key, and after `include`
+abbrev pub key_read : Token → Bool → List Field → FullStack → State
+key_read k extensible fs s = Takes AMark (λ c. NeedFull (InField k c extensible fs s))
+
+abbrev pub include_read : Token → Bool → List Field → FullStack → State
+include_read i extensible fs s = Takes ATypeName (λ n. FieldsOpen extensible (fs ++ included i n ∷ []) s)
+
+abbrev pub is_key_text : Token → Bool
+is_key_text t = at sorts.Text (sort t) && is_key t.value
 
 abbrev pub fields_at : Bool → List Field → FullStack → Token → Option State
 fields_at extensible fs s t =
-    when_that (at sorts.Text (sort t) && is_key t.value) (Takes AMark (λ c. NeedFull (InField t c extensible fs s)))
-    (when sorts.Include (sort t) (Takes ATypeName (λ n. FieldsOpen extensible (fs ++ included t n ∷ []) s))
+    when_that (is_key_text t) (key_read t extensible fs s)
+    (when sorts.Include (sort t) (include_read t extensible fs s)
     (when sorts.CloseBrace (sort t) (HasHead (recorded extensible fs) [] s) None))
 
 abbrev pub has_full : FullStack → FullType → Token → Option State
@@ -215,26 +145,47 @@ has_default f e s t = when sorts.With (sort t) (NeedItem (Out (AfterWith f e s))
 abbrev pub has_form : TypeForm → FullStack → Token → Option State
 has_form f s t = when sorts.Assign (sort t) (NeedItem (Out (AfterEquals f s))) (has_default f None s t)
 
+-- after `[` and `{` of a suffix
+abbrev pub list_open : Head → List Suffix → FullStack → State
+list_open h ss s = RangeOpen Brackets (λ b. HasHead h (ss ++ suffixes.List b ∷ []) s)
+
+abbrev pub dict_open : Head → List Suffix → FullStack → State
+dict_open h ss s = RangeOpen Braces (λ b. HasHead h (ss ++ suffixes.Dict b ∷ []) s)
+
 abbrev pub has_head : Head → List Suffix → FullStack → Token → Option State
 has_head h ss s t =
-    when sorts.OpenBracket (sort t) (RangeOpen Brackets (λ b. HasHead h (ss ++ suffixes.List b ∷ []) s))
-    (when sorts.OpenBrace (sort t) (RangeOpen Braces (λ b. HasHead h (ss ++ suffixes.Dict b ∷ []) s))
+    when sorts.OpenBracket (sort t) (list_open h ss s)
+    (when sorts.OpenBrace (sort t) (dict_open h ss s)
     (when sorts.Star (sort t) (HasHead h (ss ++ suffixes.Link ∷ []) s)
     (has_form (Formed h ss) s t)))
+
+-- after `extensible`, after `choice`, and after `,` in a choice
+abbrev pub extensible_read : FullStack → State
+extensible_read s = Takes AnOpenBrace (λ o. FieldsOpen true [] s)
+
+abbrev pub text_wanted : List (List ℕ) → FullStack → State
+text_wanted xs s = Takes AText (λ x. TextsOpen (xs ++ x.value ∷ []) s)
+
+abbrev pub choice_read : FullStack → State
+choice_read s = Takes AnOpen (λ o. text_wanted [] s)
+
+-- after the `(` of bounds
+abbrev pub bounds_wanted : Token → FullStack → State
+bounds_wanted n s = NeedBounds Parens (λ b. HasHead (named n (Some b)) [] s)
 
 abbrev pub full_at : Token → FullStack → Option State
 full_at t s =
     when sorts.OpenBrace (sort t) (FieldsOpen false [] s)
-    (when sorts.Extensible (sort t) (Takes AnOpenBrace (λ o. FieldsOpen true [] s))
-    (when sorts.Choice (sort t) (Takes AnOpen (λ o. Takes AText (λ x. TextsOpen (x.value ∷ []) s)))
+    (when sorts.Extensible (sort t) (extensible_read s)
+    (when sorts.Choice (sort t) (choice_read s)
     (when_that (is_type_name (sort t)) (NameRead t s) None)))
 
 abbrev pub name_then : Token → FullStack → Token → Option State
-name_then n s t = when sorts.Open (sort t) (NeedBounds Parens (λ b. HasHead (named n (Some b)) [] s)) (has_head (named n None) [] s t)
+name_then n s t = when sorts.Open (sort t) (bounds_wanted n s) (has_head (named n None) [] s t)
 
 abbrev pub texts_then : List (List ℕ) → FullStack → Token → Option State
 texts_then xs s t =
-    when sorts.Comma (sort t) (Takes AText (λ x. TextsOpen (xs ++ x.value ∷ []) s))
+    when sorts.Comma (sort t) (text_wanted xs s)
     (when sorts.Close (sort t) (HasHead (types.Choice xs) [] s) None)
 
 abbrev pub hole_has : Hole → Item → Token → Option State
@@ -251,13 +202,26 @@ unary_at t n =
     (when sorts.Open (sort t) (NeedItem (InParens t.place n))
     (when_some (unary_of (sort t)) (λ op. NeedUnary (Signed op t.place n)) None)))
 
+-- after `if`, `while`, `for` and `foreach`
+abbrev pub if_read : Place → ItemStack → State
+if_read p s = Takes AnOpen (λ o. NeedItem (InParts (if_parts p) s))
+
+abbrev pub while_read : Place → ItemStack → State
+while_read p s = Takes AnOpen (λ o. NeedItem (InParts (while_parts p) s))
+
+abbrev pub for_read : Place → ItemStack → State
+for_read p s = Takes AnOpen (λ o. NeedItem (InParts (for_parts p) s))
+
+abbrev pub foreach_read : Place → ItemStack → State
+foreach_read p s = Takes AnOpen (λ o. Takes AWord (λ k. Takes ASemicolon (λ s1. Takes AWord (λ v. Takes ASemicolon (λ s2. NeedItem (InParts (foreach_parts p k.value v.value) s))))))
+
 abbrev pub item_at : Token → ItemStack → Option State
 item_at t s =
     when sorts.OpenBrace (sort t) (BlockOpen t.place [] s)
-    (when sorts.If (sort t) (Takes AnOpen (λ o. NeedItem (InParts (if_parts t.place) s)))
-    (when sorts.While (sort t) (Takes AnOpen (λ o. NeedItem (InParts (while_parts t.place) s)))
-    (when sorts.For (sort t) (Takes AnOpen (λ o. NeedItem (InParts (for_parts t.place) s)))
-    (when sorts.Foreach (sort t) (Takes AnOpen (λ o. Takes AWord (λ k. Takes ASemicolon (λ s1. Takes AWord (λ v. Takes ASemicolon (λ s2. NeedItem (InParts (foreach_parts t.place k.value v.value) s)))))))
+    (when sorts.If (sort t) (if_read t.place s)
+    (when sorts.While (sort t) (while_read t.place s)
+    (when sorts.For (sort t) (for_read t.place s)
+    (when sorts.Foreach (sort t) (foreach_read t.place s)
     (when_that (is_plain (sort t)) (ItemWord t s)
     (unary_at t (down 9 (Chained s))))))))
 
@@ -290,7 +254,7 @@ has_primary n x t = when sorts.OpenBracket (sort t) (NeedItem (InIndex x n)) (ha
 abbrev pub has_reference : Token → List Item → Node → ItemStack → Token → Option State
 has_reference f is x s t =
     when sorts.OpenBracket (sort t) (NeedItem (InReference f is x s))
-    (when sorts.Assign (sort t) (NeedItem (InParts (Last (λ y. assigned (reference f is) y)) s))
+    (when sorts.Assign (sort t) (NeedItem (InParts (right_side (reference f is)) s))
     (has_node (down 9 (Chained s)) x t))
 
 abbrev pub step : State → Token → Option State
@@ -307,7 +271,7 @@ step (HasHead h ss s) t = has_head h ss s t
 step (NeedSigned next) t = signed_at next t
 step (NeedBounds c next) t = bounds_at c next t
 step (HasLow c p n next) t = when (closing c) (sort t) (next (bounds p (Some n) (Some n))) (when sorts.Range (sort t) (RangeRead c p n next) None)
-step (RangeRead c p n next) t = when (closing c) (sort t) (next (bounds p (Some n) None)) (signed_at (λ m. Takes (Closes c) (λ k. next (bounds p (Some n) (Some m)))) t)
+step (RangeRead c p n next) t = when (closing c) (sort t) (next (bounds p (Some n) None)) (signed_at (high_read c p n next) t)
 step (RangeOpen c next) t = when (closing c) (sort t) (next None) (bounds_at c (λ b. next (Some b)) t)
 step (NeedItem s) t = item_at t s
 step (NeedUnary n) t = unary_at t n
@@ -320,59 +284,6 @@ step (HasItem i s) t = has_item s i t
 step (HasPrimary x n) t = has_primary n x t
 step (HasNode x n) t = has_node n x t
 step (Done z) t = None
-
--- ---- how deep what begins is
-
--- how many constructs that count hold what is awaited
-abbrev pub full_holders : FullStack → ℕ
-full_holders (StatementType h ss make) = 0
-full_holders (InField k c e fs s) = suc (suc (full_holders s))
-
-abbrev pub hole_holders : Hole → ℕ
-hole_holders (StatementItem h ss make) = 0
-hole_holders (AfterEquals f s) = full_holders s
-hole_holders (AfterWith f e s) = full_holders s
-
-abbrev mutual
-  pub holders : ItemStack → ℕ
-  holders (Out o) = hole_holders o
-  holders (InBlock p is s) = suc (holders s)
-  holders (InParts parts s) = suc (holders s)
-  holders (InReference f is x s) = suc (holders s)
-  holders (InIndex x n) = node_holders n
-  holders (InParens p n) = node_holders n
-  holders (InCall f is n) = node_holders n
-
-  pub node_holders : {l : ℕ} → NodeStack l → ℕ
-  node_holders (Chained s) = suc (holders s)
-  node_holders (Signed op p n) = suc (node_holders n)
-  node_holders (First n) = node_holders n
-  node_holders (Operand op a n) = node_holders n
-
-abbrev pub signed : Sort → Bool
-signed s = is_some (unary_of s)
-
-abbrev pub starts_record : Sort → Bool
-starts_record s = at sorts.OpenBrace s || at sorts.Extensible s
-
--- the depth of the deepest construct that begins at a token, or 0
-abbrev pub unary_opens : ℕ → Sort → ℕ
-unary_opens d s = if signed s then suc d else 0
-
-abbrev pub item_opens : ℕ → Sort → ℕ
-item_opens d s = if signed s then suc (suc d) else suc d
-
-abbrev pub full_opens : ℕ → Sort → ℕ
-full_opens d s = if starts_record s then suc (suc d) else suc d
-
-abbrev pub opens : State → Token → ℕ
-opens (NeedItem s) t = item_opens (holders s) (sort t)
-opens (NeedUnary n) t = unary_opens (node_holders n) (sort t)
-opens (BlockOpen p is s) t = if at sorts.CloseBrace (sort t) then 0 else item_opens (suc (holders s)) (sort t)
-opens (CallOpen f n) t = if at sorts.Close (sort t) then 0 else item_opens (node_holders n) (sort t)
-opens (NeedFull s) t = full_opens (full_holders s) (sort t)
-opens (IncludeRead p h ss) t = 1
-opens _ t = 0
 
 -- ---- whole readings
 

@@ -1,5 +1,5 @@
 -- What tokens complete what is open to a whole text with the tree z: what the grammar still wants, then what is below.
-use Rattle.std.specs.Prelude.{◌≡◌, ◌≢◌, ℕ, zero, suc, ℤ, Bool, true, ◌⊎◌, List, [], ◌∷◌, ◌++◌, Option, Some, None}
+use Rattle.std.specs.Prelude.{◌≡◌, ℕ, zero, suc, ℤ, Bool, true, ◌⊎◌, List, [], ◌∷◌, ◌++◌, Option, Some, None}
 use Rattle.pan_ast.specs.declared.sort.Sort.{Sort}
 use Rattle.pan_ast.specs.declared.sort.Sort.TheVariants as sorts
 use Rattle.pan_ast.specs.declared.token.Token.{Token}
@@ -15,7 +15,8 @@ use Rattle.pan_ast.specs.Templates as statements
 use Rattle.pan_grammar.specs.Grammar.{Tokens, NotElse, block, plain, reference, assigned, name, called, inside, index, joined, IsItem, IsIndexes, IsItems, IsMore, IsTail, IsUnary, IsSuffix, IsArgs, IsMoreArgs}
 use Rattle.pan_grammar.specs.Types.{bounds, named, recorded, own, IsSigned, IsHigh, IsBounds, IsRange, IsBounded, IsSuffixes, IsTexts, IsOption, IsFull, IsFields}
 use Rattle.pan_grammar.specs.Templates.{stated, Header, template, IsSetting, IsIncluded, IsStatements, IsTemplate}
-use Rattle.pan_grammar.specs.Machine.{FullStack, StatementType, InField, Hole, StatementItem, AfterEquals, AfterWith, divider, Parts, Last, Further, MayElse, ItemStack, Out, InBlock, InParts, InReference, InIndex, InParens, InCall, NodeStack, Chained, Signed, First, Operand, down, closing, Wanted, fits, State, Start, Takes, Statements, FinalRead, IncludeRead, NeedFull, NameRead, TextsOpen, FieldsOpen, HasHead, NeedSigned, NeedBounds, HasLow, RangeRead, RangeOpen, NeedItem, NeedUnary, BlockOpen, WordRead, ItemWord, HasReference, CallOpen, HasItem, HasPrimary, HasNode, Done, full_holders, holders, node_holders}
+use Rattle.pan_grammar.specs.States.{FullStack, StatementType, InField, Hole, StatementItem, AfterEquals, AfterWith, divider, Parts, Last, Further, MayElse, ItemStack, Out, InBlock, InParts, InReference, InIndex, InParens, InCall, NodeStack, Chained, Signed, First, Operand, down, closing, Wanted, fits, State, Start, Takes, Statements, FinalRead, IncludeRead, NeedFull, NameRead, TextsOpen, FieldsOpen, HasHead, NeedSigned, NeedBounds, HasLow, RangeRead, RangeOpen, NeedItem, NeedUnary, BlockOpen, WordRead, ItemWord, HasReference, CallOpen, HasItem, HasPrimary, HasNode, Done}
+use Rattle.pan_grammar.specs.Depths.{full_holders, holders, node_holders}
 
 -- one token of a sort
 pub data IsOne : Sort → Tokens → Tokens → Type 0 where
