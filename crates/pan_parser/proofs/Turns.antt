@@ -13,8 +13,11 @@ use Rattle.pan_ast.specs.Sorts.{sort, at, is_plain}
 use Rattle.pan_ast.specs.Syntax.{Item, Node}
 use Rattle.pan_ast.specs.Syntax as nodes
 use Rattle.pan_ast.specs.Templates.{Template}
-use Rattle.pan_grammar.specs.Grammar.{Tokens, Operator, block, called, name, index, plain, reference, assigned, joined, literal, op_of, unary_of}
-use Rattle.pan_grammar.specs.Machine.{Stop, Bad, Deep, State, Takes, AnOpen, AWord, ASemicolon, Closes, Parens, Braces, NeedItem, NeedUnary, BlockOpen, WordRead, ItemWord, HasReference, CallOpen, HasItem, HasPrimary, HasNode, ItemStack, InBlock, InParts, InReference, InIndex, InParens, InCall, NodeStack, Chained, Signed, First, Operand, Last, Further, MayElse, if_parts, while_parts, for_parts, foreach_parts, down, when_that, item_at, unary_at, has_node, holders, node_holders, signed, item_opens, unary_opens, over, run}
+use Rattle.pan_grammar.specs.Depths.{holders, item_opens, node_holders, signed, unary_opens}
+use Rattle.pan_grammar.specs.Grammar.{Operator, Tokens, assigned, block, called, index, joined, literal, op_of, plain, reference, unary_of}
+use Rattle.pan_grammar.specs.Machine.{Bad, Deep, Stop, has_node, item_at, over, run, unary_at, when_that}
+use Rattle.pan_grammar.specs.States.{ASemicolon, AWord, AnOpen, BlockOpen, Braces, CallOpen, Chained, Closes, First, Further, HasItem, HasNode, HasPrimary, HasReference, InBlock, InCall, InIndex, InParens, InParts, InReference, ItemStack, ItemWord, Last, MayElse, NeedItem, NeedUnary, NodeStack, Operand, Parens, Signed, State, Takes, WordRead, down, for_parts, foreach_parts, if_parts, while_parts}
+use Rattle.pan_grammar.specs.Grammar.{name}
 use Rattle.pan_grammar.proofs.Tests.{at_true, at_miss, miss, taken, passed}
 use Rattle.pan_parser.specs.declared.stopped.Stopped.{Stopped}
 use Rattle.pan_parser.specs.declared.stopped.Stopped.TheVariants as stops

@@ -6,8 +6,10 @@ use Rattle.pan_ast.specs.declared.token.Token.{Token}
 use Rattle.pan_ast.specs.Sorts.{sort, at, is_plain}
 use Rattle.pan_ast.specs.Syntax.{Item, Node}
 use Rattle.pan_ast.specs.Templates.{Template}
-use Rattle.pan_grammar.specs.Grammar.{Tokens, Operator, Of, Both, Either, index, op_of, unary_of}
-use Rattle.pan_grammar.specs.Machine.{Stop, Bad, Deep, State, step, opens, at_end, when_that}
+use Rattle.pan_grammar.specs.Depths.{opens}
+use Rattle.pan_grammar.specs.Grammar.{Both, Either, Of, Operator, Tokens, index, op_of, unary_of}
+use Rattle.pan_grammar.specs.Machine.{Bad, Deep, Stop, at_end, step, when_that}
+use Rattle.pan_grammar.specs.States.{State}
 use Rattle.pan_parser.specs.declared.stopped.Stopped.{Stopped}
 use Rattle.pan_parser.specs.declared.stopped.Stopped.TheVariants as stops
 use Rattle.pan_parser.specs.declared.tables.Operator.{Operator as ROperator}

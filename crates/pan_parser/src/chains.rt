@@ -1,8 +1,11 @@
 ghost use Rattle.std.specs.Prelude.{◌≡◌, ◌<◌, ◌≤◌, [], ℕ, zero, suc, IfOk, length, map};
 ghost use Rattle.pan_ast.specs.Seen.{item_seen, node_seen};
-ghost use Rattle.pan_grammar.specs.Grammar.{called, name};
+ghost use Rattle.pan_grammar.specs.Depths.{holders, node_holders};
+ghost use Rattle.pan_grammar.specs.Grammar.{called};
+ghost use Rattle.pan_grammar.specs.Machine.{run};
+ghost use Rattle.pan_grammar.specs.States.{CallOpen, Chained, HasItem, HasNode, HasPrimary, HasReference, ItemStack, NeedUnary, NodeStack, WordRead, down};
+ghost use Rattle.pan_grammar.specs.Grammar.{name};
 ghost use Rattle.pan_ast.specs.declared.sort.Sort.TheVariants.{OpenBracket};
-ghost use Rattle.pan_grammar.specs.Machine.{ItemStack, NodeStack, Chained, CallOpen, HasItem, HasNode, HasPrimary, HasReference, NeedUnary, WordRead, down, holders, node_holders, run};
 ghost use Rattle.pan_parser.specs.Answers.{Goes, NoSign, NotAt, indexed};
 
 use crate::items::item;

@@ -3,8 +3,11 @@ ghost use Rattle.pan_ast.specs.declared.token.Token.{Token};
 ghost use Rattle.pan_ast.specs.Seen.{item_seen};
 ghost use Rattle.pan_ast.specs.declared.sort.Sort.TheVariants.{OpenBracket};
 ghost use Rattle.pan_ast.specs.Syntax.{Item as Seen};
-ghost use Rattle.pan_grammar.specs.Grammar.{block, name};
-ghost use Rattle.pan_grammar.specs.Machine.{ItemStack, InParts, Parts, Further, Divider, divider, if_parts, while_parts, for_parts, foreach_parts, State, Takes, AnOpen, AWord, ASemicolon, BlockOpen, HasItem, HasReference, ItemWord, NeedItem, holders, run};
+ghost use Rattle.pan_grammar.specs.Depths.{holders};
+ghost use Rattle.pan_grammar.specs.Grammar.{block};
+ghost use Rattle.pan_grammar.specs.Machine.{run};
+ghost use Rattle.pan_grammar.specs.States.{ASemicolon, AWord, AnOpen, BlockOpen, Divider, Further, HasItem, HasReference, InParts, ItemStack, ItemWord, NeedItem, Parts, State, Takes, divider, for_parts, foreach_parts, if_parts, while_parts};
+ghost use Rattle.pan_grammar.specs.Grammar.{name};
 ghost use Rattle.pan_parser.specs.Answers.{Fails, Goes, NotAt, indexed};
 
 use crate::chains::{arguments, chain_item, indexes, reference_indexes, unary};

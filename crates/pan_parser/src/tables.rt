@@ -1,7 +1,8 @@
 ghost use Rattle.std.specs.Prelude.{◌≡◌, ◌<◌, ◌≤◌, ◌∷◌, ◌^◌, ◌-◌, [], IfOk, MatchOption, map, min, pos, option_map};
 ghost use Rattle.pan_ast.specs.Sorts.{sort};
 ghost use Rattle.pan_ast.specs.Seen.{item_seen, node_seen};
-ghost use Rattle.pan_grammar.specs.Grammar.{operator, joined, level, literal, name, number, unary_of};
+ghost use Rattle.pan_grammar.specs.Grammar.{joined, level, literal, number, operator, unary_of};
+ghost use Rattle.pan_grammar.specs.Grammar.{name};
 ghost use Rattle.path_tree.specs.Grammar.{number_of};
 ghost use Rattle.pan_parser.specs.Answers.{IsOperator, NoOperator, indexed, op_seen, starts_item};
 

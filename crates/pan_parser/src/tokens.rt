@@ -1,7 +1,8 @@
 ghost use Rattle.std.specs.Prelude.{◌≡◌, ◌<◌, ◌∷◌, [], IfOk, MatchOption, length};
 ghost use Rattle.pan_ast.specs.declared.token.Token.{Token};
 ghost use Rattle.pan_ast.specs.Sorts.{at, is_word, sort};
-ghost use Rattle.pan_grammar.specs.Machine.{State, run};
+ghost use Rattle.pan_grammar.specs.Machine.{run};
+ghost use Rattle.pan_grammar.specs.States.{State};
 ghost use Rattle.pan_parser.specs.Answers.{Goes, Wants, NotAt, IsAt};
 
 use crate::stopped::Stopped;

@@ -5,8 +5,11 @@ use Rattle.pan_ast.specs.Seen.{item_seen, node_seen}
 use Rattle.pan_ast.specs.Sorts.{at, is_plain, sort}
 use Rattle.pan_ast.specs.Syntax.{choice}
 use Rattle.pan_ast.specs.Syntax as nodes
-use Rattle.pan_grammar.specs.Grammar.{assigned, block, called, index, inside, name, reference, unary_of}
-use Rattle.pan_grammar.specs.Machine.{AnOpen, AtClose, AtSemicolon, Braces, Chained, Closes, Further, HasItem, HasNode, HasPrimary, HasReference, InBlock, InCall, InIndex, InParens, InParts, InReference, Last, MayElse, NeedItem, NodeStack, Parens, Signed, Takes, down, for_parts, foreach_parts, holders, if_parts, node_holders, run, while_parts}
+use Rattle.pan_grammar.specs.Depths.{holders, node_holders}
+use Rattle.pan_grammar.specs.Grammar.{assigned, block, called, index, inside, reference, unary_of}
+use Rattle.pan_grammar.specs.Machine.{run}
+use Rattle.pan_grammar.specs.States.{AnOpen, AtClose, AtSemicolon, Braces, Chained, Closes, Further, HasItem, HasNode, HasPrimary, HasReference, InBlock, InCall, InIndex, InParens, InParts, InReference, Last, MayElse, NeedItem, NodeStack, Parens, Signed, Takes, down, for_parts, foreach_parts, if_parts, while_parts}
+use Rattle.pan_grammar.specs.Grammar.{name}
 use Rattle.pan_parser.specs.Answers.{indexed, op_seen}
 use Rattle.pan_parser.proofs.Turns.{NotQuoted, assign_turns, at_zero, below, block_goes_on, chain_end, chain_fails, chain_init, chain_next, chain_turns, chained, down_holders, else_turns, fails_along, first_fails, goes_along, in_block, index_turns, item_call, last_argument, last_done, last_of_block, line_above, no_else, one_more, parens_turn, pushed_seen, reference_index, reference_pushed, sign_turns, signed_done}
 use Rattle.pan_parser.proofs.+items.Goals as goal

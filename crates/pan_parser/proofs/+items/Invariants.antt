@@ -1,8 +1,10 @@
 use Rattle.std.proofs.Common.{map, ◌≡◌, ◌<◌, ◌≤◌, [], length, ℕ, zero, suc, ◌+◌, ◌*◌}
 use Rattle.pan_ast.specs.declared.sort.Sort.TheVariants.{OpenBracket}
 use Rattle.pan_ast.specs.Seen.{item_seen, node_seen}
+use Rattle.pan_grammar.specs.Depths.{holders, node_holders}
+use Rattle.pan_grammar.specs.Machine.{run}
+use Rattle.pan_grammar.specs.States.{BlockOpen, CallOpen, HasNode, HasPrimary, HasReference, InCall, ItemStack, NeedItem, NodeStack}
 use Rattle.pan_grammar.specs.Grammar.{name}
-use Rattle.pan_grammar.specs.Machine.{ItemStack, NodeStack, NeedItem, BlockOpen, CallOpen, HasNode, InCall, HasPrimary, HasReference, run, holders, node_holders}
 use Rattle.pan_parser.specs.Answers.{indexed}
 use Rattle.pan_parser.proofs.Turns.{ReadsFirst}
 use Rattle.pan_parser.proofs.+items.Given as goal

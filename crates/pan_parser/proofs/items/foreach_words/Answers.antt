@@ -1,7 +1,7 @@
 use Rattle.std.proofs.Common.{refl, ◌∙◌}
 use Rattle.std.proofs.lemmas.Result.{err_from_is_err_and}
 use Rattle.pan_ast.specs.declared.token.Token.{Token}
-use Rattle.pan_grammar.specs.Machine.{State, Takes, AnOpen, AWord, ASemicolon}
+use Rattle.pan_grammar.specs.States.{ASemicolon, AWord, AnOpen, State, Takes}
 use Rattle.pan_parser.proofs.Turns.{fails_along}
 use Rattle.pan_parser.proofs.items.foreach_words.Goals as goal
 
