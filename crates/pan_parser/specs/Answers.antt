@@ -1,4 +1,5 @@
 -- What a function of the parser answers, from any state that needs what it reads.
+use Rattle.std.specs.Borrow.{Bor}
 use Rattle.std.specs.Prelude.{◌≡◌, ◌≢◌, ℕ, Bool, true, false, ◌||◌, List, [], ◌∷◌, ◌++◌, Option, Some, None, Result, Ok, Err, is_some}
 use Rattle.pan_ast.specs.declared.sort.Sort.{Sort}
 use Rattle.pan_ast.specs.declared.sort.Sort.TheVariants as sorts
@@ -10,6 +11,11 @@ use Rattle.pan_grammar.specs.Depths.{opens}
 use Rattle.pan_grammar.specs.Grammar.{Both, Either, Of, Operator, Tokens, index, op_of, unary_of}
 use Rattle.pan_grammar.specs.Machine.{Bad, Deep, Stop, at_end, step, when_that}
 use Rattle.pan_grammar.specs.States.{State}
+use Rattle.pan_ast.specs.Types.{Head}
+use Rattle.pan_ast.specs.declared.types.Suffix.{Suffix}
+use Rattle.pan_grammar.specs.Types.{is_suffix}
+use Rattle.pan_grammar.specs.States.{FullStack, HasHead}
+use Rattle.pan_grammar.specs.Machine.{and_run, run}
 use Rattle.pan_parser.specs.declared.stopped.Stopped.{Stopped}
 use Rattle.pan_parser.specs.declared.stopped.Stopped.TheVariants as stops
 use Rattle.pan_parser.specs.declared.tables.Operator.{Operator as ROperator}
@@ -81,3 +87,18 @@ starts_item sorts.Minus = true
 starts_item sorts.Not = true
 starts_item sorts.Flip = true
 starts_item s = is_plain s
+
+-- no suffix of a type stands at the front
+abbrev pub NoSuffix : Tokens → Type 0
+NoSuffix [] = Unit {0}
+NoSuffix (t ∷ ts) = is_suffix (sort t) ≡ false
+
+-- a type's head and suffixes, with the suffix that was read, or as before
+abbrev pub suffixed : Option (Suffix × Bor (List Token)) → Head → List Suffix → FullStack → Tokens → Result Template Stop
+suffixed None h ss s ts = run ts (HasHead h ss s)
+suffixed (Some r) h ss s ts = run r.1.now (HasHead h (ss ++ r.0 ∷ []) s)
+
+-- the reading goes on at the first token as `here` says, where nothing begins
+abbrev pub on_front : (Token → Option State) → Tokens → Result Template Stop
+on_front here [] = Err (Bad [])
+on_front here (t ∷ ts) = and_run (here t) false (run ts) (t ∷ ts)

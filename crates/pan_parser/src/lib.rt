@@ -8,8 +8,10 @@
 //! for what), `items` (items), `chains` (operators and operands).
 #![tactic(auto)]
 
+mod bounds;
 mod chains;
 mod items;
 mod stopped;
 mod tables;
 mod tokens;
+mod types;

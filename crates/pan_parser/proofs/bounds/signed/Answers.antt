@@ -1,0 +1,34 @@
+use Rattle.std.proofs.Common.{◌∙◌, ◌++◌, [], ◌∷◌, ◌≡◌, rules, neg_ℤ, ℤ, sym, refl, ap, Some, None}
+use Rattle.std.proofs.lemmas.Result.{err_from_is_err_and}
+use Rattle.pan_ast.specs.declared.types.Suffix.TheVariants as suffix
+use Rattle.std.proofs.lemmas.Int.{to_z-of_z}
+use mir.Val.{SFits, of_z, to_z}
+use mir.Syntax.{w64}
+use Rattle.pan_grammar.specs.Grammar.{number}
+use Rattle.pan_grammar.specs.Machine.{high_read, high_wanted, minus_read, run}
+use Rattle.pan_grammar.specs.States.{AnInt, Braces, Brackets, Closes, HasHead, HasLow, Takes}
+use Rattle.pan_grammar.specs.Types.{bounds}
+use Rattle.pan_parser.proofs.Turns.{fails_along, goes_along}
+use Rattle.pan_parser.proofs.TypeTurns.{a_range, dict_turns, high_needed, int_wanted, link_turns, list_turns, low_closes, low_first, low_ranges, low_stops, minus_turns, no_range, range_closes, range_first}
+use Rattle.pan_parser.proofs.bounds.signed.Goals as goal
+
+pub returns-in_err-number-clause-read : goal.returns-in_err-number-clause-read
+returns-in_err-number-clause-read c = λ next.
+    let p = err_from_is_err_and c.from_residual.result c.from_residual.ensures.1 in
+    rw (p.1, p.2) (fails_along c.in_err-number.field-0.0 _ _ (int_wanted c.args.tokens.now next c.in_default.ensures) (c.in_err-number.ensures.read (Takes AnInt (λ t. next (number t))) (λ t. next (number t)) (refl, λ t. refl, λ t. refl)))
+
+pub returns-in_default-clause-read : goal.returns-in_default-clause-read
+returns-in_default-clause-read c = λ next.
+    let f : SFits w64 c.long.result = search rules in
+    int_wanted c.args.tokens.now next c.in_default.ensures ∙ c.in_ok-number.ensures.read (Takes AnInt (λ t. next (number t))) (λ t. next (number t)) (refl, λ t. refl, λ t. refl) ∙ ap (λ v. run c.in_ok-number.rest.now (next v)) (sym (to_z-of_z w64 c.long.result f ∙ c.long.ensures))
+
+pub returns-in_err-number-2-clause-read : goal.returns-in_err-number-2-clause-read
+returns-in_err-number-2-clause-read c = λ next.
+    let p = err_from_is_err_and c.from_residual-in_err-number-2.result c.from_residual-in_err-number-2.ensures.1 in
+    rw (p.1, p.2) (fails_along c.in_err-number-2.field-0.0 _ _ (minus_turns c.args.tokens.now c.in-Some.after.now next c.in-Some.ensures) (c.in_err-number-2.ensures.read (minus_read next) (λ t. next (neg_ℤ (number t))) (refl, λ t. refl, λ t. refl)))
+
+pub returns-clause-read : goal.returns-clause-read
+returns-clause-read c = λ next.
+    let r = c.in_ok-number-2 in
+    let f : SFits w64 c.negative.result = search rules in
+    minus_turns c.args.tokens.now c.in-Some.after.now next c.in-Some.ensures ∙ r.ensures.read (minus_read next) (λ t. next (neg_ℤ (number t))) (refl, λ t. refl, λ t. refl) ∙ ap (λ v. run r.rest.now (next v)) (sym (to_z-of_z w64 c.negative.result f ∙ c.negative.ensures))
