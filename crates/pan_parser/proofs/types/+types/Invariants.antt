@@ -17,8 +17,8 @@ decreases-field l = 4 * length l.tokens.now
 abbrev pub decreases-fields : goal.decreases-fields
 decreases-fields l = 4 * length l.tokens.now + 2
 
-abbrev pub invariant-fields-loop-fields : goal.invariant-fields-loop-fields
-invariant-fields-loop-fields l = ((e : Bool) (s : FullStack) → suc (suc (full_holders s)) ≡ l.fn.depth → run l.fn.tokens (FieldsOpen e [] s) ≡ run l.rest (FieldsOpen e (map field_seen l.fields.items) s)) × (length l.rest ≤ length l.fn.tokens)
+abbrev pub invariant-fields-loop-after : goal.invariant-fields-loop-after
+invariant-fields-loop-after l = ((e : Bool) (s : FullStack) → suc (suc (full_holders s)) ≡ l.fn.depth → run l.fn.tokens (FieldsOpen e [] s) ≡ run l.rest (FieldsOpen e (map field_seen l.fields.items) s)) × (length l.rest ≤ length l.fn.tokens)
 
-abbrev pub decreases-fields-loop-fields : goal.decreases-fields-loop-fields
-decreases-fields-loop-fields l = length l.rest
+abbrev pub decreases-fields-loop-after : goal.decreases-fields-loop-after
+decreases-fields-loop-after l = length l.rest
