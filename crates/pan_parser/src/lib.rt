@@ -11,6 +11,7 @@
 mod bounds;
 mod chains;
 mod items;
+mod statements;
 mod stopped;
 mod tables;
 mod tokens;

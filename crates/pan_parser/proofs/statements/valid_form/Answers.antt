@@ -1,0 +1,32 @@
+use Rattle.std.proofs.Common.{map, ◌∙◌, ◌++◌, [], ◌∷◌, ◌≡◌, rules, sym, refl, ap, arith, length, true, false, List}
+use Rattle.std.proofs.lemmas.Result.{err_from_is_err_and}
+use Rattle.pan_ast.specs.declared.sort.Sort.TheVariants as sorts
+use Rattle.pan_ast.specs.Seen.{item_seen}
+use Rattle.pan_ast.specs.Sorts.{at, sort}
+use Rattle.pan_ast.specs.Syntax as nodes
+use Rattle.pan_ast.specs.Templates as plain
+use Rattle.pan_ast.specs.TemplatesSeen.{form_seen, statement_seen}
+use Rattle.pan_ast.specs.TypesSeen.{full_seen}
+use Rattle.pan_grammar.specs.Grammar.{block}
+use Rattle.pan_grammar.specs.Grammar as grammar
+use Rattle.pan_grammar.specs.Machine.{bind_read, function_read, full_of, item_of, path_read, prefix_read, run, setting_at, text_included_read, type_read, valid_read, variable_read}
+use Rattle.pan_grammar.specs.States.{ASemicolon, ASetting, AnAssign, FinalRead, HasItem, IncludeRead, NeedFull, Out, StatementItem, StatementType, Statements, Takes}
+use Rattle.pan_grammar.specs.Templates.{conditional, stated}
+use Rattle.pan_parser.specs.Answers.{on_front}
+use Rattle.pan_parser.proofs.Turns.{fails_along, goes_along}
+use Rattle.pan_parser.proofs.StatementTurns.{block_included, final_turns, include_stops, not_there, path_turns, pushed_statements, setting_stops, setting_turns, statements_end, text_included, type_ends, type_goes_on, variable_turns}
+use Rattle.pan_parser.proofs.statements.valid_form.Goals as goal
+
+pub returns-in_err-path-clause-read : goal.returns-in_err-path-clause-read
+returns-in_err-path-clause-read c = λ q h ss.
+    let p = err_from_is_err_and c.from_residual.result c.from_residual.ensures.1 in
+    rw (p.1, p.2) (c.in_err-path.ensures.read (valid_read q h ss) (λ w. Takes AnAssign (λ e. item_of h ss (λ i. stated q (plain.Valid w.value i)))) (refl, λ t. refl, λ t. refl))
+
+pub returns-in_err-body-clause-read : goal.returns-in_err-body-clause-read
+returns-in_err-body-clause-read c = λ q h ss.
+    let p = err_from_is_err_and c.from_residual-in_err-body.result c.from_residual-in_err-body.ensures.1 in
+    rw (p.1, p.2) (fails_along c.in_err-body.field-0.0 _ _ (c.in_ok-path.ensures.read (valid_read q h ss) (λ w. Takes AnAssign (λ e. item_of h ss (λ i. stated q (plain.Valid w.value i)))) (refl, λ t. refl, λ t. refl)) (c.in_err-body.ensures.read h ss (λ i. stated q (plain.Valid c.in_ok-path.path.now.value i))))
+
+pub returns-clause-read : goal.returns-clause-read
+returns-clause-read c = λ q h ss.
+    c.in_ok-path.ensures.read (valid_read q h ss) (λ w. Takes AnAssign (λ e. item_of h ss (λ i. stated q (plain.Valid w.value i)))) (refl, λ t. refl, λ t. refl) ∙ c.in_ok-body.ensures.read h ss (λ i. stated q (plain.Valid c.in_ok-path.path.now.value i)) ∙ ap (λ v. run c.in_ok-body.rest.now (Statements h (ss ++ stated q v ∷ []))) (sym c.in_ok-valid_statement.ensures)
