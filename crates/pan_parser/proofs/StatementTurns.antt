@@ -1,9 +1,11 @@
 -- Steps of the functions that read statements, as equations of whole readings.
-use Rattle.std.proofs.Common.{map, ap, ◌≡◌, ◌≢◌, Bool, true, false, List, [], ◌∷◌, ◌++◌, Option, Some, None, Err, refl, sym, subst, ◌∙◌}
+use Rattle.std.proofs.Common.{ℕ, map, ap, ◌≡◌, ◌≢◌, Bool, true, false, List, [], ◌∷◌, ◌++◌, Option, Some, None, Err, refl, sym, subst, ◌∙◌}
 use Rattle.std.proofs.lemmas.List.{map_push}
 use Rattle.pan_ast.specs.declared.place.Place.{Place}
 use Rattle.pan_ast.specs.declared.sort.Sort.{Sort}
 use Rattle.pan_ast.specs.declared.sort.Sort.TheVariants as sorts
+use Rattle.pan_ast.specs.declared.template.TemplateKind.{TemplateKind}
+use Rattle.pan_ast.specs.declared.template.TemplateKind.TheVariants as kinds
 use Rattle.pan_ast.specs.declared.template.Statement.{Statement as RStatement}
 use Rattle.pan_ast.specs.declared.token.Token.{Token}
 use Rattle.pan_ast.specs.Sorts.{at, sort}
@@ -11,9 +13,9 @@ use Rattle.pan_ast.specs.Templates.{Statement}
 use Rattle.pan_ast.specs.TemplatesSeen.{statement_seen}
 use Rattle.pan_ast.specs.Types.{FullType}
 use Rattle.pan_grammar.specs.Grammar.{Tokens}
-use Rattle.pan_grammar.specs.Machine.{Bad, bind_read, block_included_read, function_read, has_full, path_read, prefix_read, run, setting_at, statements_at, text_included_read, type_read, valid_read, variable_read}
-use Rattle.pan_grammar.specs.States.{Done, FinalRead, IncludeRead, StatementType, Statements}
-use Rattle.pan_grammar.specs.Templates.{Header, template}
+use Rattle.pan_grammar.specs.Machine.{Bad, bind_read, block_included_read, function_read, has_full, kind_read, name_wanted, path_read, prefix_read, run, setting_at, statements_at, text_included_read, type_read, valid_read, variable_read}
+use Rattle.pan_grammar.specs.States.{Done, FinalRead, IncludeRead, Start, StatementType, Statements}
+use Rattle.pan_grammar.specs.Templates.{Header, kind_of, template}
 use Rattle.pan_grammar.proofs.Tests.{at_miss, at_true, miss}
 use Rattle.pan_parser.specs.Answers.{IsAt, NotAt, on_front}
 
@@ -66,3 +68,18 @@ statements_end ts on h ss i = let c = i.1 in let e = at_true sorts.End (sort i.0
 
 pub pushed_statements : (new is : List RStatement) (i : RStatement) → new ≡ is ++ i ∷ [] → map statement_seen new ≡ map statement_seen is ++ statement_seen i ∷ []
 pushed_statements new is i e = ap (map statement_seen) e ∙ map_push statement_seen is i
+
+-- ---- headers
+
+pub ordinary_turns : (ts on : Tokens) (first : Token) → ts ≡ first ∷ on → at sorts.Template (sort first) ≡ true → run ts Start ≡ run on (name_wanted kinds.Ordinary first.place)
+ordinary_turns ts on first cut e = rw (cut, e) refl
+
+pub kind_turns : (ts on : Tokens) (first : Token) (k : TemplateKind) → ts ≡ first ∷ on → at sorts.Template (sort first) ≡ false → kind_of (sort first) ≡ Some k → run ts Start ≡ run on (kind_read first.place k)
+kind_turns ts on first k cut other e = rw (cut, other, e) refl
+
+pub start_stops : (ts on : Tokens) (first : Token) → ts ≡ first ∷ on → at sorts.Template (sort first) ≡ false → kind_of (sort first) ≡ None → run ts Start ≡ Err (Bad ts)
+start_stops ts on first cut other e = rw (cut, other, e) refl
+
+pub template_alike : (ts : Tokens) (k : TemplateKind) (p q : Place) (n : Token) (name : List ℕ) (r : Place) (ss : List Statement) → name ≡ n.value → r ≡ n.place → q ≡ p
+    → run ts (Done (template (record { kind = k; place = p; name = n }) ss)) ≡ run ts (Done (record { kind = k; name = name; name_place = r; place = q; statements = ss }))
+template_alike ts k p q n name r ss e f g = rw (e, f, g) refl

@@ -11,6 +11,7 @@
 mod bounds;
 mod chains;
 mod items;
+mod parsing;
 mod statements;
 mod stopped;
 mod tables;

@@ -103,10 +103,7 @@ fn variable_form(
 }
 
 /// After `function`.
-fn function_form(
-    alloc: Global,
-    tokens: &[Token],
-) -> Result<(StatementForm, &[Token]), Stopped<'_>>
+fn function_form(alloc: Global, tokens: &[Token]) -> Result<(StatementForm, &[Token]), Stopped<'_>>
     ensures read { (p : Place) (h : Header) (ss : List Shown) → Goes result (λ r. run r.1.now (Statements h (ss ++ stated p (form_seen r.0) ∷ []))) (run tokens.now (function_read p h ss)) }
     ensures shorter { IfOk result (λ r. length r.1.now < length tokens.now) }
 {

@@ -101,10 +101,7 @@ fn choice(alloc: Global, tokens: &[Token]) -> Result<(Head, &[Token]), Stopped<'
 }
 
 /// After a text of a choice: the texts through `)`, after those before.
-fn more_texts(
-    texts: Vec<Text>,
-    tokens: &[Token],
-) -> Result<(Vec<Text>, &[Token]), Stopped<'_>>
+fn more_texts(texts: Vec<Text>, tokens: &[Token]) -> Result<(Vec<Text>, &[Token]), Stopped<'_>>
     ensures read { (s : FullStack) → Goes result (λ r. run r.1.now (HasHead (plain.Choice r.0.items) [] s)) (run tokens.now (TextsOpen texts.items s)) }
     ensures shorter { IfOk result (λ r. length r.1.now < length tokens.now) }
 {
@@ -211,11 +208,7 @@ fn head(alloc: Global, depth: u8, tokens: &[Token]) -> Result<(Head, &[Token]), 
 
 /// After `{`: the fields through `}`.
 #[cycle(types)]
-fn fields(
-    alloc: Global,
-    depth: u8,
-    tokens: &[Token],
-) -> Result<(Vec<Field>, &[Token]), Stopped<'_>>
+fn fields(alloc: Global, depth: u8, tokens: &[Token]) -> Result<(Vec<Field>, &[Token]), Stopped<'_>>
     requires { depth ≤ 100 }
     ensures read { (e : Bool) (s : FullStack) → suc (suc (full_holders s)) ≡ depth → Goes result (λ r. run r.1.now (HasHead (recorded e (map field_seen r.0.items)) [] s)) (run tokens.now (FieldsOpen e [] s)) }
     ensures shorter { IfOk result (λ r. length r.1.now < length tokens.now) }
@@ -244,10 +237,7 @@ fn field(alloc: Global, depth: u8, tokens: &[Token]) -> Result<(Field, &[Token])
     };
     if Sort::Include.is(first.sort()) {
         let (name, rest) = expect_type_name(rest)?;
-        return Ok((
-            make_include(&first.place, &name.value, &name.place)?,
-            rest,
-        ));
+        return Ok((make_include(&first.place, &name.value, &name.place)?, rest));
     }
     let Some(key) = key_of(alloc, first)? else {
         return Err(Stopped::Bad(tokens));

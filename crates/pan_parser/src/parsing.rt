@@ -1,0 +1,102 @@
+ghost use Rattle.std.specs.Prelude.{◌≡◌, ◌&&◌, IfOk, Ok};
+ghost use Rattle.pan_ast.specs.declared.token.Token.{Token};
+ghost use Rattle.pan_ast.specs.Sorts.{at, sort};
+ghost use Rattle.pan_ast.specs.declared.sort.Sort.TheVariants as sorts;
+ghost use Rattle.pan_ast.specs.TemplatesSeen.{template_seen};
+ghost use Rattle.pan_grammar.specs.Machine.{name_wanted, run};
+ghost use Rattle.pan_grammar.specs.States.{Done, Start, State};
+ghost use Rattle.pan_grammar.specs.Templates.{kind_of};
+ghost use Rattle.path_tree.specs.Grammar.{is_name};
+ghost use Rattle.pan_parser.specs.Answers.{Goes, Wants};
+
+use crate::statements::statements;
+use crate::stopped::Stopped;
+use crate::tokens::{cut, expect};
+use pan_ast::{Place, Sort, Template, TemplateKind, Token};
+use path_tree::{Name, NameError};
+use std::alloc::{AllocError, Global};
+
+/// The kind that the word before `template` says.
+fn kind_of(sort: Sort) -> Option<TemplateKind>
+    ensures { result ≡ kind_of sort }
+{
+    match sort {
+        Sort::Object => Some(TemplateKind::Object),
+        Sort::Structure => Some(TemplateKind::Structure),
+        Sort::Unique => Some(TemplateKind::Unique),
+        Sort::Declaration => Some(TemplateKind::Declaration),
+        _ => None,
+    }
+}
+
+/// The token of a template's name, and the tokens after it.
+fn expect_name(alloc: Global, tokens: &[Token]) -> Result<(Name, &Token, &[Token]), Stopped<'_>>
+    ensures read { (s : State) (next : Token → State) → Wants s (λ t. at sorts.Name (sort t) && is_name t.value) next → Goes result (λ r. run r.2.now (next r.1.now)) (run tokens.now s) }
+    ensures name { IfOk result (λ r. r.0 ≡ r.1.now.value) }
+{
+    let Some((first, rest)) = cut(tokens) else {
+        return Err(Stopped::Bad(tokens));
+    };
+    if !Sort::Name.is(first.sort()) {
+        return Err(Stopped::Bad(tokens));
+    }
+    match Name::parse(alloc, first.value.as_str()) {
+        Ok(name) => Ok((name, first, rest)),
+        Err(NameError::BadName) => Err(Stopped::Bad(tokens)),
+        Err(NameError::Memory) => Err(Stopped::Memory),
+    }
+}
+
+/// After `template`: the name, and the statements to the End.
+fn named_template<'a>(
+    alloc: Global,
+    kind: TemplateKind,
+    place: &Place,
+    tokens: &'a [Token],
+) -> Result<(Template, &'a [Token]), Stopped<'a>>
+    ensures { Goes result (λ r. run r.1.now (Done (template_seen r.0))) (run tokens.now (name_wanted kind place.now)) }
+{
+    let (name, token, rest) = expect_name(alloc, tokens)?;
+    let (_, rest) = expect(Sort::Semicolon, rest)?;
+    let (statements, rest) = statements(alloc, rest)?;
+    let name_place = token.place.share()?;
+    let place = place.share()?;
+    Ok((
+        Template {
+            kind,
+            name,
+            name_place,
+            place,
+            statements,
+        },
+        rest,
+    ))
+}
+
+/// A template, and the tokens after its End.
+fn template(alloc: Global, tokens: &[Token]) -> Result<(Template, &[Token]), Stopped<'_>>
+    ensures { Goes result (λ r. run r.1.now (Done (template_seen r.0))) (run tokens.now Start) }
+{
+    let Some((first, rest)) = cut(tokens) else {
+        return Err(Stopped::Bad(tokens));
+    };
+    if Sort::Template.is(first.sort()) {
+        return named_template(alloc, TemplateKind::Ordinary, &first.place, rest);
+    }
+    let Some(kind) = kind_of(first.sort()) else {
+        return Err(Stopped::Bad(tokens));
+    };
+    let (_, rest) = expect(Sort::Template, rest)?;
+    named_template(alloc, kind, &first.place, rest)
+}
+
+/// The template that all the tokens are.
+pub(crate) fn read_all(alloc: Global, tokens: &[Token]) -> Result<Template, Stopped<'_>>
+    ensures { Goes result (λ z. Ok (template_seen z)) (run tokens.now Start) }
+{
+    let (whole, rest) = template(alloc, tokens)?;
+    match cut(rest) {
+        None => Ok(whole),
+        Some(_) => Err(Stopped::Bad(rest)),
+    }
+}
