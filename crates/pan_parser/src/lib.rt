@@ -10,6 +10,7 @@
 
 mod bounds;
 mod chains;
+mod errors;
 mod items;
 mod parsing;
 mod statements;
@@ -17,3 +18,6 @@ mod stopped;
 mod tables;
 mod tokens;
 mod types;
+
+pub use errors::ParseError;
+pub use parsing::parse;

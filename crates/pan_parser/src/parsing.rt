@@ -1,18 +1,23 @@
-ghost use Rattle.std.specs.Prelude.{◌≡◌, ◌&&◌, IfOk, Ok};
+ghost use Rattle.std.specs.Prelude.{◌≡◌, ◌≢◌, ◌&&◌, ◌∷◌, [], IfErr, IfOk, List, Ok};
 ghost use Rattle.pan_ast.specs.declared.token.Token.{Token};
 ghost use Rattle.pan_ast.specs.Sorts.{at, sort};
 ghost use Rattle.pan_ast.specs.declared.sort.Sort.TheVariants as sorts;
+ghost use Rattle.pan_ast.specs.declared.fault.Code.TheVariants.{BadSyntax, TooDeep};
+ghost use Rattle.pan_ast.specs.Templates.{Template as Seen};
 ghost use Rattle.pan_ast.specs.TemplatesSeen.{template_seen};
+ghost use Rattle.pan_grammar.specs.Faults.{DeepInLast, IsFirstBad, IsTooDeep, Parses, ParsesWhere};
 ghost use Rattle.pan_grammar.specs.Machine.{name_wanted, run};
 ghost use Rattle.pan_grammar.specs.States.{Done, Start, State};
 ghost use Rattle.pan_grammar.specs.Templates.{kind_of};
 ghost use Rattle.path_tree.specs.Grammar.{is_name};
 ghost use Rattle.pan_parser.specs.Answers.{Goes, Wants};
+ghost use Rattle.pan_parser.specs.Parsed.{EndsInEnd, FaultOn, Gives, IsFault, fault_at};
 
+use crate::errors::ParseError;
 use crate::statements::statements;
 use crate::stopped::Stopped;
 use crate::tokens::{cut, expect};
-use pan_ast::{Place, Sort, Template, TemplateKind, Token};
+use pan_ast::{Code, Fault, Place, Sort, Template, TemplateKind, Token};
 use path_tree::{Name, NameError};
 use std::alloc::{AllocError, Global};
 
@@ -98,5 +103,46 @@ pub(crate) fn read_all(alloc: Global, tokens: &[Token]) -> Result<Template, Stop
     match cut(rest) {
         None => Ok(whole),
         Some(_) => Err(Stopped::Bad(rest)),
+    }
+}
+
+fn fault(alloc: Global, code: Code, place: &Place) -> Result<Fault, AllocError>
+    ensures { IfOk result (λ f. f ≡ record { code = code; place = place.now; detail = [] }) }
+{
+    Fault::new(alloc, code, place.share()?, "")
+}
+
+/// The fault of a code at the first of the tokens.
+fn fault_on(alloc: Global, code: Code, tokens: &[Token]) -> ParseError
+    requires { tokens.now ≢ [] }
+    ensures { FaultOn code tokens.now result }
+{
+    let Some((first, _)) = cut(tokens) else {
+        unreachable!();
+    };
+    match fault(alloc, code, &first.place) {
+        Ok(fault) => ParseError::Fault(fault),
+        Err(_) => ParseError::Memory,
+    }
+}
+
+/// The template that the tokens of a file are.
+///
+/// F06 comes exactly where no F07 does and the tokens before a token begin some template, but none with it; F07
+/// exactly where constructs nest over 100 deep before that. The last token has to be an End.
+pub fn parse(alloc: Global, tokens: &[Token]) -> Result<Template, ParseError>
+    requires ended { EndsInEnd tokens.now }
+    ensures found { IfOk result (λ z. Parses tokens.now (template_seen z)) }
+    ensures only { (z : Seen) → Parses tokens.now z → IfOk result (λ y. template_seen y ≡ z) }
+    ensures shallow { IfOk result (λ z. ParsesWhere (DeepInLast 0) tokens.now (template_seen z)) }
+    ensures fault { IfErr result (λ e. IsFault tokens.now e) }
+    ensures bad { (k : Token) (on : List Token) → IsFirstBad tokens.now (k ∷ on) → Gives result (fault_at BadSyntax k) }
+    ensures deep { (k : Token) (on : List Token) → IsTooDeep tokens.now k on → Gives result (fault_at TooDeep k) }
+{
+    match read_all(alloc, tokens) {
+        Ok(template) => Ok(template),
+        Err(Stopped::Memory) => Err(ParseError::Memory),
+        Err(Stopped::Bad(rest)) => Err(fault_on(alloc, Code::BadSyntax, rest)),
+        Err(Stopped::Deep(rest)) => Err(fault_on(alloc, Code::TooDeep, rest)),
     }
 }
