@@ -58,4 +58,3 @@ read_not_deep ts z k on q b = let e = deep_exact ts k on b in absurd cc
 
 pub read_only : (ts : Tokens) (y z : Template) → run ts Start ≡ Ok y → Parses ts z → y ≡ z
 read_only ts y z q p = parse_unique ts y z (parse_sound ts y q) p
-

@@ -5,7 +5,8 @@
 //! there.
 //!
 //! In reading order: `stopped` (why a reading ends early), `tokens` (one token), `tables` (which words and signs stand
-//! for what), `items` (items), `chains` (operators and operands).
+//! for what), `items` and `chains` (items, and the operators and operands in them), `bounds` and `types` (types),
+//! `statements`, `errors` and `parsing` (a whole template, and its fault).
 #![tactic(auto)]
 
 mod bounds;
