@@ -1,0 +1,4 @@
+pub mod Turns
+pub mod TypeTurns
+pub mod StatementTurns
+pub mod Whole

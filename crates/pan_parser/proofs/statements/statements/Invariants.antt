@@ -1,0 +1,12 @@
+use Rattle.std.proofs.Common.{map, ◌≡◌, ◌≤◌, [], length}
+use Rattle.pan_ast.specs.TemplatesSeen.{statement_seen}
+use Rattle.pan_grammar.specs.Machine.{run}
+use Rattle.pan_grammar.specs.States.{Statements}
+use Rattle.pan_grammar.specs.Templates.{Header}
+use Rattle.pan_parser.proofs.statements.statements.Given as goal
+
+abbrev pub invariant-loop-after : goal.invariant-loop-after
+invariant-loop-after l = ((h : Header) → run l.fn.tokens (Statements h []) ≡ run l.rest (Statements h (map statement_seen l.statements.items))) × (length l.rest ≤ length l.fn.tokens)
+
+abbrev pub decreases-loop-after : goal.decreases-loop-after
+decreases-loop-after l = length l.rest
