@@ -14,14 +14,16 @@ use Rattle.pan_ast.specs.Syntax.{Item, Node}
 use Rattle.pan_ast.specs.Syntax as nodes
 use Rattle.pan_ast.specs.Templates.{Template}
 use Rattle.pan_grammar.specs.Depths.{holders, item_opens, node_holders, signed, unary_opens}
-use Rattle.pan_grammar.specs.Grammar.{Operator, Tokens, assigned, block, called, index, joined, literal, plain, reference, unary_of}
+use Rattle.pan_grammar.specs.Grammar.{Operator, Tokens, assigned, block, called, index, joined, level, literal, plain, reference, unary_of}
 use Rattle.pan_grammar.specs.Machine.{Bad, Deep, Stop, item_at, over, run, unary_at, when_that}
 use Rattle.pan_grammar.specs.States.{ASemicolon, AWord, AnOpen, BlockOpen, Braces, CallOpen, Chained, Closes, First, HasItem, HasNode, HasPrimary, HasReference, InBlock, InCall, InIndex, InParens, InParts, InReference, ItemStack, ItemWord, Last, MayElse, NeedItem, NeedUnary, NodeStack, Operand, Parens, Signed, State, Takes, WordRead, down, for_parts, foreach_parts, if_parts, while_parts}
 use Rattle.pan_grammar.specs.Grammar.{name}
 use Rattle.pan_grammar.proofs.Tests.{at_true, miss, taken, passed}
 use Rattle.pan_parser.specs.declared.stopped.Stopped.{Stopped}
 use Rattle.pan_parser.specs.declared.stopped.Stopped.TheVariants as stops
-use Rattle.pan_parser.specs.Answers.{Fails, Goes, IsAt, NotAt, IsOperator, NoOperator, NoSign, indexed, starts_item}
+use Rattle.std.proofs.lemmas.Bool.{eqb-true}
+use Rattle.pan_grammar.proofs.Follow.{op_none}
+use Rattle.pan_parser.specs.Answers.{ends_chains, Fails, Goes, IsAt, NotAt, IsOperator, NoOperator, NoSign, indexed, starts_item}
 
 -- ---- numbers
 
@@ -341,6 +343,15 @@ chain_fails d q ts rest on from x op l k e so_far o h =
 -- a chain of line 0 is its operand
 pub at_zero : (d : ℕ) (ts : Tokens) (x : Node) (l : ℕ) → l ≡ 0 → ReadsChain d ts (λ n. HasNode x n) x ts l
 at_zero d ts x l e = let g : ReadsChain d ts (λ n. HasNode x n) x ts zero = λ n dn. refl in subst (λ (m : ℕ). ReadsChain d ts (λ n. HasNode x n) x ts m) (sym e) g
+
+no_operator : (l : ℕ) (ts : Tokens) → ends_chains ts ≡ true → NoOperator (suc l) ts
+no_operator l [] h = tt
+no_operator l (t ∷ ts) h = op_none (suc l) (sort t) (λ e. omega (arith, eqb-true (level (sort t)) 0 h, e))
+
+-- where no operator stands, a chain of any line is its operand
+pub at_operand : (d : ℕ) (ts : Tokens) (x : Node) (l : ℕ) → ends_chains ts ≡ true → ReadsChain d ts (λ n. HasNode x n) x ts l
+at_operand d ts x zero h = λ n dn. refl
+at_operand d ts x (suc k) h = λ n dn. at_operand d ts x k h (First n) dn ∙ first_done k ts x n (no_operator k ts h)
 
 pub down_holders : (l : ℕ) (n : NodeStack l) → node_holders (down l n) ≡ node_holders n
 down_holders zero n = refl

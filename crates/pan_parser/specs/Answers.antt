@@ -1,6 +1,6 @@
 -- What a function of the parser answers, from any state that needs what it reads.
 use Rattle.std.specs.Borrow.{Bor}
-use Rattle.std.specs.Prelude.{◌≡◌, ℕ, Bool, true, false, List, [], ◌∷◌, ◌++◌, Option, Some, None, Result, Ok, Err}
+use Rattle.std.specs.Prelude.{◌≡◌, ℕ, Bool, true, false, ◌==◌, List, [], ◌∷◌, ◌++◌, Option, Some, None, Result, Ok, Err}
 use Rattle.pan_ast.specs.declared.sort.Sort.{Sort}
 use Rattle.pan_ast.specs.declared.sort.Sort.TheVariants as sorts
 use Rattle.pan_ast.specs.declared.token.Token.{Token}
@@ -8,7 +8,7 @@ use Rattle.pan_ast.specs.Sorts.{sort, at, is_plain}
 use Rattle.pan_ast.specs.Syntax.{Item, Node}
 use Rattle.pan_ast.specs.Templates.{Template}
 use Rattle.pan_grammar.specs.Depths.{opens}
-use Rattle.pan_grammar.specs.Grammar.{Both, Either, Of, Operator, Tokens, index, op_of, unary_of}
+use Rattle.pan_grammar.specs.Grammar.{Both, Either, Of, Operator, Tokens, index, level, op_of, unary_of}
 use Rattle.pan_grammar.specs.Machine.{Bad, Deep, Stop, at_end, step, when_that}
 use Rattle.pan_grammar.specs.States.{State}
 use Rattle.pan_ast.specs.Types.{Head}
@@ -52,6 +52,11 @@ IsOperator line ts op rest = (t : Token) × (ts ≡ t ∷ rest) × (op_of line (
 abbrev pub NoOperator : ℕ → Tokens → Type 0
 NoOperator line [] = Unit {0}
 NoOperator line (t ∷ ts) = op_of line (sort t) ≡ None
+
+-- none of any line stands there
+abbrev pub ends_chains : Tokens → Bool
+ends_chains [] = true
+ends_chains (t ∷ ts) = level (sort t) == 0
 
 -- no sign of an operand stands at the front
 abbrev pub NoSign : Tokens → Type 0

@@ -10,7 +10,7 @@ ghost use Rattle.pan_parser.specs.Answers.{Goes, NoSign, NotAt, indexed};
 
 use crate::items::item;
 use crate::stopped::Stopped;
-use crate::tables::{join, literal, next_operator, unary_of};
+use crate::tables::{ends_chains, join, literal, next_operator, unary_of};
 use crate::tokens::{cut, expect, next_is};
 use pan_ast::make_items::{make_call, make_index, make_inside, make_name, make_plain, make_unary};
 use pan_ast::{Item, Node, Sort, Token};
@@ -47,6 +47,10 @@ fn chain(
     ensures shorter { IfOk result (λ r. length r.1.now ≤ length tokens.now) }
 {
     if line == 0 {
+        return Ok((first, tokens));
+    }
+    // Most operands stand alone; this saves them the way through all lines.
+    if ends_chains(tokens) {
         return Ok((first, tokens));
     }
     let (mut left, mut rest) = chain(alloc, depth, line - 1, first, tokens)?;

@@ -4,7 +4,7 @@ ghost use Rattle.pan_ast.specs.Seen.{item_seen, node_seen};
 ghost use Rattle.pan_grammar.specs.Grammar.{joined, level, literal, number, operator, unary_of};
 ghost use Rattle.pan_grammar.specs.Grammar.{name};
 ghost use Rattle.path_tree.specs.Grammar.{number_of};
-ghost use Rattle.pan_parser.specs.Answers.{IsOperator, NoOperator, indexed, op_seen, starts_item};
+ghost use Rattle.pan_parser.specs.Answers.{ends_chains, IsOperator, NoOperator, indexed, op_seen, starts_item};
 
 use crate::tokens::cut;
 use pan_ast::make_items::{
@@ -91,6 +91,16 @@ pub(crate) fn next_operator(line: u8, tokens: &[Token]) -> Option<(Operator, &[T
     } else {
         None
     }
+}
+
+/// Whether no operator of two operands stands at the front.
+pub(crate) fn ends_chains(tokens: &[Token]) -> bool
+    ensures { result ≡ ends_chains tokens.now }
+{
+    let Some((first, _)) = cut(tokens) else {
+        return true;
+    };
+    level(first.sort()) == 0
 }
 
 /// Two operands and the operator between them.

@@ -11,7 +11,7 @@ use Rattle.pan_grammar.specs.Machine.{run}
 use Rattle.pan_grammar.specs.States.{AnOpen, AtClose, AtSemicolon, Braces, Chained, Closes, Further, HasItem, HasNode, HasPrimary, HasReference, InBlock, InCall, InIndex, InParens, InParts, InReference, Last, MayElse, NeedItem, Parens, Signed, Takes, down, for_parts, foreach_parts, if_parts, while_parts}
 use Rattle.pan_grammar.specs.Grammar.{name}
 use Rattle.pan_parser.specs.Answers.{indexed, op_seen}
-use Rattle.pan_parser.proofs.Turns.{NotQuoted, assign_turns, at_zero, below, block_goes_on, chain_end, chain_fails, chain_init, chain_next, chain_turns, chained, down_holders, else_turns, fails_along, first_fails, goes_along, in_block, index_turns, item_call, last_argument, last_done, last_of_block, line_above, no_else, one_more, parens_turn, pushed_seen, reference_index, reference_pushed, sign_turns, signed_done}
+use Rattle.pan_parser.proofs.Turns.{NotQuoted, assign_turns, at_operand, at_zero, below, block_goes_on, chain_end, chain_fails, chain_init, chain_next, chain_turns, chained, down_holders, else_turns, fails_along, first_fails, goes_along, in_block, index_turns, item_call, last_argument, last_done, last_of_block, line_above, no_else, one_more, parens_turn, pushed_seen, reference_index, reference_pushed, sign_turns, signed_done}
 use Rattle.pan_parser.proofs.+items.Goals as goal
 
 pub chains::arguments-returns-in_err-rest-clause-read : goal.chains::arguments-returns-in_err-rest-clause-read
@@ -45,6 +45,10 @@ chains::arguments-returns-in_default-next_is-clause-read t c = λ n h.
 pub chains::chain-returns-then-line-eq0-clause-read : goal.chains::chain-returns-then-line-eq0-clause-read
 chains::chain-returns-then-line-eq0-clause-read t c =
     at_zero c.args.depth c.args.tokens.now (node_seen c.args.first) c.args.line c.if-line-eq0.true
+
+pub chains::chain-returns-then-ends_chains-clause-read : goal.chains::chain-returns-then-ends_chains-clause-read
+chains::chain-returns-then-ends_chains-clause-read t c =
+    at_operand c.args.depth c.args.tokens.now (node_seen c.args.first) c.args.line (sym c.ends_chains.ensures ∙ c.if-ends_chains.true)
 
 pub chains::chain-returns-in_err-left-clause-read : goal.chains::chain-returns-in_err-left-clause-read
 chains::chain-returns-in_err-left-clause-read t c =
