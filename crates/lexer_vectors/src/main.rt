@@ -34,12 +34,12 @@ fn print_tokens(rt: &HostRuntime, tokens: &[Token]) -> Result<()> {
         print!(rt;
             "{}{} {}:{} {}..{} {:?}",
             between,
-            kind_text(token.kind),
-            token.place.line,
-            token.place.column,
-            token.start,
-            token.end,
-            token.value.as_str()
+            kind_text(token.kind()),
+            token.place().line,
+            token.place().column,
+            token.start(),
+            token.end(),
+            token.value().as_str()
         )?;
         between = " | ";
     }

@@ -45,6 +45,18 @@ place_is n (f ∷ fs) (suc i) le point =
     let ih : i ≡ place_in fs n = place_is n fs i (omega arith) (λ k d l h. point.0 (suc k) d (omega arith) (omega arith), λ k d l h. point.1 (suc k) d (omega arith) (omega arith)) in
     rw (point.0 0 f (omega arith) (omega arith)) (omega arith)
 
+-- a name above the last, the file `i`, has its place at the end
+pub at_end : (n : List ℕ) (fs : List PictureFile) (i : ℕ) (f : PictureFile) → is_rising fs ≡ true → suc i ≡ length fs → f ≡ slice_index_or fs i f → is_below f.name n ≡ true → length fs ≡ place_in fs n
+at_end n [] i f q last is p = absurd (omega arith)
+at_end n (g ∷ []) zero f q last is p = rw (ap (λ (x : PictureFile). is_below x.name n) (sym is) ∙ p) refl
+at_end n (g ∷ []) (suc i) f q last is p = absurd (omega arith)
+at_end n (g ∷ h ∷ hs) zero f q last is p = absurd (omega arith)
+at_end n (g ∷ h ∷ hs) (suc i) f q last is p =
+    let high : is_below g.name f.name ≡ true = ap (λ (x : PictureFile). is_below g.name x.name) is ∙ above_each g.name (h ∷ hs) i f (first_true _ _ q) (second_true _ _ q) (omega arith) in
+    let next : suc i ≡ length (h ∷ hs) = omega (arith, last) in
+    let rest : length (h ∷ hs) ≡ place_in (h ∷ hs) n = at_end n (h ∷ hs) i f (second_true _ _ q) next is p in
+    rw (below_chain g.name f.name n high p) (ap (λ (k : ℕ). suc k) rest)
+
 insert_by : (n : List ℕ) (c : Content) (f : PictureFile) (fs : List PictureFile) (b : Bool) → insert fs (place_in fs n) (record { name = n; content = c }) ≡ with_file n c fs → insert (f ∷ fs) (if b then suc (place_in fs n) else 0) (record { name = n; content = c }) ≡ (if b then f ∷ with_file n c fs else record { name = n; content = c } ∷ f ∷ fs)
 insert_by n c f fs true ih = ap (λ gs. f ∷ gs) ih
 insert_by n c f fs false ih = refl

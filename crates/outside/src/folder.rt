@@ -16,7 +16,9 @@ const MOST_ENTRIES: u64 = 1_000_000;
 pub(crate) fn path_below(alloc: Global, root: &str, name: &str) -> Result<String, AllocError>
     ensures { IfOk result (λ path. string_bytes path ≡ root.now ++ codes "/" ++ name.now) }
 {
-    let mut path = String::from_str(alloc, root)?;
+    let room = root.len().saturating_add(name.len()).saturating_add(1);
+    let mut path = String::with_capacity(alloc, room)?;
+    path.push_str(root)?;
     path.push('/')?;
     path.push_str(name)?;
     Ok(path)
@@ -79,13 +81,14 @@ impl Walk {
         let Some(kind) = unless_absent(entry.file_type())? else {
             return Ok(());
         };
-        let mut name = String::from_str(self.alloc, folder)?;
-        name.push_str(entry.file_name())?;
-        if kind.is_dir() {
-            name.push('/')?;
-            self.folders.push(name)?;
-        } else if kind.is_file() {
-            self.names.push(Text::new(self.alloc, name.as_str())?)?;
+        let name = entry.file_name();
+        if kind.is_file() {
+            self.names.push(Text::joined(self.alloc, folder, name)?)?;
+        } else if kind.is_dir() {
+            let mut path = String::from_str(self.alloc, folder)?;
+            path.push_str(name)?;
+            path.push_str("/")?;
+            self.folders.push(path)?;
         }
         Ok(())
     }

@@ -45,6 +45,11 @@ fn place_of(files: &[PictureFile], name: &str) -> usize
     requires { is_rising files.now ≡ true }
     ensures { result ≡ place_in files.now name.now }
 {
+    // Names mostly come in order, so most places are at the end.
+    let count = files.len();
+    if count > 0 && files[count - 1].name.as_str() < name {
+        return count;
+    }
     files.partition_point(|file| file.name.as_str() < name)
 }
 

@@ -1,6 +1,7 @@
 pub mod Codes
 pub mod Detail
 pub mod Printed
+pub mod Tokens
 pub mod Sorts
 pub mod Syntax
 pub mod Types
@@ -8,3 +9,4 @@ pub mod Templates
 pub mod Seen
 pub mod TypesSeen
 pub mod TemplatesSeen
+pub mod TreeDepths

@@ -1,5 +1,6 @@
 -- What a token is to the grammar.
-use Rattle.std.specs.Prelude.{◌≡◌, ℕ, Bool, ◌&&◌, ◌==◌, nat_le, not, if◌then◌else◌, List, [], ◌∷◌, ◌++◌, codes}
+use Rattle.std.specs.Prelude.{◌≡◌, ℕ, Bool, ◌&&◌, ◌==◌, not, if◌then◌else◌, List, [], ◌∷◌, ◌++◌, map, codes}
+use Rattle.std.specs.List.{list_any}
 use Rattle.std.specs.Cmp.Lexicographic.{pointwise}
 use Rattle.pan_ast.specs.declared.sort.Sort.{Sort}
 use Rattle.pan_ast.specs.declared.sort.Sort.TheVariants.{Int, Text, Name, End, If, Else, While, For, Foreach, True, False, Undef, Null, With, Extensible, Include, Choice, Object, Structure, Unique, Declaration, Template, Final, Variable, Function, «Type», Bind, Valid, Prefix, Word, OpenBrace, CloseBrace, Open, Close, OpenBracket, CloseBracket, Semicolon, Comma, Colon, Question, ConditionalAssign, Assign, Equal, Differs, Less, AtMost, Greater, AtLeast, Plus, Minus, Star, Slash, Percent, Not, Flip, And, Ands, Bar, Bars, Caret, Range, NoSign}
@@ -119,14 +120,26 @@ code NoSign = 61
 abbrev pub at : Sort → Sort → Bool
 at s x = code s == code x
 
--- the words: `if` to the other words
+-- whether a sort is one of these
+abbrev pub is_one_of : List Sort → Sort → Bool
+is_one_of ss x = list_any (λ s. at s x) ss
+
+-- a word of the language, or any other word
 abbrev pub is_word : Sort → Bool
-is_word s = nat_le 4 (code s) && nat_le (code s) 29
+is_word s = is_one_of (Word ∷ map (λ entry. entry.1) words) s
 
--- the words that may be names in an item: all but `if else while for foreach true false undef null`
+-- the words that cannot be names in an item
+abbrev pub quoted : List Sort
+quoted = If ∷ Else ∷ While ∷ For ∷ Foreach ∷ True ∷ False ∷ Undef ∷ Null ∷ []
+
+-- the words that cannot be names of types
+abbrev pub type_words : List Sort
+type_words = With ∷ Extensible ∷ Include ∷ Choice ∷ []
+
+-- a word that may be a name in an item
 abbrev pub is_plain : Sort → Bool
-is_plain s = nat_le 13 (code s) && nat_le (code s) 29
+is_plain s = is_word s && not (is_one_of quoted s)
 
--- the words that may be names of types: all but `with extensible include choice`
+-- a word that may be the name of a type
 abbrev pub is_type_name : Sort → Bool
-is_type_name s = is_word s && not (nat_le 13 (code s) && nat_le (code s) 16)
+is_type_name s = is_word s && not (is_one_of type_words s)

@@ -9,6 +9,7 @@ use path_tree::{BinaryOp, UnaryOp};
 use small_types::Text;
 use std::alloc::{AllocError, Global};
 
+/// A number.
 #[tactic(auto, using(crate::proofs::Forms::nodes))]
 pub fn make_long(place: &Place, value: i64) -> Result<Node, AllocError>
     ensures { IfOk result (λ y. node_seen y ≡ Long place.now value) }
@@ -19,6 +20,7 @@ pub fn make_long(place: &Place, value: i64) -> Result<Node, AllocError>
     })
 }
 
+/// A text.
 #[tactic(auto, using(crate::proofs::Forms::nodes))]
 pub fn make_text(place: &Place, value: &Text) -> Result<Node, AllocError>
     ensures { IfOk result (λ y. node_seen y ≡ plain.Text place.now value.now) }
@@ -29,6 +31,7 @@ pub fn make_text(place: &Place, value: &Text) -> Result<Node, AllocError>
     })
 }
 
+/// `true` or `false`.
 #[tactic(auto, using(crate::proofs::Forms::nodes))]
 pub fn make_boolean(place: &Place, value: bool) -> Result<Node, AllocError>
     ensures { IfOk result (λ y. node_seen y ≡ Boolean place.now value) }
@@ -39,6 +42,7 @@ pub fn make_boolean(place: &Place, value: bool) -> Result<Node, AllocError>
     })
 }
 
+/// `undef`
 #[tactic(auto, using(crate::proofs::Forms::nodes))]
 pub fn make_undef(place: &Place) -> Result<Node, AllocError>
     ensures { IfOk result (λ y. node_seen y ≡ Undef place.now) }
@@ -49,6 +53,7 @@ pub fn make_undef(place: &Place) -> Result<Node, AllocError>
     })
 }
 
+/// `null`
 #[tactic(auto, using(crate::proofs::Forms::nodes))]
 pub fn make_null(place: &Place) -> Result<Node, AllocError>
     ensures { IfOk result (λ y. node_seen y ≡ Null place.now) }

@@ -1,5 +1,5 @@
 ghost use Rattle.std.specs.Prelude.{◌≡◌, ◌∷◌, ◌≤◌, ◌<◌, [], length};
-ghost use Rattle.pan_ast.specs.Sorts.{at, code, is_plain, is_type_name, is_word, look_up, signs, sort_of, words};
+ghost use Rattle.pan_ast.specs.Sorts.{at, code, is_one_of, is_plain, is_type_name, is_word, look_up, quoted, signs, sort_of, type_words, words};
 ghost use Rattle.pan_ast.specs.declared.sort.Sort.TheVariants.{Word, NoSign};
 
 use crate::token::TokenKind;
@@ -118,25 +118,54 @@ impl Sort {
         self.code() == other.code()
     }
 
-    /// Whether it is a word, a quoted one or any other.
+    /// Whether it is a word, one of the language or any other.
     pub fn is_word(self) -> bool
         ensures { result ≡ is_word self }
     {
-        4 <= self.code() && self.code() <= 29
+        match self {
+            Sort::If | Sort::Else | Sort::While | Sort::For | Sort::Foreach => true,
+            Sort::True | Sort::False | Sort::Undef | Sort::Null => true,
+            Sort::With | Sort::Extensible | Sort::Include | Sort::Choice => true,
+            Sort::Object | Sort::Structure | Sort::Unique | Sort::Declaration => true,
+            Sort::Template | Sort::Final | Sort::Variable | Sort::Function | Sort::Type => true,
+            Sort::Bind | Sort::Valid | Sort::Prefix | Sort::Word => true,
+            _ => false,
+        }
+    }
+
+    /// Whether it is a word that cannot be a name in an item.
+    fn is_quoted(self) -> bool
+        ensures { result ≡ is_one_of quoted self }
+    {
+        match self {
+            Sort::If | Sort::Else | Sort::While | Sort::For | Sort::Foreach => true,
+            Sort::True | Sort::False | Sort::Undef | Sort::Null => true,
+            _ => false,
+        }
+    }
+
+    /// Whether it is a word that cannot be the name of a type.
+    fn is_of_types(self) -> bool
+        ensures { result ≡ is_one_of type_words self }
+    {
+        match self {
+            Sort::With | Sort::Extensible | Sort::Include | Sort::Choice => true,
+            _ => false,
+        }
     }
 
     /// Whether it is a word that may be a name in an item.
     pub fn is_plain(self) -> bool
         ensures { result ≡ is_plain self }
     {
-        13 <= self.code() && self.code() <= 29
+        self.is_word() && !self.is_quoted()
     }
 
     /// Whether it is a word that may be the name of a type.
     pub fn is_type_name(self) -> bool
         ensures { result ≡ is_type_name self }
     {
-        self.is_word() && !(13 <= self.code() && self.code() <= 16)
+        self.is_word() && !self.is_of_types()
     }
 }
 

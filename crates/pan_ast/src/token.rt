@@ -4,6 +4,7 @@ ghost use Rattle.pan_ast.specs.Sorts.{sort};
 use crate::place::Place;
 use crate::sort::{Sort, sort_of};
 use small_types::Text;
+use std::marker::Model;
 
 /// The kinds of tokens. A Name is the name of a template in its header; an End stands after the last token.
 #[derive(Clone, Copy, PartialEq, Eq)]
@@ -21,18 +22,79 @@ pub enum TokenKind {
 /// The value is a Word, Name or Sign as written, the value of a Text, an Int in decimal, and empty for End.
 #[derive(Drop)]
 pub struct Token {
-    pub kind: TokenKind,
-    pub start: usize,
-    pub end: usize,
-    pub place: Place,
-    pub value: Text,
+    kind: TokenKind,
+    start: usize,
+    end: usize,
+    place: Place,
+    value: Text,
+    // What it is to the grammar, as readers of tokens ask often.
+    sort: Sort,
+}
+
+impl Model for Token {
+    ghost use Rattle.std.specs.Prelude.{◌≡◌};
+    ghost use Rattle.pan_ast.specs.Tokens.{TokenSeen};
+
+    ghost Value = { TokenSeen };
+
+    ghost use Rattle.pan_ast.specs.Sorts.{sort_of};
+
+    ghost view = { λ t. record { kind = t.kind; start = t.start; end = t.end; place = t.place; value = t.value } };
+
+    ghost invariant = { λ t. t.sort ≡ sort_of t.kind t.value };
 }
 
 impl Token {
+    pub fn new(kind: TokenKind, start: usize, end: usize, place: Place, value: Text) -> Token
+        ensures { result ≡ record { kind = kind; start = start; end = end; place = place; value = value } }
+    {
+        let sort = sort_of(kind, value.as_str());
+        Token {
+            kind,
+            start,
+            end,
+            place,
+            value,
+            sort,
+        }
+    }
+
+    pub fn kind(&self) -> TokenKind
+        ensures { result ≡ self.now.kind }
+    {
+        self.kind
+    }
+
+    /// The first of its bytes.
+    pub fn start(&self) -> usize
+        ensures { result ≡ self.now.start }
+    {
+        self.start
+    }
+
+    /// The byte behind its last.
+    pub fn end(&self) -> usize
+        ensures { result ≡ self.now.end }
+    {
+        self.end
+    }
+
+    pub fn place(&self) -> &Place
+        ensures { result.now ≡ self.now.place }
+    {
+        &self.place
+    }
+
+    pub fn value(&self) -> &Text
+        ensures { result.now ≡ self.now.value }
+    {
+        &self.value
+    }
+
     /// What this token is to the grammar.
     pub fn sort(&self) -> Sort
         ensures { result ≡ sort self.now }
     {
-        sort_of(self.kind, self.value.as_str())
+        self.sort
     }
 }

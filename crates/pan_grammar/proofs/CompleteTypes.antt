@@ -1,5 +1,6 @@
 -- What completes a state with a token completes the state after it: statements and types.
 use Rattle.std.proofs.Common.{◌≡◌, ◌≢◌, ℕ, suc, ℤ, Bool, true, false, List, [], ◌∷◌, ◌++◌, Option, Some, None, refl, sym, subst, append_assoc, ◌∙◌, ◌⊎◌, inl, inr}
+use Rattle.std.proofs.lemmas.Bool.{and_from, or_parts}
 use Rattle.std.proofs.lemmas.List.{append-nil}
 use Rattle.pan_ast.specs.declared.sort.Sort.{Sort}
 use Rattle.pan_ast.specs.declared.sort.Sort.TheVariants as sorts
@@ -24,7 +25,7 @@ use Rattle.pan_grammar.specs.Machine.{when, path_read, variable_read, function_r
 use Rattle.pan_grammar.specs.Depths.{full_holders}
 use Rattle.pan_grammar.specs.Waiting.{IsOne, one, IsThat, that, StatementsWait, StatementEnds, TypeGoes, FullWaits, HeadWaits, FieldsWait, DefaultWaits, HoleWaits, Completes}
 use Rattle.pan_grammar.proofs.Tests.{at_is, differs, taken, passed, hit, miss}
-use Rattle.pan_grammar.proofs.Follow.{or_false, and_true, item_end, number_start, bounds_start, closing_apart, number_bounds}
+use Rattle.pan_grammar.proofs.Follow.{item_end, number_start, bounds_start, closing_apart, number_bounds}
 
 pub one_cases : {s : Sort} {t : Token} {ts r : Tokens} (P : Tokens → Type 0) → IsOne s (t ∷ ts) r → P r → (sort t ≡ s) × P ts
 one_cases P (one e) p = (e, p)
@@ -80,7 +81,7 @@ module _ (May : ℕ → Tokens → Type 0) where
   included_leads p h ss t ts z i ts1 (block_included {is = is} m k b) w = (block_included_read p h ss t, rw k refl, (is, ts1, b, w))
 
   named_leads : {kind : TemplateKind} {p : Place} {ts : Tokens} {z : Template} → IsNamed May kind p ts z → Completes May (name_wanted kind p) ts z
-  named_leads (is_named {n = n} {s = s} {ts = ts} {xs = xs} k kn ks m) = (n, s ∷ ts, that (and_true _ _ (at_is _ _ k) kn), (s, ts, that (at_is _ _ ks), (xs, m, refl)))
+  named_leads (is_named {n = n} {s = s} {ts = ts} {xs = xs} k kn ks m) = (n, s ∷ ts, that (and_from _ _ (at_is _ _ k) kn), (s, ts, that (at_is _ _ ks), (xs, m, refl)))
 
   pub start_complete : (t : Token) (ts : Tokens) (z : Template) → IsTemplate May (t ∷ ts) z → Leads (start_at t) ts z
   start_complete t ts z (ordinary k n) = (name_wanted kinds.Ordinary t.place, rw k refl, named_leads n)
@@ -134,7 +135,7 @@ module _ (May : ℕ → Tokens → Type 0) where
 
   fields_leads : (x : Bool) (fs : List Field) (s : FullStack) (t : Token) (ts : Tokens) (z : Template) (gs : List Field) (ts1 : Tokens) → IsFields May (suc (suc (full_holders s))) (t ∷ ts) gs ts1 → HeadWaits May (recorded x (fs ++ gs)) [] s ts1 z → Leads (fields_at x fs s t) ts z
   fields_leads x fs s t ts z gs ts1 (no_field k) w = (HasHead (recorded x fs) [] s, rw k refl, subst (λ (q : List Field). HeadWaits May (recorded x q) [] s ts1 z) (append-nil fs) w)
-  fields_leads x fs s t ts z gs ts1 (own_field {c = c} {ts = ts0} {ts1 = r} {f = f} {fs = gs'} k kk kc g m) w = (key_read t x fs s, taken (is_key_text t) _ _ (and_true _ _ (at_is _ _ k) kk), (c, ts0, that kc, (f, r, g, (gs', ts1, m, w))))
+  fields_leads x fs s t ts z gs ts1 (own_field {c = c} {ts = ts0} {ts1 = r} {f = f} {fs = gs'} k kk kc g m) w = (key_read t x fs s, taken (is_key_text t) _ _ (and_from _ _ (at_is _ _ k) kk), (c, ts0, that kc, (f, r, g, (gs', ts1, m, w))))
   fields_leads x fs s t ts z gs ts1 (include_field {n = n} {ts = ts0} {fs = gs'} k kn m) w =
       (include_read t x fs s, rw k refl, (n, ts0, that kn, (gs', ts1, m, subst (λ (q : List Field). HeadWaits May (recorded x q) [] s ts1 z) (sym (append_assoc fs (included t n ∷ []) gs')) w)))
 
@@ -176,8 +177,8 @@ module _ (May : ℕ → Tokens → Type 0) where
 
   head_leads : (a : Head) (ss : List Suffix) (s : FullStack) (t : Token) (ts : Tokens) (z : Template) (sx : List Suffix) (ts1 : Tokens) → IsSuffixes (t ∷ ts) sx ts1 → TypeGoes May (full_holders s) (λ g r. FullWaits May s g r z) (Formed a (ss ++ sx)) ts1 → Leads (has_head a ss s t) ts z
   head_leads a ss s t ts z sx ts1 (no_suffix n) w =
-      let q = or_false _ _ n in
-      let r = or_false _ _ q.1 in
+      let q = or_parts _ _ n in
+      let r = or_parts _ _ q.1 in
       let g = form_complete (Formed a ss) s t ts z (subst (λ (q : List Suffix). TypeGoes May (full_holders s) (λ g r. FullWaits May s g r z) (Formed a q) (t ∷ ts)) (append-nil ss) w) in
       (g.0, passed (at sorts.OpenBracket (sort t)) _ _ q.0 ∙ (passed (at sorts.OpenBrace (sort t)) _ _ r.0 ∙ (passed (at sorts.Star (sort t)) _ _ r.1 ∙ g.1)), g.2)
   head_leads a ss s t ts z sx ts1 (a_list {ts1 = r} {b = b} {ss = sy} k h m) w = (list_open a ss s, rw k refl, (b, r, h, suffix_read a ss (suffixes.List b) s r z sy ts1 m w))

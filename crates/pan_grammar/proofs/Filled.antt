@@ -1,5 +1,6 @@
 -- The tokens that fill a state complete it. What begins in them may be as deep as it likes.
 use Rattle.std.proofs.Common.{◌≡◌, ◌≢◌, ℕ, zero, suc, length, ◌≤◌, arith, true, List, [], ◌∷◌, ◌++◌, Some, None, refl, sym, ◌∙◌, inl, inr}
+use Rattle.std.proofs.lemmas.Bool.{and_parts}
 use Rattle.pan_ast.specs.declared.sort.Sort.{Sort}
 use Rattle.pan_ast.specs.declared.sort.Sort.TheVariants as sorts
 use Rattle.pan_ast.specs.declared.template.TemplateKind.TheVariants as kinds
@@ -17,12 +18,11 @@ use Rattle.pan_grammar.specs.States.{FullStack, StatementType, InField, Hole, St
 use Rattle.pan_grammar.specs.Depths.{full_holders, holders}
 use Rattle.pan_grammar.specs.Waiting.{one, that, no_else, IsChainFrom, from_unary, from_line, PartsGo, StatementsWait, StatementEnds, FullWaits, HeadWaits, HoleWaits, ItemWaits, NodeWaits, Completes}
 use Rattle.path_tree.specs.Grammar.{is_name}
-use Rattle.pan_grammar.proofs.SoundTypes.{both}
 use Rattle.pan_grammar.proofs.Fill.{an_int, a_text_token, a_name_token, a_word, an_end, the_template, a_semicolon, an_equals, a_close_brace, sort_an_int, sort_a_text_token, sort_a_name_token, sort_a_word, sort_an_end, sort_the_template, sort_a_semicolon, sort_an_equals, sort_a_close_brace, sort_a_close, sort_a_close_bracket, divides, close_by, closes_by, sample, sample_fits, zero_node, full_fill, hole_fill, parts_fill, item_fill, node_fill, fill, not_else}
 
 name_fits : is_name a_name_token.value ≡ true
 unfolding sample
-name_fits = (both _ _ (sample_fits AName)).1
+name_fits = (and_parts _ _ (sample_fits AName)).1
 
 module _ (May : ℕ → Tokens → Type 0) (m : ℕ) (free : (d : ℕ) (ts : Tokens) → length ts ≤ m → May d ts) where
   -- ---- a number is a chain of each level, and an item

@@ -1,5 +1,6 @@
 -- Where the first token of an item leads, and where that of a full type does.
 use Rattle.std.proofs.Common.{◌≡◌, ◌≢◌, ℕ, zero, suc, ◌≤◌, Bool, true, false, ◌||◌, cond, [], ◌∷◌, Option, Some, None, Err, refl, ◌∙◌, inl, inr, arith}
+use Rattle.std.proofs.lemmas.Bool.{or_parts}
 use Rattle.path_tree.specs.declared.operators.UnaryOp.{UnaryOp}
 use Rattle.path_tree.specs.declared.operators.UnaryOp.TheVariants as unary
 use Rattle.pan_ast.specs.declared.sort.Sort.{Sort}
@@ -13,7 +14,7 @@ use Rattle.pan_grammar.specs.States.{FullStack, ItemStack, NodeStack, Chained, S
 use Rattle.pan_grammar.specs.Depths.{full_holders, holders, signed, starts_record, item_start, full_start}
 use Rattle.pan_grammar.specs.Machine.{when_that, if_read, while_read, for_read, foreach_read, unary_at, item_at, extensible_read, choice_read, full_at, Bad, Deep, over, run}
 use Rattle.pan_grammar.proofs.Tests.{differs, taken, passed, that_cases, miss, when_cases, some_taken, none_passed, some_cases, some_only}
-use Rattle.pan_grammar.proofs.Follow.{or_false, bare_start, bare_not_plain, literal_bare, sign_bare, sign_no_literal, plain_no_literal, bare_item, plain_item}
+use Rattle.pan_grammar.proofs.Follow.{bare_start, bare_not_plain, literal_bare, sign_bare, sign_no_literal, plain_no_literal, bare_item, plain_item}
 
 pub unary_word : (t : Token) (n : NodeStack zero) → is_plain (sort t) ≡ true → unary_at t n ≡ Some (WordRead t n)
 unary_word t n e = none_passed (literal (sort t) t) _ _ (plain_no_literal (sort t) t e) ∙ taken (is_plain (sort t)) _ _ e
@@ -24,11 +25,17 @@ unary_sign t n op e =
       not_open : sort t ≢ sorts.Open
       not_open q = let k : unary_of sorts.Open ≡ Some op = rw q at e in absurd cc
 
+-- none of the words and the brace by which an item is told from a chain
+abbrev pub NotQuoted : Sort → Type 0
+NotQuoted x = (x ≢ sorts.OpenBrace) × (x ≢ sorts.If) × (x ≢ sorts.While) × (x ≢ sorts.For) × (x ≢ sorts.Foreach)
+
+pub item_else : (t : Token) (s : ItemStack) → NotQuoted (sort t) → item_at t s ≡ when_that (is_plain (sort t)) (ItemWord t s) (unary_at t (down 9 (Chained s)))
+item_else t s q = miss sorts.OpenBrace (sort t) _ _ q.0 ∙ miss sorts.If (sort t) _ _ q.1 ∙ miss sorts.While (sort t) _ _ q.2 ∙ miss sorts.For (sort t) _ _ q.3 ∙ miss sorts.Foreach (sort t) _ _ q.4
+
 item_at_other : (t : Token) (s : ItemStack) (P : Sort → Bool) → P sorts.OpenBrace ≡ false → P sorts.If ≡ false → P sorts.While ≡ false → P sorts.For ≡ false → P sorts.Foreach ≡ false → P (sort t) ≡ true
     → item_at t s ≡ when_that (is_plain (sort t)) (ItemWord t s) (unary_at t (down 9 (Chained s)))
 item_at_other t s P b1 b2 b3 b4 b5 h =
-    miss sorts.OpenBrace (sort t) _ _ (differs P (sort t) sorts.OpenBrace h b1) ∙ (miss sorts.If (sort t) _ _ (differs P (sort t) sorts.If h b2) ∙ (miss sorts.While (sort t) _ _ (differs P (sort t) sorts.While h b3)
-    ∙ (miss sorts.For (sort t) _ _ (differs P (sort t) sorts.For h b4) ∙ miss sorts.Foreach (sort t) _ _ (differs P (sort t) sorts.Foreach h b5))))
+    item_else t s (differs P (sort t) sorts.OpenBrace h b1, differs P (sort t) sorts.If h b2, differs P (sort t) sorts.While h b3, differs P (sort t) sorts.For h b4, differs P (sort t) sorts.Foreach h b5)
 
 pub item_word : (t : Token) (s : ItemStack) → is_plain (sort t) ≡ true → item_at t s ≡ Some (ItemWord t s)
 item_word t s e = item_at_other t s is_plain refl refl refl refl refl e ∙ taken (is_plain (sort t)) _ _ e
@@ -140,9 +147,9 @@ full_goes t s h = by (full_at t s) refl where
 
 pub full_stops : (t : Token) (s : FullStack) → full_start (sort t) ≡ false → full_at t s ≡ None
 full_stops t s h =
-    let p = or_false (is_type_name (sort t)) (at sorts.OpenBrace (sort t) || (at sorts.Extensible (sort t) || at sorts.Choice (sort t))) h in
-    let q = or_false _ _ p.1 in
-    let r = or_false _ _ q.1 in
+    let p = or_parts (is_type_name (sort t)) (at sorts.OpenBrace (sort t) || (at sorts.Extensible (sort t) || at sorts.Choice (sort t))) h in
+    let q = or_parts _ _ p.1 in
+    let r = or_parts _ _ q.1 in
     passed (at sorts.OpenBrace (sort t)) _ _ q.0 ∙ (passed (at sorts.Extensible (sort t)) _ _ r.0 ∙ (passed (at sorts.Choice (sort t)) _ _ r.1 ∙ passed (is_type_name (sort t)) _ _ p.0))
 
 -- ---- at the limit of nesting

@@ -1,5 +1,5 @@
 -- Tables of sorts: what may stand after an item, and what an item, a number and a type begin with.
-use Rattle.std.proofs.Common.{◌≡◌, ◌≢◌, ℕ, Bool, true, false, ◌||◌, ◌&&◌, cond, eqb, Some, None, refl}
+use Rattle.std.proofs.Common.{◌≡◌, ◌≢◌, ℕ, Bool, true, false, ◌||◌, cond, eqb, Some, None, refl}
 use Rattle.std.proofs.lemmas.Bool.{eqb-true}
 use Rattle.path_tree.specs.declared.operators.UnaryOp.{UnaryOp}
 use Rattle.pan_ast.specs.declared.sort.Sort.{Sort}
@@ -10,13 +10,6 @@ use Rattle.pan_ast.specs.Syntax.{Node}
 use Rattle.pan_grammar.specs.Grammar.{literal, unary_of, level, Operator, operator, op_of}
 use Rattle.pan_grammar.specs.States.{Closing, Parens, Brackets, Braces, closing, Divider, AtSemicolon, AtClose, divider}
 use Rattle.pan_grammar.specs.Depths.{signed, item_start}
-
-pub or_false : (a b : Bool) → (a || b) ≡ false → (a ≡ false) × (b ≡ false)
-or_false false b e = (refl, e)
-or_false true b e = absurd cc
-
-pub and_true : (a b : Bool) → a ≡ true → b ≡ true → (a && b) ≡ true
-and_true a b p q = rw (p, q) refl
 
 -- ---- what can stand after an item
 

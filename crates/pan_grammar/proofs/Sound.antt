@@ -8,7 +8,7 @@ use Rattle.pan_ast.specs.Syntax.{Item, Node, Reference, choice}
 use Rattle.pan_ast.specs.Syntax as nodes
 use Rattle.pan_ast.specs.Templates.{Template}
 use Rattle.pan_grammar.specs.Grammar.{Tokens, op_of, joined, literal, unary_of, block, plain, reference, assigned, name, called, inside, index, IsItem, a_block, an_if, an_if_else, a_while, a_for, a_foreach, a_chain, an_assign, a_reference, IsIndexes, no_index, one_index, IsItems, no_item, items_from, IsMore, closed, closed_late, more, IsChain, a_unary, a_line, tail_ends, tail_more, IsUnary, a_sign, a_primary, IsSuffix, suffix_ends, an_index, IsPrimary, a_literal, a_name, a_call, parens, IsArgs, no_arg, args_from, args_end, more_args}
-use Rattle.pan_grammar.specs.States.{Last, Further, MayElse, divider, ItemStack, Out, InBlock, InParts, InReference, InIndex, InParens, InCall, NodeStack, Chained, Signed, First, Operand, down, AnOpen, ASemicolon, AWord, State, Start, Takes, Statements, FinalRead, IncludeRead, NeedFull, NameRead, TextsOpen, FieldsOpen, HasHead, NeedSigned, NeedBounds, HasLow, RangeRead, RangeOpen, NeedItem, NeedUnary, BlockOpen, WordRead, ItemWord, HasReference, CallOpen, HasItem, HasPrimary, HasNode, Done}
+use Rattle.pan_grammar.specs.States.{Last, Further, MayElse, divider, right_side, ItemStack, Out, InBlock, InParts, InReference, InIndex, InParens, InCall, NodeStack, Chained, Signed, First, Operand, down, AnOpen, ASemicolon, AWord, State, Start, Takes, Statements, FinalRead, IncludeRead, NeedFull, NameRead, TextsOpen, FieldsOpen, HasHead, NeedSigned, NeedBounds, HasLow, RangeRead, RangeOpen, NeedItem, NeedUnary, BlockOpen, WordRead, ItemWord, HasReference, CallOpen, HasItem, HasPrimary, HasNode, Done}
 use Rattle.pan_grammar.specs.Machine.{unary_at, item_at, has_item, has_node, has_primary, has_reference, step}
 use Rattle.pan_grammar.specs.Depths.{holders, node_holders}
 use Rattle.pan_grammar.specs.Waiting.{IsOne, one, IsThat, that, IsElse, no_else, an_else, IsChainFrom, from_unary, from_line, ReferenceGoes, ItemWaits, NodeWaits, PrimaryWaits, ItemNeeded, UnaryNeeded, Completes}
@@ -155,8 +155,8 @@ module _ (May : ℕ → Tokens → Type 0) where
               | inl r ↦ inl (r.0, r.1, r.2, r.3, index_suffix h.0 g.2 g.3.1 r.4, r.5, r.6)
               | inr r ↦ inr (g.0 ∷ r.0, r.1, r.2, r.3, r.4, index_more h.0 g.2 g.3.1 r.5, r.6, r.7, regrouped is g.0 r.0 (λ q. ItemWaits May s (assigned (reference f q) r.1) r.4 z) r.8)
             ]
-        | inr k ↦ elim (when_cases sorts.Assign (sort t) (NeedItem (InParts (Last (λ v. assigned (reference f is) v)) s)) _ y k.1) [
-          | inl h ↦ let g = back May (NeedItem (InParts (Last (λ v. assigned (reference f is) v)) s)) y ts z h.1 c in
+        | inr k ↦ elim (when_cases sorts.Assign (sort t) (NeedItem (InParts (right_side (reference f is)) s)) _ y k.1) [
+          | inl h ↦ let g = back May (NeedItem (InParts (right_side (reference f is)) s)) y ts z h.1 c in
               inr ([], g.0, t ∷ ts, ts, g.1, no_index, one h.0, g.2, subst (λ (q : List Item). ItemWaits May s (assigned (reference f q) g.0) g.1 z) (sym (append-nil is)) g.3)
           | inr k ↦ let g = node_down 9 (Chained s) x (t ∷ ts) z (node_sound (down 9 (Chained s)) x t ts z y k.1 c) in
               inl (x, g.0, t ∷ ts, g.1, suffix_ends, g.2, g.3)

@@ -1,7 +1,7 @@
 -- What completes the state after a token completes the state before it, with the token: statements and types.
-use Rattle.std.proofs.Common.{◌≡◌, ℕ, suc, ℤ, neg_ℤ, Bool, true, false, ◌&&◌, List, [], ◌∷◌, ◌++◌, Option, Some, None, refl, sym, subst, append_assoc, inl, inr}
+use Rattle.std.proofs.Common.{◌≡◌, ℕ, suc, ℤ, neg_ℤ, Bool, true, false, List, [], ◌∷◌, ◌++◌, Option, Some, None, refl, sym, subst, append_assoc, inl, inr}
+use Rattle.std.proofs.lemmas.Bool.{and_parts}
 use Rattle.std.proofs.lemmas.List.{append-nil}
-use Rattle.path_tree.specs.Grammar.{is_key}
 use Rattle.pan_ast.specs.declared.sort.Sort.{Sort}
 use Rattle.pan_ast.specs.declared.sort.Sort.TheVariants as sorts
 use Rattle.pan_ast.specs.declared.token.Token.{Token}
@@ -11,7 +11,7 @@ use Rattle.pan_ast.specs.declared.template.TemplateKind.TheVariants as kinds
 use Rattle.pan_ast.specs.declared.types.Bounds.{Bounds}
 use Rattle.pan_ast.specs.declared.types.Suffix.{Suffix}
 use Rattle.pan_ast.specs.declared.types.Suffix.TheVariants as suffixes
-use Rattle.pan_ast.specs.Sorts.{sort, at, is_type_name}
+use Rattle.pan_ast.specs.Sorts.{sort, is_type_name}
 use Rattle.pan_ast.specs.Syntax.{Item}
 use Rattle.pan_ast.specs.Syntax as nodes
 use Rattle.pan_ast.specs.Types.{FullType, Full, TypeForm, Formed, Head, Field}
@@ -22,15 +22,11 @@ use Rattle.pan_grammar.specs.Grammar.{Tokens, block, plain, number, IsItem}
 use Rattle.pan_grammar.specs.Types.{bounds, named, recorded, own, included, IsSigned, a_number, a_negative, exactly, at_least, from_to, IsBounds, from_low, at_most, IsRange, no_range, a_range, IsBounded, unbounded, bounded, IsSuffixes, no_suffix, a_list, a_dict, a_link, IsTexts, no_text, a_text, absent, present, IsFull, a_full, IsType, a_named, a_record, an_extensible, a_choice, IsFields, no_field, own_field, include_field}
 use Rattle.pan_grammar.specs.Templates.{stated, conditional, kind_of, Header, template, IsSetting, of_path, of_variable, IsIncluded, text_included, block_included, IsStatement, a_setting, a_final, a_function, a_type, a_bind, a_valid, an_include, a_prefix, IsStatements, no_statement, a_statement, IsNamed, is_named, ordinary, of_kind}
 use Rattle.pan_grammar.specs.States.{FullStack, StatementType, InField, Hole, StatementItem, AfterEquals, AfterWith, Out, Closing, closing, Wanted, ATemplate, AName, ASemicolon, AnAssign, ASetting, AText, AWord, ATypeName, AnInt, AnOpen, AnOpenBrace, AMark, Closes, fits, State, Start, Takes, Statements, FinalRead, IncludeRead, NeedFull, NameRead, TextsOpen, FieldsOpen, HasHead, NeedSigned, NeedBounds, HasLow, RangeRead, RangeOpen, NeedItem, Done}
-use Rattle.pan_grammar.specs.Machine.{when, setting_at, statements_at, included_at, name_wanted, start_at, signed_at, bounds_at, fields_at, has_full, has_default, has_form, has_head, full_at, name_then, texts_then, hole_has, step}
+use Rattle.pan_grammar.specs.Machine.{when, setting_at, statements_at, included_at, name_wanted, kind_read, start_at, signed_at, high_read, bounds_at, is_key_text, fields_at, has_full, has_default, has_form, has_head, full_at, name_then, texts_then, hole_has, step}
 use Rattle.pan_grammar.specs.Depths.{full_holders}
 use Rattle.pan_grammar.specs.Waiting.{IsOne, one, IsThat, that, StatementsWait, StatementEnds, TypeGoes, FullWaits, HeadWaits, FieldsWait, DefaultWaits, HoleWaits, Completes}
 use Rattle.pan_grammar.specs.Begins.{FullMay}
 use Rattle.pan_grammar.proofs.Tests.{at_true, at_miss, that_cases, that_only, when_cases, when_only, some_only}
-
-pub both : (a b : Bool) → (a && b) ≡ true → (a ≡ true) × (b ≡ true)
-both true b e = (refl, e)
-both false b e = absurd cc
 
 semicolon_one : {s : Token} {ts rest : Tokens} → IsThat ASemicolon s ts rest → IsOne sorts.Semicolon ts rest
 semicolon_one (that k) = one (at_true _ _ k)
@@ -129,7 +125,7 @@ module _ (May : ℕ → Tokens → Type 0) where
 
   named_of : {kind : TemplateKind} {p : Place} {n s : Token} {ts ts1 ts2 : Tokens} {z : Template} → IsThat AName n ts ts1 → IsThat ASemicolon s ts1 ts2 → StatementsWait May (record { kind = kind; place = p; name = n }) [] ts2 z → IsNamed May kind p ts z
   named_of {kind} {p} {n} {s} {z = z} (that {rest = r} k) (that {rest = r2} m) w =
-      let q = both _ _ k in
+      let q = and_parts _ _ k in
       subst (λ (x : Template). IsNamed May kind p (n ∷ s ∷ r2) x) w.2 (is_named (at_true _ _ q.0) q.1 (at_true _ _ m) w.1)
 
   template_then : {kind : TemplateKind} {t : Token} {ts : Tokens} {q : Token} {ts1 : Tokens} {z : Template} → kind_of (sort q) ≡ Some kind → IsThat ATemplate t ts ts1 → IsNamed May kind q.place ts1 z → Completes May Start (q ∷ ts) z
@@ -139,8 +135,8 @@ module _ (May : ℕ → Tokens → Type 0) where
   start_sound t ts z y e c =
       elim (when_cases sorts.Template (sort t) (name_wanted kinds.Ordinary t.place) _ y e) [
         | inl k ↦ let g = back (name_wanted kinds.Ordinary t.place) y ts z k.1 c in ordinary k.0 (named_of g.2 g.3.2 g.3.3)
-        | inr m ↦ let k = some_only (kind_of (sort t)) (λ kind. Takes ATemplate (λ w. name_wanted kind t.place)) y m.1 in
-            let g = back (Takes ATemplate (λ w. name_wanted k.0 t.place)) y ts z k.2 c in
+        | inr m ↦ let k = some_only (kind_of (sort t)) (kind_read t.place) y m.1 in
+            let g = back (kind_read t.place k.0) y ts z k.2 c in
             template_then k.1 g.2 (named_of g.3.2 g.3.3.2 g.3.3.3)
       ]
 
@@ -180,7 +176,7 @@ module _ (May : ℕ → Tokens → Type 0) where
   range_sound w p n next t ts z y e c =
       elim (when_cases (closing w) (sort t) (next (bounds p (Some n) None)) _ y e) [
         | inl k ↦ inl (ts, one k.0, back (next (bounds p (Some n) None)) y ts z k.1 c)
-        | inr m ↦ let g = signed_sound (λ m. Takes (Closes w) (λ k. next (bounds p (Some n) (Some m)))) t ts z y m.1 c in inr (g.0, g.1, g.3.1, g.2, closing_one g.3.2, g.3.3)
+        | inr m ↦ let g = signed_sound (high_read w p n next) t ts z y m.1 c in inr (g.0, g.1, g.3.1, g.2, closing_one g.3.2, g.3.3)
       ]
 
   range_of : {s : Sort} {ts ts1 rest : Tokens} {b : Bounds} → IsBounds ts b ts1 → IsOne s ts1 rest → IsRange s ts (Some b) rest
@@ -195,15 +191,15 @@ module _ (May : ℕ → Tokens → Type 0) where
 
   -- ---- types
 
-  key_field : {d : ℕ} {k c : Token} {ts ts1 ts2 rest : Tokens} {f : FullType} {fs : List Field} → (at sorts.Text (sort k) && is_key k.value) ≡ true → IsThat AMark c ts ts1 → IsFull May d ts1 f ts2 → IsFields May d ts2 fs rest → IsFields May d (k ∷ ts) (own k c f ∷ fs) rest
-  key_field e (that c) f g = let q = both _ _ e in own_field (at_true _ _ q.0) q.1 c f g
+  key_field : {d : ℕ} {k c : Token} {ts ts1 ts2 rest : Tokens} {f : FullType} {fs : List Field} → is_key_text k ≡ true → IsThat AMark c ts ts1 → IsFull May d ts1 f ts2 → IsFields May d ts2 fs rest → IsFields May d (k ∷ ts) (own k c f ∷ fs) rest
+  key_field e (that c) f g = let q = and_parts _ _ e in own_field (at_true _ _ q.0) q.1 c f g
 
   name_field : {d : ℕ} {i n : Token} {ts ts1 rest : Tokens} {fs : List Field} → sort i ≡ sorts.Include → IsThat ATypeName n ts ts1 → IsFields May d ts1 fs rest → IsFields May d (i ∷ ts) (included i n ∷ fs) rest
   name_field e (that n) g = include_field e n g
 
   pub fields_sound : (extensible : Bool) (fs : List Field) (s : FullStack) (t : Token) (ts : Tokens) (z : Template) (y : State) → fields_at extensible fs s t ≡ Some y → Completes May y ts z → FieldsWait May extensible fs s (t ∷ ts) z
   fields_sound x fs s t ts z y e c =
-      elim (that_cases (at sorts.Text (sort t) && is_key t.value) _ _ y e) [
+      elim (that_cases (is_key_text t) _ _ y e) [
         | inl k ↦ let g = back _ y ts z k.1 c in (own t g.0 g.3.0 ∷ g.3.3.0, g.3.3.1, key_field k.0 g.2 g.3.2 g.3.3.2, g.3.3.3)
         | inr m ↦ elim (when_cases sorts.Include (sort t) _ _ y m.1) [
           | inl k ↦ let g = back _ y ts z k.1 c in

@@ -1,6 +1,6 @@
 -- What the tests of the machine tell.
 use Rattle.std.proofs.Common.{◌≡◌, ◌≢◌, ℕ, Bool, true, false, eqb, cond, Option, Some, None, refl, sym, ap, ◌∙◌, ◌⊎◌, inl, inr, arith}
-use Rattle.std.proofs.lemmas.Bool.{eqb-true}
+use Rattle.std.proofs.lemmas.Bool.{eqb-true, false_from_ne_true}
 use Rattle.pan_ast.specs.declared.sort.Sort.{Sort}
 use Rattle.pan_ast.specs.declared.sort.Sort.TheVariants as sorts
 use Rattle.pan_ast.specs.Sorts.{code, at}
@@ -107,10 +107,7 @@ pub at_false : (s x : Sort) → at s x ≡ false → x ≢ s
 at_false s x e h = let e1 : at s s ≡ false = rw h at e in let t : at s s ≡ true = at_same s in absurd cc
 
 pub at_miss : (s x : Sort) → x ≢ s → at s x ≡ false
-at_miss s x h = by (at s x) refl where
-  by : (b : Bool) → at s x ≡ b → b ≡ false
-  by true e = absurd (h (at_true s x e))
-  by false e = refl
+at_miss s x h = false_from_ne_true (at s x) (λ e. h (at_true s x e))
 
 -- two sorts of which a test tells one only
 pub differs : (P : Sort → Bool) (x s : Sort) → P x ≡ true → P s ≡ false → x ≢ s

@@ -14,7 +14,7 @@ use Rattle.pan_grammar.specs.Grammar.{Tokens, literal, Operator, Of, Both, Eithe
 use Rattle.pan_grammar.specs.Types.{IsSigned, a_number, a_negative, IsHigh, exactly, at_least, from_to, IsBounds, from_low, at_most, IsRange, no_range, a_range, IsBounded, unbounded, bounded, IsSuffixes, no_suffix, a_list, a_dict, a_link, IsTexts, no_text, a_text, IsOption, absent, present, IsFull, a_full, IsType, a_named, a_record, an_extensible, a_choice, IsFields, no_field, own_field, include_field}
 use Rattle.pan_grammar.specs.Templates.{IsSetting, of_path, of_variable, IsIncluded, text_included, block_included, IsStatement, a_setting, a_final, a_function, a_type, a_bind, a_valid, an_include, a_prefix, IsStatements, no_statement, a_statement, IsNamed, is_named, IsTemplate, ordinary, of_kind}
 use Rattle.pan_grammar.specs.Faults.{Anywhere, Parses}
-use Rattle.pan_grammar.specs.TreeDepths.{item_depth, reference_depth, node_depth, items_depth, option_depth, full_depth, form_depth, fields_depth, statement_depth, statements_depth, template_depth}
+use Rattle.pan_ast.specs.TreeDepths.{item_depth, reference_depth, node_depth, items_depth, option_depth, full_depth, form_depth, fields_depth, statement_depth, statements_depth, template_depth}
 
 joined_depth : (op : Operator) (a b : Node) → node_depth (joined op a b) ≡ 1 + max (node_depth a) (node_depth b)
 joined_depth (Of op) a b = refl

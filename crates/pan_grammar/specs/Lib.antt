@@ -7,5 +7,4 @@ pub mod Depths
 pub mod Machine
 pub mod Waiting
 pub mod Begins
-pub mod TreeDepths
 pub mod Parsed

@@ -20,8 +20,8 @@ use Rattle.pan_ast.specs.Templates as statements
 use Rattle.pan_grammar.specs.Grammar.{Tokens, block, plain, reference, name, called, inside, index, number, literal, unary_of, Operator, op_of, joined}
 use Rattle.pan_grammar.specs.Types.{bounds, named, recorded, own, included}
 use Rattle.pan_grammar.specs.Templates.{stated, conditional, kind_of, Header, template}
-pub use Rattle.pan_grammar.specs.States.{FullStack, StatementType, InField, Hole, StatementItem, AfterEquals, AfterWith, Divider, AtSemicolon, AtClose, divider, Parts, Last, Further, MayElse, if_parts, while_parts, for_parts, foreach_parts, right_side, ItemStack, Out, InBlock, InParts, InReference, InIndex, InParens, InCall, NodeStack, Chained, Signed, First, Operand, down, Closing, Parens, Brackets, Braces, closing, Wanted, ATemplate, AName, ASemicolon, AnAssign, ASetting, AText, AWord, ATypeName, AnInt, AnOpen, AnOpenBrace, AMark, Closes, fits, State, Start, Takes, Statements, FinalRead, IncludeRead, NeedFull, NameRead, TextsOpen, FieldsOpen, HasHead, NeedSigned, NeedBounds, HasLow, RangeRead, RangeOpen, NeedItem, NeedUnary, BlockOpen, WordRead, ItemWord, HasReference, CallOpen, HasItem, HasPrimary, HasNode, Done}
-pub use Rattle.pan_grammar.specs.Depths.{full_holders, hole_holders, holders, node_holders, signed, starts_record, item_start, full_start, unary_opens, item_opens, full_opens, opens}
+use Rattle.pan_grammar.specs.States.{FullStack, StatementType, InField, Hole, StatementItem, AfterEquals, AfterWith, divider, Last, Further, MayElse, if_parts, while_parts, for_parts, foreach_parts, right_side, ItemStack, Out, InBlock, InParts, InReference, InIndex, InParens, InCall, NodeStack, Chained, Signed, First, Operand, down, Closing, Parens, Brackets, Braces, closing, ATemplate, AName, ASemicolon, AnAssign, ASetting, AText, AWord, ATypeName, AnInt, AnOpen, AnOpenBrace, AMark, Closes, fits, State, Start, Takes, Statements, FinalRead, IncludeRead, NeedFull, NameRead, TextsOpen, FieldsOpen, HasHead, NeedSigned, NeedBounds, HasLow, RangeRead, RangeOpen, NeedItem, NeedUnary, BlockOpen, WordRead, ItemWord, HasReference, CallOpen, HasItem, HasPrimary, HasNode, Done}
+use Rattle.pan_grammar.specs.Depths.{opens}
 
 -- the first where the test holds, or else the second
 abbrev pub when_that : {A : Type 0} → Bool → A → Option A → Option A

@@ -3,5 +3,5 @@
 //!
 //! In reading order, of `specs/`: `Grammar` (items), `Types`, `Templates` (statements and headers), `Faults` (where a
 //! text is wrong, in the relation's words), `States` and `Depths` (what is open, and how deep), `Machine` (the
-//! reading), `Waiting` and `Begins` (what its states mean), `TreeDepths`.
+//! reading), `Waiting` and `Begins` (what its states mean), `Parsed` (the reading's answer as a template or a fault).
 #![tactic(auto)]

@@ -10,8 +10,7 @@ ghost use Rattle.pan_lexer.specs.declared.lexing.LexError.TheVariants.{Memory};
 use crate::bytes::{behind, front_of};
 use crate::fronts::front;
 use crate::parts::{At, Front, Mode};
-use crate::shared::SharedTexts;
-use crate::tokens::{fault, int_token, text_token, token, written_token};
+use crate::tokens::{as_text, fault, int_token, text_token, token, written_token};
 use pan_ast::{Code, Fault, Token, TokenKind};
 use small_types::{Seq, Text};
 use std::alloc::{AllocError, AllocFailed, Global};
@@ -111,13 +110,13 @@ fn mode_after(mode: Mode, kind: TokenKind, word: &[u8]) -> Mode
     }
 }
 
-/// The tokens of a text, or its first fault.
+/// The tokens of a text, or its first fault. Values that stand in the text share one copy of it.
 fn tokens_of(alloc: Global, bytes: &[u8], file: &Text) -> Result<Seq<Token>, LexError>
     requires length { length bytes.now < 2 ^ 31 }
     requires text { IsUtf8 bytes.now }
     ensures { Gives result (lexed file.now 0 Mode.Before origin bytes.now) }
 {
-    let mut texts = SharedTexts::new(alloc)?;
+    let whole = Text::new(alloc, as_text(bytes))?;
     let mut tokens = Vec::with_capacity(alloc, bytes.len() / USUAL_BYTES)?;
     let mut at = origin();
     let mut mode = Mode::Before;
@@ -129,24 +128,24 @@ fn tokens_of(alloc: Global, bytes: &[u8], file: &Text) -> Result<Seq<Token>, Lex
             }
             Front::Written(kind, n) => {
                 let word = front_of(rest, n);
-                tokens.push(written_token(alloc, &mut texts, file, kind, at, word)?)?;
+                tokens.push(written_token(alloc, &whole, file, kind, at, word)?)?;
                 mode = mode_after(mode, kind, word);
                 at = passed(at, word);
             }
             Front::Int(value, n) => {
-                tokens.push(int_token(alloc, &mut texts, file, at, n, value)?)?;
+                tokens.push(int_token(alloc, &whole, file, at, n, value)?)?;
                 mode = mode_after(mode, TokenKind::Int, &[]);
                 at = passed(at, front_of(rest, n));
             }
             Front::Text(value, n) => {
-                tokens.push(text_token(alloc, file, at, n, value)?)?;
+                tokens.push(text_token(alloc, &whole, file, at, n, value)?)?;
                 mode = mode_after(mode, TokenKind::Text, &[]);
                 at = passed(at, front_of(rest, n));
             }
             Front::Document(value, n, k) => {
                 let sign = passed(at, front_of(rest, n));
-                tokens.push(text_token(alloc, file, at, n, value)?)?;
-                tokens.push(written_token(alloc, &mut texts, file, TokenKind::Sign, sign, b";")?)?;
+                tokens.push(text_token(alloc, &whole, file, at, n, value)?)?;
+                tokens.push(written_token(alloc, &whole, file, TokenKind::Sign, sign, b";")?)?;
                 mode = mode_after(mode, TokenKind::Text, &[]);
                 at = passed(at, front_of(rest, n + 1 + k));
             }
@@ -156,7 +155,7 @@ fn tokens_of(alloc: Global, bytes: &[u8], file: &Text) -> Result<Seq<Token>, Lex
             }
         }
     }
-    tokens.push(token(file, TokenKind::End, at, 0, Text::new(alloc, "")?)?)?;
+    tokens.push(token(file, TokenKind::End, at, 0, whole.part(alloc, 0, "")?)?)?;
     Ok(Seq::from_vec(tokens))
 }
 

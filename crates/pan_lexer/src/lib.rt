@@ -6,8 +6,8 @@
 //!
 //! In reading order: `parts` (what the parts hand on to each other), `bytes` (kinds of bytes and runs of them),
 //! `annotations`, `numbers`, `texts` and `documents` (the longer pieces), `fronts` (what stands at the front of
-//! a text), `shared` (one text for all tokens that are written alike), `tokens` (a token or a fault with its place), `lexing` (the tokens of a file), `objects` (whether a
-//! file is an object template).
+//! a text), `tokens` (a token or a fault with its place), `lexing` (the tokens of a file), `objects` (whether a file is
+//! an object template).
 #![tactic(auto)]
 
 mod annotations;
@@ -18,7 +18,6 @@ mod lexing;
 mod numbers;
 mod objects;
 mod parts;
-mod shared;
 mod texts;
 mod tokens;
 

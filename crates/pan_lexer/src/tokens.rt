@@ -2,21 +2,18 @@ ghost use Rattle.std.specs.Prelude.{◌≡◌, ◌<◌, ◌+◌, ◌^◌, IfOk, 
 ghost use Rattle.pan_lexer.specs.Lexed.{place_in, token, fault};
 
 use crate::parts::{At, Value};
-use crate::shared::SharedTexts;
 use itoa::Buffer;
 use pan_ast::{Code, Fault, Place, Token, TokenKind};
 use small_types::Text;
 use std::alloc::{AllocError, Global};
+use std::str::from_utf8_unchecked;
 
 /// The bytes as a text.
 pub fn as_text(bytes: &[u8]) -> &str
     requires { IsUtf8 bytes.now }
     ensures { result.now ≡ bytes.now }
 {
-    match std::str::from_utf8(bytes) {
-        Ok(text) => text,
-        Err(_) => unreachable!(),
-    }
+    unsafe { from_utf8_unchecked(bytes) }
 }
 
 /// The place of a byte of a file.
@@ -41,19 +38,14 @@ pub fn token(
     requires { at.start + n < 2 ^ 64 }
     ensures { IfOk result (λ t. t ≡ token file.now kind at n value) }
 {
-    Ok(Token {
-        kind,
-        start: at.start,
-        end: at.start + n,
-        place: place_in(file, at)?,
-        value,
-    })
+    let end = at.start + n;
+    Ok(Token::new(kind, at.start, end, place_in(file, at)?, value))
 }
 
 /// A token whose value is the word, name or sign as written.
 pub fn written_token(
     alloc: Global,
-    texts: &mut SharedTexts,
+    whole: &Text,
     file: &Text,
     kind: TokenKind,
     at: At,
@@ -63,13 +55,14 @@ pub fn written_token(
     requires text { IsUtf8 word.now }
     ensures { IfOk result (λ t. t ≡ token file.now kind at (length word.now) word.now) }
 {
-    let value = texts.text(alloc, as_text(word))?;
+    let value = whole.part(alloc, at.start, as_text(word))?;
     token(file, kind, at, word.len(), value)
 }
 
-/// A Text of n bytes and of this value.
+/// A Text of n bytes and of this value, which stands behind its quote where it has no escapes.
 pub fn text_token(
     alloc: Global,
+    whole: &Text,
     file: &Text,
     at: At,
     n: usize,
@@ -79,14 +72,14 @@ pub fn text_token(
     requires text { IsUtf8 value }
     ensures { IfOk result (λ t. t ≡ token file.now TokenKind.Text at n value.entry) }
 {
-    let value = Text::new(alloc, as_text(value.as_slice()))?;
+    let value = whole.part(alloc, at.start.saturating_add(1), as_text(value.as_slice()))?;
     token(file, TokenKind::Text, at, n, value)
 }
 
 /// An Int of n bytes and of this value.
 pub fn int_token(
     alloc: Global,
-    texts: &mut SharedTexts,
+    whole: &Text,
     file: &Text,
     at: At,
     n: usize,
@@ -96,7 +89,7 @@ pub fn int_token(
     ensures { IfOk result (λ t. t ≡ token file.now TokenKind.Int at n (decimal value)) }
 {
     let mut buffer = Buffer::new();
-    let value = texts.text(alloc, buffer.format(value))?;
+    let value = whole.part(alloc, at.start, buffer.format(value))?;
     token(file, TokenKind::Int, at, n, value)
 }
 

@@ -1,16 +1,12 @@
 -- Steps of the functions that read statements, as equations of whole readings.
-use Rattle.std.proofs.Common.{ℕ, map, ap, ◌≡◌, ◌≢◌, Bool, true, false, List, [], ◌∷◌, ◌++◌, Some, None, Err, refl, subst, ◌∙◌}
-use Rattle.std.proofs.lemmas.List.{map_push}
+use Rattle.std.proofs.Common.{ℕ, ◌≡◌, ◌≢◌, Bool, true, false, List, [], ◌∷◌, ◌++◌, Some, None, Err, refl}
 use Rattle.pan_ast.specs.declared.place.Place.{Place}
-use Rattle.pan_ast.specs.declared.sort.Sort.{Sort}
 use Rattle.pan_ast.specs.declared.sort.Sort.TheVariants as sorts
 use Rattle.pan_ast.specs.declared.template.TemplateKind.{TemplateKind}
 use Rattle.pan_ast.specs.declared.template.TemplateKind.TheVariants as kinds
-use Rattle.pan_ast.specs.declared.template.Statement.{Statement as RStatement}
 use Rattle.pan_ast.specs.declared.token.Token.{Token}
 use Rattle.pan_ast.specs.Sorts.{at, sort}
 use Rattle.pan_ast.specs.Templates.{Statement}
-use Rattle.pan_ast.specs.TemplatesSeen.{statement_seen}
 use Rattle.pan_ast.specs.Types.{FullType}
 use Rattle.pan_grammar.specs.Grammar.{Tokens}
 use Rattle.pan_grammar.specs.Machine.{Bad, block_included_read, has_full, kind_read, name_wanted, path_read, run, setting_at, text_included_read, variable_read}
@@ -18,9 +14,6 @@ use Rattle.pan_grammar.specs.States.{Done, IncludeRead, Start, StatementType, St
 use Rattle.pan_grammar.specs.Templates.{Header, kind_of, template}
 use Rattle.pan_grammar.proofs.Tests.{at_miss, at_true}
 use Rattle.pan_parser.specs.Answers.{IsAt, NotAt, on_front}
-
-pub not_there : (w : Sort) (ts on : Tokens) (t : Token) → ts ≡ t ∷ on → NotAt w ts → at w (sort t) ≡ false
-not_there w ts on t cut n = subst (λ x. NotAt w x) cut n
 
 pub type_ends : (ts on : Tokens) (h : Header) (ss : List Statement) (make : FullType → Statement) (f : FullType) → IsAt sorts.Semicolon ts on → on_front (has_full (StatementType h ss make) f) ts ≡ run on (Statements h (ss ++ make f ∷ []))
 type_ends ts on h ss make f i = let c = i.1 in let e = i.2 in rw (c, e) refl
@@ -65,9 +58,6 @@ setting_turns ts on t h ss cut e a b c d f g i =
 
 pub statements_end : (ts on : Tokens) (h : Header) (ss : List Statement) → IsAt sorts.End ts on → run ts (Statements h ss) ≡ run on (Done (template h ss))
 statements_end ts on h ss i = let c = i.1 in let e = at_true sorts.End (sort i.0) i.2 in rw (c, e) refl
-
-pub pushed_statements : (new is : List RStatement) (i : RStatement) → new ≡ is ++ i ∷ [] → map statement_seen new ≡ map statement_seen is ++ statement_seen i ∷ []
-pushed_statements new is i e = ap (map statement_seen) e ∙ map_push statement_seen is i
 
 -- ---- headers
 

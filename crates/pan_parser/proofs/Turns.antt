@@ -1,9 +1,8 @@
 -- Steps of the parser's functions, as equations of whole readings.
 use Rattle.std.proofs.Common.{map, ◌≡◌, ◌≢◌, ◌≤◌, ◌+◌, ◌-◌, ℕ, zero, suc, Bool, true, false, cond, List, [], ◌∷◌, ◌++◌, Option, Some, None, Result, Ok, Err, refl, sym, ap, subst, ◌∙◌, arith}
+use Rattle.std.proofs.lemmas.Bool.{eqb-true}
 use Rattle.std.proofs.lemmas.List.{map_push}
 use Rattle.path_tree.specs.declared.operators.UnaryOp.{UnaryOp}
-use Rattle.path_tree.specs.declared.operators.UnaryOp.TheVariants as unary
-use Rattle.pan_ast.specs.declared.sort.Sort.{Sort}
 use Rattle.pan_ast.specs.declared.sort.Sort.TheVariants as sorts
 use Rattle.pan_ast.specs.declared.token.Token.{Token}
 use Rattle.pan_ast.specs.declared.place.Place.{Place}
@@ -14,16 +13,15 @@ use Rattle.pan_ast.specs.Syntax.{Item, Node}
 use Rattle.pan_ast.specs.Syntax as nodes
 use Rattle.pan_ast.specs.Templates.{Template}
 use Rattle.pan_grammar.specs.Depths.{holders, item_opens, node_holders, signed, unary_opens}
-use Rattle.pan_grammar.specs.Grammar.{Operator, Tokens, assigned, block, called, index, joined, level, literal, plain, reference, unary_of}
-use Rattle.pan_grammar.specs.Machine.{Bad, Deep, Stop, item_at, over, run, unary_at, when_that}
-use Rattle.pan_grammar.specs.States.{ASemicolon, AWord, AnOpen, BlockOpen, Braces, CallOpen, Chained, Closes, First, HasItem, HasNode, HasPrimary, HasReference, InBlock, InCall, InIndex, InParens, InParts, InReference, ItemStack, ItemWord, Last, MayElse, NeedItem, NeedUnary, NodeStack, Operand, Parens, Signed, State, Takes, WordRead, down, for_parts, foreach_parts, if_parts, while_parts}
-use Rattle.pan_grammar.specs.Grammar.{name}
-use Rattle.pan_grammar.proofs.Tests.{at_true, miss, taken, passed}
+use Rattle.pan_grammar.specs.Grammar.{Operator, Tokens, block, called, index, joined, level, literal, name, plain, reference, unary_of}
+use Rattle.pan_grammar.specs.Machine.{Bad, Deep, Stop, for_read, foreach_read, if_read, item_at, over, run, unary_at, while_read}
+use Rattle.pan_grammar.specs.States.{BlockOpen, Braces, CallOpen, Chained, Closes, First, HasItem, HasNode, HasPrimary, HasReference, InBlock, InCall, InIndex, InParens, InParts, InReference, ItemStack, ItemWord, Last, MayElse, NeedItem, NeedUnary, NodeStack, Operand, Parens, Signed, State, Takes, WordRead, down, right_side}
+use Rattle.pan_grammar.proofs.Firsts.{NotQuoted, item_bare, item_else, unary_sign}
+use Rattle.pan_grammar.proofs.Follow.{literal_bare, op_none, plain_not_signed}
+use Rattle.pan_grammar.proofs.Tests.{at_true, taken, passed, some_taken}
 use Rattle.pan_parser.specs.declared.stopped.Stopped.{Stopped}
 use Rattle.pan_parser.specs.declared.stopped.Stopped.TheVariants as stops
-use Rattle.std.proofs.lemmas.Bool.{eqb-true}
-use Rattle.pan_grammar.proofs.Follow.{op_none}
-use Rattle.pan_parser.specs.Answers.{ends_chains, Fails, Goes, IsAt, NotAt, IsOperator, NoOperator, NoSign, indexed, starts_item}
+use Rattle.pan_parser.specs.Answers.{ends_chains, Fails, Goes, IsAt, NotAt, IsOperator, NoOperator, NoSign, indexed}
 
 -- ---- numbers
 
@@ -59,37 +57,22 @@ indexed_push x (j ∷ is) i = indexed_push (index x j) is i
 pub brace_turns : (ts : Tokens) (first : Token) (on : Tokens) (s : ItemStack) → ts ≡ first ∷ on → sort first ≡ sorts.OpenBrace → over (suc (holders s)) ≡ false → run ts (NeedItem s) ≡ run on (BlockOpen first.place [] s)
 brace_turns ts first on s cut e low = rw (cut, e, low) refl
 
-pub if_turns : (ts : Tokens) (first : Token) (on : Tokens) (s : ItemStack) → ts ≡ first ∷ on → sort first ≡ sorts.If → over (suc (holders s)) ≡ false → run ts (NeedItem s) ≡ run on (Takes AnOpen (λ o. NeedItem (InParts (if_parts first.place) s)))
+pub if_turns : (ts : Tokens) (first : Token) (on : Tokens) (s : ItemStack) → ts ≡ first ∷ on → sort first ≡ sorts.If → over (suc (holders s)) ≡ false → run ts (NeedItem s) ≡ run on (if_read first.place s)
 if_turns ts first on s cut e low = rw (cut, e, low) refl
 
-pub while_turns : (ts : Tokens) (first : Token) (on : Tokens) (s : ItemStack) → ts ≡ first ∷ on → sort first ≡ sorts.While → over (suc (holders s)) ≡ false → run ts (NeedItem s) ≡ run on (Takes AnOpen (λ o. NeedItem (InParts (while_parts first.place) s)))
+pub while_turns : (ts : Tokens) (first : Token) (on : Tokens) (s : ItemStack) → ts ≡ first ∷ on → sort first ≡ sorts.While → over (suc (holders s)) ≡ false → run ts (NeedItem s) ≡ run on (while_read first.place s)
 while_turns ts first on s cut e low = rw (cut, e, low) refl
 
-pub for_turns : (ts : Tokens) (first : Token) (on : Tokens) (s : ItemStack) → ts ≡ first ∷ on → sort first ≡ sorts.For → over (suc (holders s)) ≡ false → run ts (NeedItem s) ≡ run on (Takes AnOpen (λ o. NeedItem (InParts (for_parts first.place) s)))
+pub for_turns : (ts : Tokens) (first : Token) (on : Tokens) (s : ItemStack) → ts ≡ first ∷ on → sort first ≡ sorts.For → over (suc (holders s)) ≡ false → run ts (NeedItem s) ≡ run on (for_read first.place s)
 for_turns ts first on s cut e low = rw (cut, e, low) refl
 
-pub foreach_turns : (ts : Tokens) (first : Token) (on : Tokens) (s : ItemStack) → ts ≡ first ∷ on → sort first ≡ sorts.Foreach → over (suc (holders s)) ≡ false
-    → run ts (NeedItem s) ≡ run on (Takes AnOpen (λ o. Takes AWord (λ k. Takes ASemicolon (λ s1. Takes AWord (λ v. Takes ASemicolon (λ s2. NeedItem (InParts (foreach_parts first.place k.value v.value) s)))))))
+pub foreach_turns : (ts : Tokens) (first : Token) (on : Tokens) (s : ItemStack) → ts ≡ first ∷ on → sort first ≡ sorts.Foreach → over (suc (holders s)) ≡ false → run ts (NeedItem s) ≡ run on (foreach_read first.place s)
 foreach_turns ts first on s cut e low = rw (cut, e, low) refl
-
--- none of the words and the brace by which an item is told from a chain
-abbrev pub NotQuoted : Sort → Type 0
-NotQuoted x = (x ≢ sorts.OpenBrace) × (x ≢ sorts.If) × (x ≢ sorts.While) × (x ≢ sorts.For) × (x ≢ sorts.Foreach)
-
-item_else : (t : Token) (s : ItemStack) → NotQuoted (sort t) → item_at t s ≡ when_that (is_plain (sort t)) (ItemWord t s) (unary_at t (down 9 (Chained s)))
-item_else t s q = miss sorts.OpenBrace (sort t) _ _ q.0 ∙ miss sorts.If (sort t) _ _ q.1 ∙ miss sorts.While (sort t) _ _ q.2 ∙ miss sorts.For (sort t) _ _ q.3 ∙ miss sorts.Foreach (sort t) _ _ q.4
-
-plain_unsigned : (x : Sort) → is_plain x ≡ true → signed x ≡ false
-plain_unsigned sorts.Plus e = absurd cc
-plain_unsigned sorts.Minus e = absurd cc
-plain_unsigned sorts.Not e = absurd cc
-plain_unsigned sorts.Flip e = absurd cc
-plain_unsigned _ e = refl
 
 pub word_turns : (ts : Tokens) (first : Token) (on : Tokens) (s : ItemStack) → ts ≡ first ∷ on → NotQuoted (sort first) → is_plain (sort first) ≡ true → over (suc (holders s)) ≡ false → run ts (NeedItem s) ≡ run on (ItemWord first s)
 word_turns ts first on s cut q e low =
     let to : item_at first s ≡ Some (ItemWord first s) = item_else first s q ∙ taken (is_plain (sort first)) _ _ e in
-    let un : signed (sort first) ≡ false = plain_unsigned (sort first) e in
+    let un : signed (sort first) ≡ false = plain_not_signed (sort first) e in
     rw (cut, to, un, low) refl
 
 over_alike : (h : ℕ) (b : Bool) → over (suc h) ≡ false → over (cond b (suc (suc h)) (suc h)) ≡ over (cond b (suc (suc h)) 0)
@@ -102,90 +85,13 @@ chain_turns ts first on s cut q e low =
     let alike : over (item_opens (holders s) (sort first)) ≡ over (unary_opens (suc (holders s)) (sort first)) = over_alike (holders s) (signed (sort first)) low in
     rw (cut, same, alike) refl
 
-pub limit_deep : (first : Token) (on : Tokens) (s : ItemStack) → starts_item (sort first) ≡ true → holders s ≡ 100 → run (first ∷ on) (NeedItem s) ≡ Err (Deep (first ∷ on))
-limit_deep first on s e h = by (sort first) refl e where
-  by : (k : Sort) → sort first ≡ k → starts_item k ≡ true → run (first ∷ on) (NeedItem s) ≡ Err (Deep (first ∷ on))
-  by sorts.End q r = absurd cc
-  by sorts.Name q r = absurd cc
-  by sorts.Else q r = absurd cc
-  by sorts.CloseBrace q r = absurd cc
-  by sorts.Close q r = absurd cc
-  by sorts.OpenBracket q r = absurd cc
-  by sorts.CloseBracket q r = absurd cc
-  by sorts.Semicolon q r = absurd cc
-  by sorts.Comma q r = absurd cc
-  by sorts.Colon q r = absurd cc
-  by sorts.Question q r = absurd cc
-  by sorts.ConditionalAssign q r = absurd cc
-  by sorts.Assign q r = absurd cc
-  by sorts.Equal q r = absurd cc
-  by sorts.Differs q r = absurd cc
-  by sorts.Less q r = absurd cc
-  by sorts.AtMost q r = absurd cc
-  by sorts.Greater q r = absurd cc
-  by sorts.AtLeast q r = absurd cc
-  by sorts.Star q r = absurd cc
-  by sorts.Slash q r = absurd cc
-  by sorts.Percent q r = absurd cc
-  by sorts.And q r = absurd cc
-  by sorts.Ands q r = absurd cc
-  by sorts.Bar q r = absurd cc
-  by sorts.Bars q r = absurd cc
-  by sorts.Caret q r = absurd cc
-  by sorts.Range q r = absurd cc
-  by sorts.NoSign q r = absurd cc
-  by _ q r = rw (q, h) refl
-
-pub limit_bad : (first : Token) (on : Tokens) (s : ItemStack) → starts_item (sort first) ≡ false → run (first ∷ on) (NeedItem s) ≡ Err (Bad (first ∷ on))
-limit_bad first on s e = by (sort first) refl e where
-  by : (k : Sort) → sort first ≡ k → starts_item k ≡ false → run (first ∷ on) (NeedItem s) ≡ Err (Bad (first ∷ on))
-  by sorts.End q r = rw q refl
-  by sorts.Name q r = rw q refl
-  by sorts.Else q r = rw q refl
-  by sorts.CloseBrace q r = rw q refl
-  by sorts.Close q r = rw q refl
-  by sorts.OpenBracket q r = rw q refl
-  by sorts.CloseBracket q r = rw q refl
-  by sorts.Semicolon q r = rw q refl
-  by sorts.Comma q r = rw q refl
-  by sorts.Colon q r = rw q refl
-  by sorts.Question q r = rw q refl
-  by sorts.ConditionalAssign q r = rw q refl
-  by sorts.Assign q r = rw q refl
-  by sorts.Equal q r = rw q refl
-  by sorts.Differs q r = rw q refl
-  by sorts.Less q r = rw q refl
-  by sorts.AtMost q r = rw q refl
-  by sorts.Greater q r = rw q refl
-  by sorts.AtLeast q r = rw q refl
-  by sorts.Star q r = rw q refl
-  by sorts.Slash q r = rw q refl
-  by sorts.Percent q r = rw q refl
-  by sorts.And q r = rw q refl
-  by sorts.Ands q r = rw q refl
-  by sorts.Bar q r = rw q refl
-  by sorts.Bars q r = rw q refl
-  by sorts.Caret q r = rw q refl
-  by sorts.Range q r = rw q refl
-  by sorts.NoSign q r = rw q refl
-  by _ q r = absurd cc
-
 -- ---- operands
 
-sign_at : (t : Token) (n : NodeStack zero) (op : UnaryOp) → unary_of (sort t) ≡ Some op → unary_at t n ≡ Some (NeedUnary (Signed op t.place n))
-sign_at t n op e = by (sort t) refl e where
-  by : (k : Sort) → sort t ≡ k → unary_of k ≡ Some op → unary_at t n ≡ Some (NeedUnary (Signed op t.place n))
-  by sorts.Plus q r = let o : op ≡ unary.Plus = cc in rw (q, o) refl
-  by sorts.Minus q r = let o : op ≡ unary.Minus = cc in rw (q, o) refl
-  by sorts.Not q r = let o : op ≡ unary.Not = cc in rw (q, o) refl
-  by sorts.Flip q r = let o : op ≡ unary.Flip = cc in rw (q, o) refl
-  by _ q r = absurd cc
-
 pub sign_turns : (ts : Tokens) (first : Token) (on : Tokens) (n : NodeStack zero) (op : UnaryOp) → ts ≡ first ∷ on → unary_of (sort first) ≡ Some op → over (suc (node_holders n)) ≡ false → run ts (NeedUnary n) ≡ run on (NeedUnary (Signed op first.place n))
-sign_turns ts first on n op cut e low = let to = sign_at first n op e in rw (cut, to, e, low) refl
+sign_turns ts first on n op cut e low = let to = unary_sign first n op e in rw (cut, to, e, low) refl
 
 pub sign_deep : (ts : Tokens) (first : Token) (on : Tokens) (n : NodeStack zero) (op : UnaryOp) → ts ≡ first ∷ on → unary_of (sort first) ≡ Some op → node_holders n ≡ 100 → run ts (NeedUnary n) ≡ Err (Deep ts)
-sign_deep ts first on n op cut e h = let to = sign_at first n op e in rw (cut, to, e, h) refl
+sign_deep ts first on n op cut e h = let to = unary_sign first n op e in rw (cut, to, e, h) refl
 
 pub unsigned : (ts : Tokens) (first : Token) (on : Tokens) → ts ≡ first ∷ on → unary_of (sort first) ≡ None → NoSign ts
 unsigned ts first on cut e = rw cut e
@@ -274,7 +180,7 @@ item_reference (t ∷ ts) f s h = rw h refl
 pub reference_index : (ts on : Tokens) (f : Token) (is : List Item) (x : Node) (s : ItemStack) → IsAt sorts.OpenBracket ts on → run ts (HasReference f is x s) ≡ run on (NeedItem (InReference f is x s))
 reference_index ts on f is x s h = let c = h.1 in let e = h.2 in rw (c, e) refl
 
-pub assign_turns : (ts on : Tokens) (f : Token) (is : List Item) (x : Node) (s : ItemStack) → IsAt sorts.Assign ts on → run ts (HasReference f is x s) ≡ run on (NeedItem (InParts (Last (λ y. assigned (reference f is) y)) s))
+pub assign_turns : (ts on : Tokens) (f : Token) (is : List Item) (x : Node) (s : ItemStack) → IsAt sorts.Assign ts on → run ts (HasReference f is x s) ≡ run on (NeedItem (InParts (right_side (reference f is)) s))
 assign_turns ts on f is x s h = let c = h.1 in let e = at_true sorts.Assign (sort h.0) h.2 in rw (c, e) refl
 
 pub reference_done : (ts : Tokens) (f : Token) (is : List Item) (x : Node) (s : ItemStack) → NotAt sorts.OpenBracket ts → NotAt sorts.Assign ts → run ts (HasReference f is x s) ≡ run ts (HasNode x (down 9 (Chained s)))
@@ -352,6 +258,15 @@ no_operator l (t ∷ ts) h = op_none (suc l) (sort t) (λ e. omega (arith, eqb-t
 pub at_operand : (d : ℕ) (ts : Tokens) (x : Node) (l : ℕ) → ends_chains ts ≡ true → ReadsChain d ts (λ n. HasNode x n) x ts l
 at_operand d ts x zero h = λ n dn. refl
 at_operand d ts x (suc k) h = λ n dn. at_operand d ts x k h (First n) dn ∙ first_done k ts x n (no_operator k ts h)
+
+-- a literal with no index and no operator behind it is an item
+pub alone : (first : Token) (on : Tokens) (s : ItemStack) (x : Node) → literal (sort first) first ≡ Some x → NotAt sorts.OpenBracket on → ends_chains on ≡ true → over (suc (holders s)) ≡ false → run (first ∷ on) (NeedItem s) ≡ run on (HasItem (plain x) s)
+alone first on s x e n h low =
+    let bare = literal_bare (sort first) first x e in
+    let unsigned : signed (sort first) ≡ false = bare.1 in
+    let at_literal : item_at first s ≡ Some (HasPrimary x (down 9 (Chained s))) = item_bare first s bare.0 ∙ some_taken (literal (sort first) first) _ _ x e in
+    let turned : run (first ∷ on) (NeedItem s) ≡ run on (HasPrimary x (down 9 (Chained s))) = rw (at_literal, unsigned, low) refl in
+    turned ∙ indexes_done on x (down 9 (Chained s)) n ∙ at_operand (node_holders (Chained s)) on x 9 h (Chained s) refl ∙ chained on x s
 
 pub down_holders : (l : ℕ) (n : NodeStack l) → node_holders (down l n) ≡ node_holders n
 down_holders zero n = refl

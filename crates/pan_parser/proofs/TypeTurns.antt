@@ -1,5 +1,6 @@
 -- Steps of the functions that read types, as equations of whole readings.
-use Rattle.std.proofs.Common.{map, ap, ◌≢◌, ◌<◌, ◌+◌, suc, ◌||◌, arith, ◌≡◌, ℕ, ℤ, Bool, true, false, List, [], ◌∷◌, ◌++◌, Option, Some, None, Err, refl, sym, subst, ◌∙◌}
+use Rattle.std.proofs.Common.{◌≢◌, ◌<◌, ◌+◌, suc, arith, ◌≡◌, ℕ, ℤ, Bool, true, false, List, [], ◌∷◌, ◌++◌, Option, Some, None, Err, refl, sym, subst, ◌∙◌}
+use Rattle.std.proofs.lemmas.Bool.{or_parts}
 use Rattle.pan_ast.specs.declared.place.Place.{Place}
 use Rattle.pan_ast.specs.declared.sort.Sort.{Sort}
 use Rattle.pan_ast.specs.declared.sort.Sort.TheVariants as sorts
@@ -7,9 +8,6 @@ use Rattle.pan_ast.specs.declared.token.Token.{Token}
 use Rattle.pan_ast.specs.declared.types.Bounds.{Bounds}
 use Rattle.pan_ast.specs.declared.types.Suffix.{Suffix}
 use Rattle.pan_ast.specs.declared.types.Suffix.TheVariants as suffixes
-use Rattle.std.proofs.lemmas.List.{map_push}
-use Rattle.pan_ast.specs.declared.types.Field.{Field as RField}
-use Rattle.pan_ast.specs.TypesSeen.{field_seen}
 use Rattle.pan_ast.specs.Sorts.{at, is_type_name, sort}
 use Rattle.pan_ast.specs.Types.{Field, Formed, FullType, Head}
 use Rattle.pan_grammar.specs.Depths.{full_holders}
@@ -79,24 +77,17 @@ pub link_turns : (ts on : Tokens) (h : Head) (ss : List Suffix) (s : FullStack) 
 link_turns ts on h ss s i = let c = i.1 in let e = at_true sorts.Star (sort i.0) i.2 in rw (c, e) refl
 
 -- a type that no suffix goes on
-false_or : (a b : Bool) → a || b ≡ false → (a ≡ false) × (b ≡ false)
-false_or true b e = absurd cc
-false_or false b e = (refl, e)
-
 pub no_suffix : (ts : Tokens) (h : Head) (ss : List Suffix) (s : FullStack) → NoSuffix ts → run ts (HasHead h ss s) ≡ on_front (has_form (Formed h ss) s) ts
 no_suffix [] h ss s e = refl
 no_suffix (t ∷ ts) h ss s e =
-    let a = false_or (at sorts.OpenBracket (sort t)) _ e in
-    let b = false_or (at sorts.OpenBrace (sort t)) _ a.1 in
+    let a = or_parts (at sorts.OpenBracket (sort t)) _ e in
+    let b = or_parts (at sorts.OpenBrace (sort t)) _ a.1 in
     let x = a.0 in
     let y = b.0 in
     let z = b.1 in
     rw (x, y, z) refl
 
 -- ---- heads
-
-pub below_once : (a d : ℕ) → a ≡ d → d < 100 → over (suc a) ≡ false
-below_once a d h le = grind arith
 
 pub below_twice : (a d : ℕ) → a ≡ d → d < 100 → d ≢ 99 → over (suc (suc a)) ≡ false
 below_twice a d h le ne = grind arith
@@ -158,6 +149,3 @@ field_stops ts on first e fs s cut n q i = let m = not_there sorts.CloseBrace ts
 pub field_done : (ts : Tokens) (k c : Token) (e : Bool) (fs : List Field) (f : FullType) (s : FullStack) → on_front (has_full (InField k c e fs s) f) ts ≡ run ts (FieldsOpen e (fs ++ own k c f ∷ []) s)
 field_done [] k c e fs f s = refl
 field_done (t ∷ ts) k c e fs f s = refl
-
-pub pushed_fields : (new is : List RField) (i : RField) → new ≡ is ++ i ∷ [] → map field_seen new ≡ map field_seen is ++ field_seen i ∷ []
-pushed_fields new is i e = ap (map field_seen) e ∙ map_push field_seen is i

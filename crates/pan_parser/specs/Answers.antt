@@ -2,20 +2,17 @@
 use Rattle.std.specs.Borrow.{Bor}
 use Rattle.std.specs.Prelude.{◌≡◌, ℕ, Bool, true, false, ◌==◌, List, [], ◌∷◌, ◌++◌, Option, Some, None, Result, Ok, Err}
 use Rattle.pan_ast.specs.declared.sort.Sort.{Sort}
-use Rattle.pan_ast.specs.declared.sort.Sort.TheVariants as sorts
 use Rattle.pan_ast.specs.declared.token.Token.{Token}
-use Rattle.pan_ast.specs.Sorts.{sort, at, is_plain}
+use Rattle.pan_ast.specs.declared.types.Suffix.{Suffix}
+use Rattle.pan_ast.specs.Sorts.{sort, at}
 use Rattle.pan_ast.specs.Syntax.{Item, Node}
 use Rattle.pan_ast.specs.Templates.{Template}
+use Rattle.pan_ast.specs.Types.{Head}
 use Rattle.pan_grammar.specs.Depths.{opens}
 use Rattle.pan_grammar.specs.Grammar.{Both, Either, Of, Operator, Tokens, index, level, op_of, unary_of}
-use Rattle.pan_grammar.specs.Machine.{Bad, Deep, Stop, at_end, step, when_that}
-use Rattle.pan_grammar.specs.States.{State}
-use Rattle.pan_ast.specs.Types.{Head}
-use Rattle.pan_ast.specs.declared.types.Suffix.{Suffix}
+use Rattle.pan_grammar.specs.Machine.{Bad, Deep, Stop, and_run, at_end, run, step, when_that}
+use Rattle.pan_grammar.specs.States.{FullStack, HasHead, State}
 use Rattle.pan_grammar.specs.Types.{is_suffix}
-use Rattle.pan_grammar.specs.States.{FullStack, HasHead}
-use Rattle.pan_grammar.specs.Machine.{and_run, run}
 use Rattle.pan_parser.specs.declared.stopped.Stopped.{Stopped}
 use Rattle.pan_parser.specs.declared.stopped.Stopped.TheVariants as stops
 use Rattle.pan_parser.specs.declared.tables.Operator.{Operator as ROperator}
@@ -72,26 +69,6 @@ abbrev pub op_seen : ROperator → Operator
 op_seen (operators.Of op) = Of op
 op_seen operators.Both = Both
 op_seen operators.Either = Either
-
--- what an item may begin with
-abbrev pub starts_item : Sort → Bool
-starts_item sorts.OpenBrace = true
-starts_item sorts.Open = true
-starts_item sorts.If = true
-starts_item sorts.While = true
-starts_item sorts.For = true
-starts_item sorts.Foreach = true
-starts_item sorts.Int = true
-starts_item sorts.Text = true
-starts_item sorts.True = true
-starts_item sorts.False = true
-starts_item sorts.Undef = true
-starts_item sorts.Null = true
-starts_item sorts.Plus = true
-starts_item sorts.Minus = true
-starts_item sorts.Not = true
-starts_item sorts.Flip = true
-starts_item s = is_plain s
 
 -- no suffix of a type stands at the front
 abbrev pub NoSuffix : Tokens → Type 0

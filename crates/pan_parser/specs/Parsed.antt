@@ -1,6 +1,5 @@
 -- What the parser answers, in the words of the grammar.
-use Rattle.std.specs.Prelude.{◌≡◌, ◌⊎◌, [], ◌∷◌, Result, Ok, Err}
-use Rattle.pan_ast.specs.declared.fault.Code.{Code}
+use Rattle.std.specs.Prelude.{◌≡◌, ◌⊎◌, ◌∷◌, Result, Ok, Err}
 use Rattle.pan_ast.specs.declared.fault.Code.TheVariants.{BadSyntax, TooDeep}
 use Rattle.pan_ast.specs.declared.fault.Fault.{Fault}
 use Rattle.pan_ast.specs.declared.template.Template.{Template as RTemplate}
@@ -9,6 +8,7 @@ use Rattle.pan_ast.specs.Templates.{Template}
 use Rattle.pan_ast.specs.TemplatesSeen.{template_seen}
 use Rattle.pan_grammar.specs.Faults.{IsFirstBad, IsTooDeep}
 use Rattle.pan_grammar.specs.Grammar.{Tokens}
+use Rattle.pan_grammar.specs.Parsed.{fault_at}
 use Rattle.pan_parser.specs.declared.errors.ParseError.{ParseError}
 use Rattle.pan_parser.specs.declared.errors.ParseError.TheVariants as errors
 
@@ -17,10 +17,6 @@ abbrev pub Reads : Result RTemplate ParseError → Result Template Fault → Typ
 Reads (Ok y) read = read ≡ Ok (template_seen y)
 Reads (Err errors.Memory) read = Unit {0}
 Reads (Err (errors.Fault f)) read = read ≡ Err f
-
--- a fault at a token, with an empty detail
-abbrev pub fault_at : Code → Token → Fault
-fault_at code k = record { code = code; place = k.place; detail = [] }
 
 -- F06 at the first token that no template goes on with, or F07 where the first construct nested over 100 deep begins
 abbrev pub IsFault : Tokens → ParseError → Type 0
@@ -34,8 +30,3 @@ abbrev pub Gives : Result RTemplate ParseError → Fault → Type 0
 Gives (Ok y) f = ⊥
 Gives (Err errors.Memory) f = Unit {0}
 Gives (Err (errors.Fault g)) f = g ≡ f
-
--- a fault at the first of these tokens
-abbrev pub FaultOn : Code → Tokens → ParseError → Type 0
-FaultOn code ts errors.Memory = Unit {0}
-FaultOn code ts (errors.Fault f) = (k : Token) × (on : Tokens) × (ts ≡ k ∷ on) × (f ≡ fault_at code k)

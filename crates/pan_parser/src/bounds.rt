@@ -45,11 +45,11 @@ pub(crate) fn bounds(sign: Sort, tokens: &[Token]) -> Result<(Bounds, &[Token]),
     };
     let Some(after) = next_is(Sort::Range, tokens) else {
         let (low, rest) = signed(tokens)?;
-        return after_low(sign, &first.place, low, rest);
+        return after_low(sign, first.place(), low, rest);
     };
     let (high, rest) = signed(after)?;
     let (_, rest) = expect(sign, rest)?;
-    Ok((make_bounds(&first.place, None, Some(high))?, rest))
+    Ok((make_bounds(first.place(), None, Some(high))?, rest))
 }
 
 /// After the first number of bounds.

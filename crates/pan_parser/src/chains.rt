@@ -1,10 +1,9 @@
 ghost use Rattle.std.specs.Prelude.{◌≡◌, ◌<◌, ◌≤◌, [], ℕ, zero, suc, IfOk, length, map};
 ghost use Rattle.pan_ast.specs.Seen.{item_seen, node_seen};
 ghost use Rattle.pan_grammar.specs.Depths.{holders, node_holders};
-ghost use Rattle.pan_grammar.specs.Grammar.{called};
+ghost use Rattle.pan_grammar.specs.Grammar.{called, name};
 ghost use Rattle.pan_grammar.specs.Machine.{run};
 ghost use Rattle.pan_grammar.specs.States.{CallOpen, Chained, HasItem, HasNode, HasPrimary, HasReference, ItemStack, NeedUnary, NodeStack, WordRead, down};
-ghost use Rattle.pan_grammar.specs.Grammar.{name};
 ghost use Rattle.pan_ast.specs.declared.sort.Sort.TheVariants.{OpenBracket};
 ghost use Rattle.pan_parser.specs.Answers.{Goes, NoSign, NotAt, indexed};
 
@@ -101,7 +100,7 @@ pub(crate) fn unary(
         return Err(Stopped::Deep(tokens));
     }
     let (node, rest) = unary(alloc, depth + 1, rest)?;
-    Ok((make_unary(alloc, &first.place, operator, node)?, rest))
+    Ok((make_unary(alloc, first.place(), operator, node)?, rest))
 }
 
 /// An operand without signs and indexes.
@@ -126,7 +125,7 @@ fn primary(alloc: Global, depth: u8, tokens: &[Token]) -> Result<(Node, &[Token]
     }
     let (inner, rest) = item(alloc, depth, rest)?;
     let (_, rest) = expect(Sort::Close, rest)?;
-    Ok((make_inside(alloc, &first.place, inner)?, rest))
+    Ok((make_inside(alloc, first.place(), inner)?, rest))
 }
 
 /// After a plain word: a call, or the word as a name.
@@ -142,10 +141,10 @@ fn named<'a>(
     ensures shorter { IfOk result (λ r. length r.1.now ≤ length tokens.now) }
 {
     let Some(after) = next_is(Sort::Open, tokens) else {
-        return Ok((make_name(&word.place, &word.value)?, tokens));
+        return Ok((make_name(word.place(), word.value())?, tokens));
     };
     let (items, rest) = arguments(alloc, depth, word, after)?;
-    Ok((make_call(&word.place, &word.value, items)?, rest))
+    Ok((make_call(word.place(), word.value(), items)?, rest))
 }
 
 /// After `name(`: the arguments through `)`.

@@ -1,22 +1,21 @@
-ghost use Rattle.std.specs.Prelude.{◌≡◌, ◌<◌, ◌≤◌, [], ℕ, suc, IfOk, length, map};
+ghost use Rattle.std.specs.Prelude.{◌≡◌, ◌<◌, ◌≤◌, [], ◌∷◌, ℕ, suc, false, IfOk, IfSome, length, map};
 ghost use Rattle.pan_ast.specs.declared.token.Token.{Token};
 ghost use Rattle.pan_ast.specs.Seen.{item_seen};
 ghost use Rattle.pan_ast.specs.declared.sort.Sort.TheVariants.{OpenBracket};
 ghost use Rattle.pan_ast.specs.Syntax.{Item as Seen};
 ghost use Rattle.pan_grammar.specs.Depths.{holders};
-ghost use Rattle.pan_grammar.specs.Grammar.{block};
-ghost use Rattle.pan_grammar.specs.Machine.{run};
-ghost use Rattle.pan_grammar.specs.States.{ASemicolon, AWord, AnOpen, BlockOpen, Divider, Further, HasItem, HasReference, InParts, ItemStack, ItemWord, NeedItem, Parts, State, Takes, divider, for_parts, foreach_parts, if_parts, while_parts};
-ghost use Rattle.pan_grammar.specs.Grammar.{name};
+ghost use Rattle.pan_grammar.specs.Grammar.{block, name};
+ghost use Rattle.pan_grammar.specs.Machine.{for_read, foreach_read, if_read, over, run, while_read};
+ghost use Rattle.pan_grammar.specs.States.{ASemicolon, AWord, AnOpen, BlockOpen, Divider, Further, HasItem, HasReference, InParts, ItemStack, ItemWord, NeedItem, Parts, State, Takes, divider};
 ghost use Rattle.pan_parser.specs.Answers.{Fails, Goes, NotAt, indexed};
 
 use crate::chains::{arguments, chain_item, indexes, reference_indexes, unary};
 use crate::stopped::Stopped;
-use crate::tables::{indexed_name, starts_item};
+use crate::tables::{ends_chains, indexed_name, literal, starts_item};
 use crate::tokens::{cut, expect, expect_word, next_is};
 use pan_ast::make_items::{
     make_assign, make_block, make_call, make_for, make_foreach, make_if, make_if_else,
-    make_reference, make_while,
+    make_plain, make_reference, make_while,
 };
 use pan_ast::{Item, Place, Sort, Token};
 use std::alloc::{AllocError, Global};
@@ -32,6 +31,23 @@ fn at_limit(tokens: &[Token]) -> Stopped<'_>
         Stopped::Deep(tokens)
     } else {
         Stopped::Bad(tokens)
+    }
+}
+
+/// The item that a literal alone is: with no index and no operator behind it. Most items are such, and this saves them
+/// the way through all lines of chains.
+fn lone_literal(first: &Token, rest: &[Token]) -> Result<Option<Item>, AllocError>
+    ensures { IfOk result (λ o. IfSome o (λ y. (s : ItemStack) → over (suc (holders s)) ≡ false → run (first.now ∷ rest.now) (NeedItem s) ≡ run rest.now (HasItem (item_seen y) s))) }
+{
+    let None = next_is(Sort::OpenBracket, rest) else {
+        return Ok(None);
+    };
+    if !ends_chains(rest) {
+        return Ok(None);
+    }
+    match literal(first)? {
+        Some(node) => Ok(Some(make_plain(node)?)),
+        None => Ok(None),
     }
 }
 
@@ -54,16 +70,19 @@ pub(crate) fn item(
     };
     match first.sort() {
         Sort::OpenBrace => {
-            let (items, rest) = block_items(alloc, depth + 1, &first.place, rest)?;
-            Ok((make_block(&first.place, items)?, rest))
+            let (items, rest) = block_items(alloc, depth + 1, first.place(), rest)?;
+            Ok((make_block(first.place(), items)?, rest))
         }
-        Sort::If => if_item(alloc, depth + 1, &first.place, rest),
-        Sort::While => while_item(alloc, depth + 1, &first.place, rest),
-        Sort::For => for_item(alloc, depth + 1, &first.place, rest),
-        Sort::Foreach => foreach_item(alloc, depth + 1, &first.place, rest),
+        Sort::If => if_item(alloc, depth + 1, first.place(), rest),
+        Sort::While => while_item(alloc, depth + 1, first.place(), rest),
+        Sort::For => for_item(alloc, depth + 1, first.place(), rest),
+        Sort::Foreach => foreach_item(alloc, depth + 1, first.place(), rest),
         sort => {
             if sort.is_plain() {
                 return word_item(alloc, depth + 1, first, rest);
+            }
+            if let Some(alone) = lone_literal(first, rest)? {
+                return Ok((alone, rest));
             }
             let (node, rest) = unary(alloc, depth + 1, tokens)?;
             chain_item(alloc, depth + 1, node, rest)
@@ -140,7 +159,7 @@ fn if_item<'a>(
     tokens: &'a [Token],
 ) -> Result<(Item, &'a [Token]), Stopped<'a>>
     requires { depth ≤ 100 }
-    ensures read { (s : ItemStack) → suc (holders s) ≡ depth → Goes result (λ r. run r.1.now (HasItem (item_seen r.0) s)) (run tokens.now (Takes AnOpen (λ o. NeedItem (InParts (if_parts place.now) s)))) }
+    ensures read { (s : ItemStack) → suc (holders s) ≡ depth → Goes result (λ r. run r.1.now (HasItem (item_seen r.0) s)) (run tokens.now (if_read place.now s)) }
     ensures shorter { IfOk result (λ r. length r.1.now < length tokens.now) }
 {
     let (_, rest) = expect(Sort::Open, tokens)?;
@@ -162,7 +181,7 @@ fn while_item<'a>(
     tokens: &'a [Token],
 ) -> Result<(Item, &'a [Token]), Stopped<'a>>
     requires { depth ≤ 100 }
-    ensures read { (s : ItemStack) → suc (holders s) ≡ depth → Goes result (λ r. run r.1.now (HasItem (item_seen r.0) s)) (run tokens.now (Takes AnOpen (λ o. NeedItem (InParts (while_parts place.now) s)))) }
+    ensures read { (s : ItemStack) → suc (holders s) ≡ depth → Goes result (λ r. run r.1.now (HasItem (item_seen r.0) s)) (run tokens.now (while_read place.now s)) }
     ensures shorter { IfOk result (λ r. length r.1.now < length tokens.now) }
 {
     let (_, rest) = expect(Sort::Open, tokens)?;
@@ -180,7 +199,7 @@ fn for_item<'a>(
     tokens: &'a [Token],
 ) -> Result<(Item, &'a [Token]), Stopped<'a>>
     requires { depth ≤ 100 }
-    ensures read { (s : ItemStack) → suc (holders s) ≡ depth → Goes result (λ r. run r.1.now (HasItem (item_seen r.0) s)) (run tokens.now (Takes AnOpen (λ o. NeedItem (InParts (for_parts place.now) s)))) }
+    ensures read { (s : ItemStack) → suc (holders s) ≡ depth → Goes result (λ r. run r.1.now (HasItem (item_seen r.0) s)) (run tokens.now (for_read place.now s)) }
     ensures shorter { IfOk result (λ r. length r.1.now < length tokens.now) }
 {
     let (_, rest) = expect(Sort::Open, tokens)?;
@@ -213,14 +232,14 @@ fn foreach_item<'a>(
     tokens: &'a [Token],
 ) -> Result<(Item, &'a [Token]), Stopped<'a>>
     requires { depth ≤ 100 }
-    ensures read { (s : ItemStack) → suc (holders s) ≡ depth → Goes result (λ r. run r.1.now (HasItem (item_seen r.0) s)) (run tokens.now (Takes AnOpen (λ o. Takes AWord (λ k. Takes ASemicolon (λ s1. Takes AWord (λ v. Takes ASemicolon (λ s2. NeedItem (InParts (foreach_parts place.now k.value v.value) s)))))))) }
+    ensures read { (s : ItemStack) → suc (holders s) ≡ depth → Goes result (λ r. run r.1.now (HasItem (item_seen r.0) s)) (run tokens.now (foreach_read place.now s)) }
     ensures shorter { IfOk result (λ r. length r.1.now < length tokens.now) }
 {
     let (key, value, rest) = foreach_words(tokens)?;
     let (items, rest) = item_before(alloc, depth, Sort::Close, rest)?;
     let (body, rest) = boxed_item(alloc, depth, rest)?;
     Ok((
-        make_foreach(place, &key.value, &value.value, items, body)?,
+        make_foreach(place, key.value(), value.value(), items, body)?,
         rest,
     ))
 }
@@ -242,7 +261,7 @@ fn word_item<'a>(
         return reference_item(alloc, depth, word, items, rest);
     };
     let (items, rest) = arguments(alloc, depth, word, after)?;
-    let call = make_call(&word.place, &word.value, items)?;
+    let call = make_call(word.place(), word.value(), items)?;
     let (node, rest) = indexes(alloc, depth, call, rest)?;
     chain_item(alloc, depth, node, rest)
 }
@@ -266,6 +285,6 @@ fn reference_item<'a>(
         return chain_item(alloc, depth, node, tokens);
     };
     let (right, rest) = boxed_item(alloc, depth, after)?;
-    let reference = make_reference(&word.place, &word.value, items)?;
-    Ok((make_assign(&word.place, reference, right)?, rest))
+    let reference = make_reference(word.place(), word.value(), items)?;
+    Ok((make_assign(word.place(), reference, right)?, rest))
 }

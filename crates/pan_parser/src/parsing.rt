@@ -1,4 +1,4 @@
-ghost use Rattle.std.specs.Prelude.{◌≡◌, ◌≢◌, ◌<◌, ◌&&◌, ◌∷◌, [], IfErr, IfOk, List, Ok, length};
+ghost use Rattle.std.specs.Prelude.{◌≡◌, ◌≢◌, ◌<◌, ◌&&◌, ◌∷◌, [], Err, IfErr, IfOk, List, Ok, length};
 ghost use Rattle.pan_ast.specs.declared.token.Token.{Token};
 ghost use Rattle.pan_ast.specs.Sorts.{EndsInEnd, at, sort};
 ghost use Rattle.pan_ast.specs.declared.sort.Sort.TheVariants as sorts;
@@ -11,9 +11,9 @@ ghost use Rattle.pan_grammar.specs.States.{Done, Start, State};
 ghost use Rattle.pan_grammar.specs.Templates.{kind_of};
 ghost use Rattle.path_tree.specs.Grammar.{is_name};
 ghost use Rattle.pan_parser.specs.Answers.{Goes, Wants};
-ghost use Rattle.pan_parser.specs.Parsed.{FaultOn, Gives, IsFault, Reads, fault_at};
-ghost use Rattle.pan_grammar.specs.Parsed.{parsed};
-ghost use Rattle.pan_grammar.specs.TreeDepths.{template_depth};
+ghost use Rattle.pan_grammar.specs.Parsed.{fault_at, fault_on, parsed};
+ghost use Rattle.pan_parser.specs.Parsed.{Gives, IsFault, Reads};
+ghost use Rattle.pan_ast.specs.TreeDepths.{template_depth};
 
 use crate::errors::ParseError;
 use crate::statements::statements;
@@ -47,7 +47,7 @@ fn expect_name(alloc: Global, tokens: &[Token]) -> Result<(Name, &Token, &[Token
     if !Sort::Name.is(first.sort()) {
         return Err(Stopped::Bad(tokens));
     }
-    match Name::parse(alloc, first.value.as_str()) {
+    match Name::parse(alloc, first.value().as_str()) {
         Ok(name) => Ok((name, first, rest)),
         Err(NameError::BadName) => Err(Stopped::Bad(tokens)),
         Err(NameError::Memory) => Err(Stopped::Memory),
@@ -66,7 +66,7 @@ fn named_template<'a>(
     let (name, token, rest) = expect_name(alloc, tokens)?;
     let (_, rest) = expect(Sort::Semicolon, rest)?;
     let (statements, rest) = statements(alloc, rest)?;
-    let name_place = token.place.share()?;
+    let name_place = token.place().share()?;
     let place = place.share()?;
     Ok((
         Template {
@@ -88,13 +88,13 @@ fn template(alloc: Global, tokens: &[Token]) -> Result<(Template, &[Token]), Sto
         return Err(Stopped::Bad(tokens));
     };
     if Sort::Template.is(first.sort()) {
-        return named_template(alloc, TemplateKind::Ordinary, &first.place, rest);
+        return named_template(alloc, TemplateKind::Ordinary, first.place(), rest);
     }
     let Some(kind) = kind_of(first.sort()) else {
         return Err(Stopped::Bad(tokens));
     };
     let (_, rest) = expect(Sort::Template, rest)?;
-    named_template(alloc, kind, &first.place, rest)
+    named_template(alloc, kind, first.place(), rest)
 }
 
 /// The template that all the tokens are.
@@ -117,12 +117,12 @@ fn fault(alloc: Global, code: Code, place: &Place) -> Result<Fault, AllocError>
 /// The fault of a code at the first of the tokens.
 fn fault_on(alloc: Global, code: Code, tokens: &[Token]) -> ParseError
     requires { tokens.now ≢ [] }
-    ensures { FaultOn code tokens.now result }
+    ensures { Gives (Err result) (fault_on code tokens.now) }
 {
     let Some((first, _)) = cut(tokens) else {
         unreachable!();
     };
-    match fault(alloc, code, &first.place) {
+    match fault(alloc, code, first.place()) {
         Ok(fault) => ParseError::Fault(fault),
         Err(_) => ParseError::Memory,
     }

@@ -26,6 +26,9 @@ use pan_ast::make_statements::{
 use pan_ast::{FullType, Item, Place, Sort, Statement, StatementForm, Token};
 use std::alloc::{AllocError, Global};
 
+/// How many tokens a statement of usual text has at least.
+const USUAL_TOKENS: usize = 4;
+
 /// An item and the `;` after it.
 fn item_of(alloc: Global, tokens: &[Token]) -> Result<(Item, &[Token]), Stopped<'_>>
     ensures read { (h : Header) (ss : List Shown) (make : Seen → Shown) → Goes result (λ r. run r.1.now (Statements h (ss ++ make (item_seen r.0) ∷ []))) (run tokens.now (item_of h ss make)) }
@@ -80,7 +83,7 @@ fn path_form<'a>(
 {
     let (conditional, right, rest) = set_to(alloc, tokens)?;
     Ok((
-        assign_statement(last, &path.value, conditional, right)?,
+        assign_statement(last, path.value(), conditional, right)?,
         rest,
     ))
 }
@@ -97,7 +100,7 @@ fn variable_form(
     let (name, rest) = expect_word(tokens)?;
     let (conditional, right, rest) = set_to(alloc, rest)?;
     Ok((
-        variable_statement(last, &name.value, conditional, right)?,
+        variable_statement(last, name.value(), conditional, right)?,
         rest,
     ))
 }
@@ -109,7 +112,7 @@ fn function_form(alloc: Global, tokens: &[Token]) -> Result<(StatementForm, &[To
 {
     let (name, rest) = expect_word(tokens)?;
     let (body, rest) = right_side(alloc, rest)?;
-    Ok((function_statement(alloc, &name.value, body)?, rest))
+    Ok((function_statement(alloc, name.value(), body)?, rest))
 }
 
 /// After `type`.
@@ -119,7 +122,7 @@ fn type_form(alloc: Global, tokens: &[Token]) -> Result<(StatementForm, &[Token]
 {
     let (name, rest) = expect_word(tokens)?;
     let (full, rest) = type_of(alloc, rest)?;
-    Ok((type_statement(&name.value, full)?, rest))
+    Ok((type_statement(name.value(), full)?, rest))
 }
 
 /// After `bind`.
@@ -129,7 +132,7 @@ fn bind_form(alloc: Global, tokens: &[Token]) -> Result<(StatementForm, &[Token]
 {
     let (path, rest) = expect(Sort::Text, tokens)?;
     let (full, rest) = type_of(alloc, rest)?;
-    Ok((bind_statement(&path.value, full)?, rest))
+    Ok((bind_statement(path.value(), full)?, rest))
 }
 
 /// After `valid`.
@@ -139,7 +142,7 @@ fn valid_form(alloc: Global, tokens: &[Token]) -> Result<(StatementForm, &[Token
 {
     let (path, rest) = expect(Sort::Text, tokens)?;
     let (body, rest) = right_side(alloc, rest)?;
-    Ok((valid_statement(alloc, &path.value, body)?, rest))
+    Ok((valid_statement(alloc, path.value(), body)?, rest))
 }
 
 /// After `prefix`.
@@ -149,7 +152,7 @@ fn prefix_form(tokens: &[Token]) -> Result<(StatementForm, &[Token]), Stopped<'_
 {
     let (path, rest) = expect(Sort::Text, tokens)?;
     let (_, rest) = expect(Sort::Semicolon, rest)?;
-    Ok((prefix_statement(&path.value)?, rest))
+    Ok((prefix_statement(path.value())?, rest))
 }
 
 /// After `include`.
@@ -162,14 +165,14 @@ fn include_form(alloc: Global, tokens: &[Token]) -> Result<(StatementForm, &[Tok
     };
     match first.sort() {
         Sort::Text => {
-            let text = make_plain(make_text(&first.place, &first.value)?)?;
+            let text = make_plain(make_text(first.place(), first.value())?)?;
             let (_, rest) = expect(Sort::Semicolon, rest)?;
             Ok((include_statement(text), rest))
         }
         Sort::OpenBrace => {
-            let (items, rest) = block_items(alloc, 1, &first.place, rest)?;
+            let (items, rest) = block_items(alloc, 1, first.place(), rest)?;
             let (_, rest) = expect(Sort::Semicolon, rest)?;
-            Ok((include_statement(make_block(&first.place, items)?), rest))
+            Ok((include_statement(make_block(first.place(), items)?), rest))
         }
         _ => Err(Stopped::Bad(tokens)),
     }
@@ -228,7 +231,7 @@ fn statement(alloc: Global, tokens: &[Token]) -> Result<(Statement, &[Token]), S
         return Err(Stopped::Bad(tokens));
     };
     let (form, rest) = form(alloc, first, rest, tokens)?;
-    Ok((make_statement(&first.place, form)?, rest))
+    Ok((make_statement(first.place(), form)?, rest))
 }
 
 /// The statements of a template, to the End and what stands after it.
@@ -238,7 +241,7 @@ pub(crate) fn statements(
 ) -> Result<(Vec<Statement>, &[Token]), Stopped<'_>>
     ensures read { (h : Header) → Goes result (λ r. run r.1.now (Done (template h (map statement_seen r.0.items)))) (run tokens.now (Statements h [])) }
 {
-    let mut statements = Vec::new(alloc);
+    let mut statements = Vec::with_capacity(alloc, tokens.len() / USUAL_TOKENS)?;
     let mut rest = tokens;
     loop {
         if let Some(after) = next_is(Sort::End, rest) {

@@ -1,10 +1,10 @@
 ghost use Rattle.std.specs.Prelude.{◌≡◌, ◌<◌, ◌≤◌, ◌∷◌, ◌^◌, ◌-◌, [], IfOk, MatchOption, map, min, pos, option_map};
 ghost use Rattle.pan_ast.specs.Sorts.{sort};
 ghost use Rattle.pan_ast.specs.Seen.{item_seen, node_seen};
-ghost use Rattle.pan_grammar.specs.Grammar.{joined, level, literal, number, operator, unary_of};
-ghost use Rattle.pan_grammar.specs.Grammar.{name};
+ghost use Rattle.pan_grammar.specs.Depths.{full_start, item_start};
+ghost use Rattle.pan_grammar.specs.Grammar.{joined, level, literal, name, number, operator, unary_of};
 ghost use Rattle.path_tree.specs.Grammar.{number_of};
-ghost use Rattle.pan_parser.specs.Answers.{ends_chains, IsOperator, NoOperator, indexed, op_seen, starts_item};
+ghost use Rattle.pan_parser.specs.Answers.{ends_chains, IsOperator, NoOperator, indexed, op_seen};
 
 use crate::tokens::cut;
 use pan_ast::make_items::{
@@ -136,7 +136,7 @@ fn number_of(digits: &[u8]) -> u64
 pub(crate) fn long(token: &Token) -> i64
     ensures { result ≡ number token.now }
 {
-    let number = number_of(token.value.as_str().as_bytes());
+    let number = number_of(token.value().as_str().as_bytes());
     number.min(9_223_372_036_854_775_807) as i64
 }
 
@@ -144,10 +144,10 @@ pub(crate) fn long(token: &Token) -> i64
 pub(crate) fn literal(token: &Token) -> Result<Option<Node>, AllocError>
     ensures { IfOk result (λ o. option_map node_seen o ≡ literal (sort token.now) token.now) }
 {
-    let place = &token.place;
+    let place = token.place();
     let node = match token.sort() {
         Sort::Int => make_long(place, long(token))?,
-        Sort::Text => make_text(place, &token.value)?,
+        Sort::Text => make_text(place, token.value())?,
         Sort::True => make_boolean(place, true)?,
         Sort::False => make_boolean(place, false)?,
         Sort::Undef => make_undef(place)?,
@@ -159,7 +159,7 @@ pub(crate) fn literal(token: &Token) -> Result<Option<Node>, AllocError>
 
 /// Whether an item can begin with a token of the sort.
 pub(crate) fn starts_item(sort: Sort) -> bool
-    ensures { result ≡ starts_item sort }
+    ensures { result ≡ item_start sort }
 {
     match sort {
         Sort::OpenBrace | Sort::Open => true,
@@ -167,6 +167,16 @@ pub(crate) fn starts_item(sort: Sort) -> bool
         Sort::Int | Sort::Text | Sort::True | Sort::False | Sort::Undef | Sort::Null => true,
         Sort::Plus | Sort::Minus | Sort::Not | Sort::Flip => true,
         sort => sort.is_plain(),
+    }
+}
+
+/// Whether a type can begin with a token of the sort.
+pub(crate) fn starts_type(sort: Sort) -> bool
+    ensures { result ≡ full_start sort }
+{
+    match sort {
+        Sort::OpenBrace | Sort::Extensible | Sort::Choice => true,
+        sort => sort.is_type_name(),
     }
 }
 
@@ -178,7 +188,7 @@ pub(crate) fn indexed_name(
 ) -> Result<Node, AllocError>
     ensures { IfOk result (λ y. node_seen y ≡ indexed (name token.now) (map item_seen indexes.items)) }
 {
-    let mut node = make_name(&token.place, &token.value)?;
+    let mut node = make_name(token.place(), token.value())?;
     for index in indexes {
         node = make_index(alloc, node, index)?;
     }

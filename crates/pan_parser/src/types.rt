@@ -14,6 +14,7 @@ ghost use Rattle.pan_parser.specs.Answers.{Fails, Goes, NoSuffix, NotAt, on_fron
 use crate::bounds::{bounds, suffixes};
 use crate::items::item;
 use crate::stopped::Stopped;
+use crate::tables::starts_type;
 use crate::tokens::{cut, expect, expect_mark, expect_type_name, next_is};
 use pan_ast::make_types::{
     make_choice, make_field, make_full, make_include, make_named, make_record, make_type,
@@ -30,7 +31,7 @@ fn key_of(alloc: Global, token: &Token) -> Result<Option<Key>, AllocError>
     if !Sort::Text.is(token.sort()) {
         return Ok(None);
     }
-    match Key::parse(alloc, token.value.as_str()) {
+    match Key::parse(alloc, token.value().as_str()) {
         Ok(key) => Ok(Some(key)),
         Err(KeyError::BadKey) => Ok(None),
         Err(KeyError::Memory) => Err(AllocError),
@@ -95,7 +96,7 @@ fn choice(alloc: Global, tokens: &[Token]) -> Result<(Head, &[Token]), Stopped<'
     let (_, rest) = expect(Sort::Open, tokens)?;
     let (first, rest) = expect(Sort::Text, rest)?;
     let mut texts = Vec::new(alloc);
-    texts.push(first.value.share()?)?;
+    texts.push(first.value().share()?)?;
     let (texts, rest) = more_texts(texts, rest)?;
     Ok((make_choice(texts), rest))
 }
@@ -115,7 +116,7 @@ fn more_texts(texts: Vec<Text>, tokens: &[Token]) -> Result<(Vec<Text>, &[Token]
             return Ok((texts, after));
         };
         let (text, more) = expect(Sort::Text, after)?;
-        texts.push(text.value.share()?)?;
+        texts.push(text.value().share()?)?;
         rest = more;
     }
 }
@@ -126,10 +127,10 @@ fn named<'a>(name: &Token, tokens: &'a [Token]) -> Result<(Head, &'a [Token]), S
     ensures shorter { IfOk result (λ r. length r.1.now ≤ length tokens.now) }
 {
     let Some(after) = next_is(Sort::Open, tokens) else {
-        return Ok((make_named(&name.place, &name.value, None)?, tokens));
+        return Ok((make_named(name.place(), name.value(), None)?, tokens));
     };
     let (bounds, rest) = bounds(Sort::Close, after)?;
-    Ok((make_named(&name.place, &name.value, Some(bounds))?, rest))
+    Ok((make_named(name.place(), name.value(), Some(bounds))?, rest))
 }
 
 /// The fault where a type is wanted that 100 constructs would hold.
@@ -139,15 +140,10 @@ fn at_limit(tokens: &[Token]) -> Stopped<'_>
     let Some((first, _)) = cut(tokens) else {
         return Stopped::Bad(tokens);
     };
-    match first.sort() {
-        Sort::OpenBrace | Sort::Extensible | Sort::Choice => Stopped::Deep(tokens),
-        sort => {
-            if sort.is_type_name() {
-                Stopped::Deep(tokens)
-            } else {
-                Stopped::Bad(tokens)
-            }
-        }
+    if starts_type(first.sort()) {
+        Stopped::Deep(tokens)
+    } else {
+        Stopped::Bad(tokens)
     }
 }
 
@@ -237,7 +233,10 @@ fn field(alloc: Global, depth: u8, tokens: &[Token]) -> Result<(Field, &[Token])
     };
     if Sort::Include.is(first.sort()) {
         let (name, rest) = expect_type_name(rest)?;
-        return Ok((make_include(&first.place, &name.value, &name.place)?, rest));
+        return Ok((
+            make_include(first.place(), name.value(), name.place())?,
+            rest,
+        ));
     }
     let Some(key) = key_of(alloc, first)? else {
         return Err(Stopped::Bad(tokens));
@@ -245,5 +244,5 @@ fn field(alloc: Global, depth: u8, tokens: &[Token]) -> Result<(Field, &[Token])
     let (mark, rest) = expect_mark(rest)?;
     let (full, rest) = full_type(alloc, depth, rest)?;
     let required = Sort::Colon.is(mark.sort());
-    Ok((make_field(&first.place, key, required, full)?, rest))
+    Ok((make_field(first.place(), key, required, full)?, rest))
 }

@@ -1,9 +1,7 @@
 -- What stands on the shelf.
 use Rattle.std.specs.Prelude.{◌≡◌, ℕ, Bool, true, false, List, [], ◌∷◌, Option, Some, None, IfSome, is_some, not, nat_eq, if◌then◌else◌, bytes_eq, codes, ◌&&◌, ◌||◌, ◌⊎◌}
 use Rattle.std.specs.List.{list_any, ends_with}
-use Rattle.std.specs.BTreeSet.{BTreeSet, contains}
-use Rattle.std.specs.Cmp.Lexicographic.{slice_cmp}
-use Rattle.std.specs.Ordering.{nat_cmp}
+use Rattle.std.specs.HashSet.{HashSet, contains}
 use Rattle.outside.specs.Cells.{Cell, given}
 use Rattle.pan_top.specs.declared.publish.Want.{Want}
 use Rattle.pan_top.specs.declared.status.End.{End}
@@ -68,8 +66,8 @@ pub record Underway (left : List ℕ → Cell → Cell) (target start now : List
   pub stands : (n : List ℕ) → (now n ≡ start n) ⊎ (now n ≡ target n)
 
 -- the set of the names that are wanted
-abbrev pub Names : BTreeSet (List ℕ) → List Want → Type 0
-Names names ws = (n : List ℕ) → contains (slice_cmp nat_cmp) names n ≡ is_some (wanted ws n)
+abbrev pub Names : {S : Type 0} → HashSet (List ℕ) S → List Want → Type 0
+Names names ws = (n : List ℕ) → contains bytes_eq names n ≡ is_some (wanted ws n)
 
 -- a list of all names that are on the shelf
 abbrev pub Lists : List (List ℕ) → (List ℕ → Cell) → Type 0

@@ -97,14 +97,6 @@ pub fn answers(alloc: Global, files: &[PictureFile]) -> Result<Vec<Answer>, Allo
     in_order(alloc, outcomes)
 }
 
-fn joined(alloc: Global, name: &str, suffix: &str) -> Result<Text, AllocError>
-    ensures { IfOk result (λ t. t ≡ name.now ++ suffix.now) }
-{
-    let mut text = String::from_str(alloc, name)?;
-    text.push_str(suffix)?;
-    Text::new(alloc, text.as_str())
-}
-
 /// What the profile of an object wants on the shelf.
 fn want(alloc: Global, made: &mut Vec<Want>, answer: Answer) -> Result<(), AllocError>
     ensures { OnOk result (made.new.items ≡ made.old.items ++ wants_with answer.name answer.outcome []) }
@@ -113,11 +105,11 @@ fn want(alloc: Global, made: &mut Vec<Want>, answer: Answer) -> Result<(), Alloc
     match outcome {
         Outcome::Profile(json, dep) => {
             made.push(Want {
-                name: joined(alloc, name.as_str(), ".json")?,
+                name: Text::joined(alloc, name.as_str(), ".json")?,
                 bytes: json,
             })?;
             made.push(Want {
-                name: joined(alloc, name.as_str(), ".dep")?,
+                name: Text::joined(alloc, name.as_str(), ".dep")?,
                 bytes: dep,
             })?;
         }

@@ -173,16 +173,16 @@ fn tree_of(alloc: Global, name: &str, file: &Text, text: &[u8]) -> Result<Tree, 
 fn file_of(alloc: Global, name: &str) -> Result<Text, AllocError>
     ensures { IfOk result (λ file. file ≡ file_of name.now) }
 {
-    let mut file = String::from_str(alloc, name)?;
-    file.push_str(".pan")?;
-    Text::new(alloc, file.as_str())
+    Text::joined(alloc, name, ".pan")
 }
 
 /// The lines of an object's dependency file.
 fn dependencies_of(alloc: Global, file: &str) -> Result<Bytes, AllocError>
     ensures { IfOk result (λ lines. lines ≡ codes "template " ++ file.now ++ codes "\n") }
 {
-    let mut lines = Vec::from_slice(alloc, b"template ")?;
+    let room = file.len().saturating_add(10);
+    let mut lines = Vec::with_capacity(alloc, room)?;
+    lines.extend_from_slice(b"template ")?;
     lines.extend_from_slice(file.as_bytes())?;
     lines.push(b'\n')?;
     Ok(Bytes::from_vec(lines))

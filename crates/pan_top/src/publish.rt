@@ -8,7 +8,7 @@ use crate::status::{End, Status};
 use outside::{Shelf, StoreError};
 use small_types::{Bytes, Text};
 use std::alloc::{AllocError, Global};
-use std::collections::BTreeSet;
+use std::collections::HashSet;
 
 /// Bytes that are to stand on the shelf.
 #[derive(Debug, Drop)]
@@ -97,10 +97,10 @@ fn bring<H: Shelf>(
 }
 
 /// The names that profiles want.
-fn wanted_names(alloc: Global, wants: &[Want]) -> Result<BTreeSet<Text>, AllocError>
+fn wanted_names(alloc: Global, wants: &[Want]) -> Result<HashSet<Text>, AllocError>
     ensures { IfOk result (λ names. Names names wants.now) }
 {
-    let mut names = BTreeSet::new(alloc);
+    let mut names = HashSet::with_capacity(alloc, wants.len())?;
     for want in wants {
         names.insert(want.name.share()?)?;
     }
@@ -112,7 +112,7 @@ fn sweep<H: Shelf>(
     alloc: Global,
     shelf: &mut H,
     name: &Text,
-    names: &BTreeSet<Text>,
+    names: &HashSet<Text>,
 ) -> Result<(), End>
     ensures ok { OnOk result ((wants : List Want) → Names names.now wants → (n : List ℕ) → H.cell shelf.new n ≡ swept name.now wants n (H.cell shelf.old n)) }
     ensures err { OnErr result (Opens (H.cell shelf.old) name.now (H.cell shelf.new)) }
@@ -137,7 +137,7 @@ fn clear<H: Shelf>(
     alloc: Global,
     shelf: &mut H,
     listed: &[Text],
-    names: &BTreeSet<Text>,
+    names: &HashSet<Text>,
     wants: &[Want],
 ) -> Result<(), End>
     requires { Names names.now wants.now }

@@ -113,7 +113,7 @@ fn built_terms(path: Path) -> Option<Seq<Term>>
 }
 
 /// The keys of a path that is built.
-fn path_terms(alloc: Global, text: &str) -> Result<Option<Seq<Term>>, AllocError>
+fn path_terms(alloc: Global, text: &Text) -> Result<Option<Seq<Term>>, AllocError>
     ensures { IfOk result (λ t. t ≡ path_terms text.now) }
 {
     match Path::parse(alloc, text) {
@@ -128,7 +128,7 @@ fn set_to(alloc: Global, place: &Place, path: &Text, item: &Item) -> Result<Assi
     ensures ok { IfOk result (λ a. set_to place.now path.now (path_terms path.now) (literal_in (item_seen item.now)) (item_place (item_seen item.now)) ≡ Ok a) }
     ensures err { IfErr result (IsRefused (set_to place.now path.now (path_terms path.now) (literal_in (item_seen item.now)) (item_place (item_seen item.now)))) }
 {
-    let Some(terms) = path_terms(alloc, path.as_str())? else {
+    let Some(terms) = path_terms(alloc, path)? else {
         return refused(place);
     };
     let Some(value) = literal_in(item)? else {
@@ -167,7 +167,7 @@ pub fn assignments(alloc: Global, statements: &[Statement]) -> Result<Vec<Assign
     ensures ok { IfOk result (λ made. assignments (map statement_seen statements.now) ≡ Ok made.items) }
     ensures err { IfErr result (IsRefused (assignments (map statement_seen statements.now))) }
 {
-    let mut made = Vec::new(alloc);
+    let mut made = Vec::with_capacity(alloc, statements.len())?;
     for statement in statements {
         made.push(built(alloc, statement)?)?;
     }

@@ -12,7 +12,7 @@ use small_types::Text;
 use std::alloc::{AllocError, Global};
 use std::cmp::Ordering;
 use std::marker::Model;
-use std::str;
+use std::str::from_utf8_unchecked;
 
 /// A key of a dict: 1 to 1,000 bytes, an ASCII letter or `_`, then letters, digits or any of `_ . + -`.
 /// Contracts see the list of its bytes. Copies share one text in memory.
@@ -52,19 +52,19 @@ impl From<AllocError> for KeyError {
 pub(crate) fn is_letter(c: u8) -> bool
     ensures { result ≡ is_letter c }
 {
-    (65 <= c && c <= 90) || (97 <= c && c <= 122)
+    matches!(c, b'A'..=b'Z' | b'a'..=b'z')
 }
 
 pub(crate) fn is_digit(c: u8) -> bool
     ensures { result ≡ is_digit c }
 {
-    48 <= c && c <= 57
+    matches!(c, b'0'..=b'9')
 }
 
 pub(crate) fn is_key_byte(c: u8) -> bool
     ensures { result ≡ is_key_byte c }
 {
-    is_letter(c) || is_digit(c) || c == b'_' || c == b'.' || c == b'+' || c == b'-'
+    matches!(c, b'A'..=b'Z' | b'a'..=b'z' | b'0'..=b'9' | b'_' | b'.' | b'+' | b'-')
 }
 
 pub(crate) fn are_key_bytes(bytes: &[u8]) -> bool
@@ -88,10 +88,7 @@ pub(crate) fn ascii_text(bytes: &[u8]) -> &str
     requires { IsAscii bytes.now }
     ensures { result.now ≡ bytes.now }
 {
-    match str::from_utf8(bytes) {
-        Ok(text) => text,
-        Err(_) => unreachable!(),
-    }
+    unsafe { from_utf8_unchecked(bytes) }
 }
 
 impl Key {
@@ -108,12 +105,17 @@ impl Key {
         Ok(Key { text })
     }
 
-    /// The key of bytes that are those of a key.
-    pub(crate) fn from_bytes(alloc: Global, bytes: &[u8]) -> Result<Key, AllocError>
+    /// The key of bytes that are those of a key. It shares the memory of a text that they stand in.
+    pub(crate) fn in_text(
+        alloc: Global,
+        whole: &Text,
+        start: usize,
+        bytes: &[u8],
+    ) -> Result<Key, AllocError>
         requires { is_key bytes.now ≡ true }
         ensures { IfOk result (λ k. k ≡ bytes.now) }
     {
-        let text = Text::new(alloc, ascii_text(bytes))?;
+        let text = whole.part(alloc, start, ascii_text(bytes))?;
         Ok(Key { text })
     }
 

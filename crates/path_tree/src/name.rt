@@ -96,12 +96,12 @@ impl Name {
         Ok(Name { text })
     }
 
-    /// The name of bytes that are those of a template name.
-    pub(crate) fn from_bytes(alloc: Global, bytes: &[u8]) -> Result<Name, AllocError>
+    /// The name of bytes that are those of a template name. It shares the memory of a text that begins with them.
+    pub(crate) fn at_start(alloc: Global, whole: &Text, bytes: &[u8]) -> Result<Name, AllocError>
         requires { is_name bytes.now ≡ true }
         ensures { IfOk result (λ k. k ≡ bytes.now) }
     {
-        let text = Text::new(alloc, ascii_text(bytes))?;
+        let text = whole.part(alloc, 0, ascii_text(bytes))?;
         Ok(Name { text })
     }
 

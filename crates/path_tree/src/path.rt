@@ -11,7 +11,7 @@ use crate::bytes::first_of;
 use crate::escaping::escape_bytes;
 use crate::key::{Key, KeyError, is_digit, is_key};
 use crate::name::{Name, is_name};
-use small_types::Seq;
+use small_types::{Seq, Text};
 use std::alloc::{AllocError, AllocFailed, Global};
 
 /// A step of a path: into a dict by a key, or into a list by an index from 0.
@@ -96,12 +96,12 @@ impl Path {
     /// `/`), or external: a template name, `:` and an absolute path. It is external exactly where it does
     /// not begin with `/` and a `:` comes before any `{`. A term is a key, an index (decimal digits without
     /// a leading zero, at most 999,999) or a text in braces, without braces inside, which stands for the
-    /// text's escaped key.
-    pub fn parse(alloc: Global, text: &str) -> Result<Path, PathError>
+    /// text's escaped key. The path shares the text's memory.
+    pub fn parse(alloc: Global, text: &Text) -> Result<Path, PathError>
         ensures ok { IfOk result (λ p. path_of text.now ≡ Ok p) }
         ensures err { IfErr result (λ e. e ≢ PathError.Memory → path_of text.now ≡ Err e) }
     {
-        let bytes = text.as_bytes();
+        let bytes = text.as_str().as_bytes();
         let [first, ..] = bytes else {
             return Err(PathError::Empty);
         };
@@ -109,9 +109,9 @@ impl Path {
             return Err(PathError::TooLong);
         }
         if *first == b'/' {
-            absolute(alloc, Anchor::Absolute, 0, bytes)
+            absolute(alloc, text, Anchor::Absolute, 0, bytes)
         } else {
-            relative_or_external(alloc, bytes)
+            relative_or_external(alloc, text, bytes)
         }
     }
 
@@ -134,63 +134,90 @@ impl Path {
     }
 }
 
-fn relative_or_external(alloc: Global, text: &[u8]) -> Result<Path, PathError>
+fn relative_or_external(alloc: Global, whole: &Text, text: &[u8]) -> Result<Path, PathError>
     requires { length text.now < 5000 }
     ensures { IsRead result (relative_or_external text.now (first_of 58 123 text.now)) }
 {
     match first_of(b':', b'{', text) {
-        Some(at) if text[at] == b':' => external(alloc, text, at),
-        _ => relative(alloc, text),
+        Some(at) if text[at] == b':' => external(alloc, whole, text, at),
+        _ => relative(alloc, whole, text),
     }
 }
 
-fn relative(alloc: Global, text: &[u8]) -> Result<Path, PathError>
+fn relative(alloc: Global, whole: &Text, text: &[u8]) -> Result<Path, PathError>
     requires { length text.now < 5000 }
     ensures { IsRead result (relative text.now) }
 {
-    let terms = terms(alloc, 0, text)?;
+    let terms = terms(alloc, whole, 0, text)?;
     Ok(Path {
         anchor: Anchor::Relative,
         terms,
     })
 }
 
-fn external(alloc: Global, text: &[u8], colon: usize) -> Result<Path, PathError>
+fn external(
+    alloc: Global,
+    whole: &Text,
+    text: &[u8],
+    colon: usize,
+) -> Result<Path, PathError>
     requires colon { colon < length text.now }
     requires short { length text.now < 5000 }
     ensures { IsRead result (external text.now colon) }
 {
-    let Some(name) = name_of(alloc, &text[..colon])? else {
+    let Some(name) = name_of(alloc, whole, &text[..colon])? else {
         return Err(PathError::BadTerm(0));
     };
-    absolute(alloc, Anchor::External(name), colon + 1, &text[colon + 1..])
+    absolute(
+        alloc,
+        whole,
+        Anchor::External(name),
+        colon + 1,
+        &text[colon + 1..],
+    )
 }
 
 // An absolute path, which begins at this byte of its text.
-fn absolute(alloc: Global, anchor: Anchor, place: usize, text: &[u8]) -> Result<Path, PathError>
+fn absolute(
+    alloc: Global,
+    whole: &Text,
+    anchor: Anchor,
+    place: usize,
+    text: &[u8],
+) -> Result<Path, PathError>
     requires { place + length text.now < 6000 }
     ensures { IsRead result (absolute_at anchor place text.now) }
 {
     let [b'/', rest @ ..] = text else {
         return Err(PathError::BadTerm(place));
     };
-    let terms = terms_below(alloc, place + 1, rest)?;
+    let terms = terms_below(alloc, whole, place + 1, rest)?;
     Ok(Path { anchor, terms })
 }
 
-fn terms_below(alloc: Global, place: usize, text: &[u8]) -> Result<Seq<Term>, PathError>
+fn terms_below(
+    alloc: Global,
+    whole: &Text,
+    place: usize,
+    text: &[u8],
+) -> Result<Seq<Term>, PathError>
     requires { place + length text.now < 6000 }
     ensures { IsRead result (terms_below place text.now) }
 {
     if text.is_empty() {
         Ok(Seq::new(alloc))
     } else {
-        terms(alloc, place, text)
+        terms(alloc, whole, place, text)
     }
 }
 
 // The terms of a text that begins at this byte of the path's text.
-fn terms(alloc: Global, place: usize, text: &[u8]) -> Result<Seq<Term>, PathError>
+fn terms(
+    alloc: Global,
+    whole: &Text,
+    place: usize,
+    text: &[u8],
+) -> Result<Seq<Term>, PathError>
     requires { place + length text.now < 6000 }
     ensures { IsRead result (terms_at place (pieces text.now)) }
 {
@@ -199,7 +226,7 @@ fn terms(alloc: Global, place: usize, text: &[u8]) -> Result<Seq<Term>, PathErro
     let mut rest = Some(text);
     while let Some(text) = rest {
         let (piece, more) = first_piece(text);
-        let Some(term) = term_of(alloc, piece)? else {
+        let Some(term) = term_of(alloc, whole, place, piece)? else {
             return Err(PathError::BadTerm(place));
         };
         terms.push(term)?;
@@ -238,11 +265,16 @@ fn piece_end(text: &[u8]) -> usize
     text.len()
 }
 
-fn term_of(alloc: Global, piece: &[u8]) -> Result<Option<Term>, AllocError>
+fn term_of(
+    alloc: Global,
+    whole: &Text,
+    place: usize,
+    piece: &[u8],
+) -> Result<Option<Term>, AllocError>
     ensures { IfOk result (λ t. t ≡ term_of piece.now) }
 {
     if is_key(piece) {
-        Ok(Some(Term::Key(Key::from_bytes(alloc, piece)?)))
+        Ok(Some(Term::Key(Key::in_text(alloc, whole, place, piece)?)))
     } else if is_index(piece) {
         Ok(Some(Term::Index(number_of(piece))))
     } else {
@@ -256,8 +288,7 @@ fn braced_term(alloc: Global, piece: &[u8]) -> Result<Option<Term>, AllocError>
     let Some(text) = in_braces(piece) else {
         return Ok(None);
     };
-    let key = escape_bytes(alloc, text)?;
-    key_term(alloc, key.as_bytes())
+    key_term(alloc, escape_bytes(alloc, text)?)
 }
 
 fn in_braces(piece: &[u8]) -> Option<&[u8]>
@@ -274,23 +305,23 @@ fn in_braces(piece: &[u8]) -> Option<&[u8]>
     }
 }
 
-fn key_term(alloc: Global, bytes: &[u8]) -> Result<Option<Term>, AllocError>
-    ensures { IfOk result (λ t. t ≡ key_term bytes.now) }
+fn key_term(alloc: Global, text: String) -> Result<Option<Term>, AllocError>
+    ensures { IfOk result (λ t. t ≡ key_term (string_bytes text)) }
 {
-    if !is_key(bytes) {
-        return Ok(None);
+    match Key::parse(alloc, text.as_str()) {
+        Ok(key) => Ok(Some(Term::Key(key))),
+        Err(KeyError::BadKey) => Ok(None),
+        Err(KeyError::Memory) => Err(AllocError),
     }
-    let key = Key::from_bytes(alloc, bytes)?;
-    Ok(Some(Term::Key(key)))
 }
 
-fn name_of(alloc: Global, bytes: &[u8]) -> Result<Option<Name>, AllocError>
+fn name_of(alloc: Global, whole: &Text, bytes: &[u8]) -> Result<Option<Name>, AllocError>
     ensures { IfOk result (λ n. n ≡ (if is_name bytes.now then Some bytes.now else None)) }
 {
     if !is_name(bytes) {
         return Ok(None);
     }
-    let name = Name::from_bytes(alloc, bytes)?;
+    let name = Name::at_start(alloc, whole, bytes)?;
     Ok(Some(name))
 }
 

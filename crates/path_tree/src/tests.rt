@@ -1,4 +1,5 @@
 use super::*;
+use small_types::Text;
 use std::alloc::Global;
 use std::test::Fail;
 
@@ -30,7 +31,7 @@ fn a_tree_grows_to_its_limit(rt: HostRuntime) -> Result<(), Fail> {
 #[test]
 fn a_copy_keeps_its_value(rt: HostRuntime) -> Result<(), Fail> {
     let alloc = rt.alloc();
-    let path = Path::parse(alloc, "/a/2/b")?;
+    let path = Path::parse(alloc, &Text::new(alloc, "/a/2/b")?)?;
     let terms = path.terms.as_slice();
     let mut tree = Tree::empty_dict(alloc)?;
     tree.put(alloc, terms, Tree::long(1))?;
@@ -57,7 +58,7 @@ fn paths_are_read_and_written(rt: HostRuntime) -> Result<(), Fail> {
         ("a/{1a/b}", "a/_31a_2fb"),
         ("site/b:/{}", "site/b:/_"),
     ] {
-        let path = Path::parse(alloc, text)?;
+        let path = Path::parse(alloc, &Text::new(alloc, text)?)?;
         assert_eq!(rt; path.text(alloc)?.as_str(), plain);
     }
     for (text, error) in [
@@ -67,7 +68,7 @@ fn paths_are_read_and_written(rt: HostRuntime) -> Result<(), Fail> {
         ("a:b", PathError::BadTerm(2)),
         ("..:/b", PathError::BadTerm(0)),
     ] {
-        assert_eq!(rt; Path::parse(alloc, text).err(), Some(error));
+        assert_eq!(rt; Path::parse(alloc, &Text::new(alloc, text)?).err(), Some(error));
     }
     Ok(())
 }

@@ -1,28 +1,65 @@
-ghost use Rattle.std.specs.Prelude.{◌≡◌, ◌==◌, ℕ, List, IfOk};
+ghost use Rattle.std.specs.Prelude.{◌≡◌, ◌≤◌, ◌+◌, ◌++◌, ◌==◌, IfOk, IfSome, length, string_bytes};
 ghost use Rattle.std.specs.Cmp.Lexicographic.{slice_cmp, pointwise};
 ghost use Rattle.std.specs.Ordering.{nat_cmp, as_partial_cmp};
-ghost use Rattle.std.specs.Cmp.Rules.{comparing};
+ghost use Rattle.std.specs.Cmp.Rules.{comparing, hashing};
+ghost use Rattle.std.specs.Hash as fed;
 ghost use Rattle.std.specs.Str.{IsUtf8};
 ghost use Rattle.std.proofs.Common.{rules};
+ghost use Rattle.small_types.specs.Parts.{bytes_from_to};
 
 use std::alloc::{AllocError, Global};
 use std::cmp::Ordering;
+use std::hash::{Hash, Hasher};
 use std::marker::Model;
 use std::rc::RcStr;
+use std::str::from_utf8_unchecked;
 
-/// A text, seen by contracts as the list of its UTF-8 bytes. Copies share one text in memory.
+/// A text, seen by contracts as the list of its UTF-8 bytes. Copies of a text, and texts that stand in it, share
+/// one text in memory: each is the bytes of a whole from `start` to before `end`. A text of 2^32 bytes or more is
+/// refused as want of memory, so that a text takes two words.
 #[derive(Debug, Drop)]
 pub struct Text {
-    inner: RcStr,
+    whole: RcStr,
+    start: u32,
+    end: u32,
 }
 
 impl Model for Text {
-    ghost use Rattle.std.specs.Prelude.{ℕ, List};
+    ghost use Rattle.std.specs.Prelude.{◌≤◌, ℕ, List, length};
+    ghost use Rattle.std.specs.Str.{IsUtf8};
     ghost use Rattle.std.specs.Rc.{rc_str_bytes};
+    ghost use Rattle.small_types.specs.Parts.{bytes_from_to};
 
     ghost Value = { List ℕ };
 
-    ghost view = { λ t. rc_str_bytes t.inner };
+    ghost view = { λ t. bytes_from_to t.start t.end (rc_str_bytes t.whole) };
+
+    ghost invariant = { λ t. (t.start ≤ t.end) × (t.end ≤ length (rc_str_bytes t.whole)) × IsUtf8 (bytes_from_to t.start t.end (rc_str_bytes t.whole)) };
+}
+
+/// The number of its bytes.
+fn size(text: &str) -> Result<u32, AllocError>
+    ensures { IfOk result (λ n. n ≡ length text.now) }
+{
+    match u32::try_from(text.len()) {
+        Ok(size) => Ok(size),
+        Err(_) => Err(AllocError),
+    }
+}
+
+/// Where the text ends in the whole, if it stands there from `start` on.
+fn end_of(whole: &str, start: u32, text: &str) -> Option<u32>
+    ensures { IfSome result (λ end. (end ≡ start + length text.now) × (end ≤ length whole.now) × (bytes_from_to start end whole.now ≡ text.now)) }
+{
+    let end = start.checked_add(size(text).ok()?)?;
+    if end as usize > whole.len() {
+        return None;
+    }
+    if &whole.as_bytes()[start as usize..end as usize] == text.as_bytes() {
+        Some(end)
+    } else {
+        None
+    }
 }
 
 impl Text {
@@ -31,15 +68,42 @@ impl Text {
         ensures { IfOk result (λ t. t ≡ text.now) }
     {
         Ok(Text {
-            inner: RcStr::from_str(alloc, text)?,
+            whole: RcStr::from_str(alloc, text)?,
+            start: 0,
+            end: size(text)?,
         })
+    }
+
+    /// The text of a string.
+    pub fn from_string(text: String) -> Result<Text, AllocError>
+        ensures { IfOk result (λ t. t ≡ string_bytes text) }
+    {
+        let whole = RcStr::from_string(text)?;
+        let end = size(whole.as_str())?;
+        Ok(Text {
+            whole,
+            start: 0,
+            end,
+        })
+    }
+
+    /// Two texts in a row.
+    pub fn joined(alloc: Global, first: &str, second: &str) -> Result<Text, AllocError>
+        ensures { IfOk result (λ t. t ≡ first.now ++ second.now) }
+    {
+        let room = first.len().saturating_add(second.len());
+        let mut text = String::with_capacity(alloc, room)?;
+        text.push_str(first)?;
+        text.push_str(second)?;
+        Text::from_string(text)
     }
 
     pub fn as_str(&self) -> &str
         ensures text { result.now ≡ self.now }
         ensures utf8 { IsUtf8 self.now }
     {
-        &self.inner
+        let bytes = self.whole.as_bytes();
+        unsafe { from_utf8_unchecked(&bytes[self.start as usize..self.end as usize]) }
     }
 
     /// The same text, shared.
@@ -47,11 +111,27 @@ impl Text {
         ensures { IfOk result (λ t. t ≡ self.now) }
     {
         Ok(Text {
-            inner: self.inner.clone()?,
+            whole: self.whole.clone()?,
+            start: self.start,
+            end: self.end,
+        })
+    }
+
+    /// A text that stands in this one from byte `start` on, shared with it; a copy where it does not stand there.
+    pub fn part(&self, alloc: Global, start: usize, text: &str) -> Result<Text, AllocError>
+        ensures { IfOk result (λ t. t ≡ text.now) }
+    {
+        let start = self.start.saturating_add(u32::try_from(start).unwrap_or(u32::MAX));
+        let Some(end) = end_of(&self.whole, start, text) else {
+            return Text::new(alloc, text);
+        };
+        Ok(Text {
+            whole: self.whole.clone()?,
+            start,
+            end,
         })
     }
 }
-
 impl Clone for Text {
     ghost is_clone = { λ t copy. copy ≡ t };
 
@@ -72,6 +152,16 @@ impl PartialEq for Text {
 
 impl Eq for Text {
     ghost laws = { Prim.search (comparing, rules) };
+}
+
+impl Hash for Text {
+    ghost hash_input = { fed.str };
+
+    ghost respects_eq = { Prim.search (hashing, rules) };
+
+    fn hash<H: Hasher>(&self, state: &mut H) {
+        self.as_str().hash(state);
+    }
 }
 
 impl PartialOrd for Text {

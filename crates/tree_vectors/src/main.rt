@@ -10,6 +10,7 @@ use anyhow::{Result, anyhow};
 use dml_ops::{binary, unary};
 use json_profile::profile_text;
 use path_tree::{BinaryOp, Kind, Path, PathError, PutError, Refused, Tree, UnaryOp};
+use small_types::Text;
 use std::alloc::Global;
 
 fn value_of(alloc: Global, word: &str) -> Result<Tree> {
@@ -91,7 +92,7 @@ fn apply(rt: &HostRuntime, words: &[&str]) -> Result<()> {
 }
 
 fn print_path(rt: &HostRuntime, text: &str) -> Result<()> {
-    match Path::parse(rt.alloc(), text) {
+    match Path::parse(rt.alloc(), &Text::new(rt.alloc(), text)?) {
         Ok(path) => println!(rt; "  {}", path.text(rt.alloc())?)?,
         Err(error) => println!(rt; "  {error:?}")?,
     }
@@ -99,7 +100,7 @@ fn print_path(rt: &HostRuntime, text: &str) -> Result<()> {
 }
 
 fn path_of(alloc: Global, text: &str) -> Result<Path> {
-    Path::parse(alloc, text).map_err(|_| anyhow!("no path"))
+    Path::parse(alloc, &Text::new(alloc, text)?).map_err(|_| anyhow!("no path"))
 }
 
 fn put(rt: &HostRuntime, tree: &mut Tree, path: &str, value: &str) -> Result<()> {

@@ -6,12 +6,12 @@ use Rattle.pan_ast.specs.Sorts.{at, is_plain, sort}
 use Rattle.pan_ast.specs.Syntax.{choice}
 use Rattle.pan_ast.specs.Syntax as nodes
 use Rattle.pan_grammar.specs.Depths.{holders, node_holders}
-use Rattle.pan_grammar.specs.Grammar.{assigned, block, called, index, inside, reference, unary_of}
-use Rattle.pan_grammar.specs.Machine.{run}
-use Rattle.pan_grammar.specs.States.{AnOpen, AtClose, AtSemicolon, Braces, Chained, Closes, Further, HasItem, HasNode, HasPrimary, HasReference, InBlock, InCall, InIndex, InParens, InParts, InReference, Last, MayElse, NeedItem, Parens, Signed, Takes, down, for_parts, foreach_parts, if_parts, while_parts}
-use Rattle.pan_grammar.specs.Grammar.{name}
+use Rattle.pan_grammar.specs.Grammar.{assigned, block, called, index, inside, name, reference, unary_of}
+use Rattle.pan_grammar.specs.Machine.{for_read, if_read, run, while_read}
+use Rattle.pan_grammar.specs.States.{AtClose, AtSemicolon, Braces, Chained, Closes, Further, HasItem, HasNode, HasPrimary, HasReference, InBlock, InCall, InIndex, InParens, InParts, InReference, Last, MayElse, NeedItem, Parens, Signed, Takes, down, for_parts, foreach_parts, if_parts, right_side, while_parts}
 use Rattle.pan_parser.specs.Answers.{indexed, op_seen}
-use Rattle.pan_parser.proofs.Turns.{NotQuoted, assign_turns, at_operand, at_zero, below, block_goes_on, chain_end, chain_fails, chain_init, chain_next, chain_turns, chained, down_holders, else_turns, fails_along, first_fails, goes_along, in_block, index_turns, item_call, last_argument, last_done, last_of_block, line_above, no_else, one_more, parens_turn, pushed_seen, reference_index, reference_pushed, sign_turns, signed_done}
+use Rattle.pan_grammar.proofs.Firsts.{NotQuoted}
+use Rattle.pan_parser.proofs.Turns.{assign_turns, at_operand, at_zero, below, block_goes_on, chain_end, chain_fails, chain_init, chain_next, chain_turns, chained, down_holders, else_turns, fails_along, first_fails, goes_along, in_block, index_turns, item_call, last_argument, last_done, last_of_block, line_above, no_else, one_more, parens_turn, pushed_seen, reference_index, reference_pushed, sign_turns, signed_done}
 use Rattle.pan_parser.proofs.+items.Goals as goal
 
 pub chains::arguments-returns-in_err-rest-clause-read : goal.chains::arguments-returns-in_err-rest-clause-read
@@ -141,10 +141,11 @@ chains::primary-returns-clause-read t c = λ n h.
     let q = first.place in
     let i = item_seen c.in_ok-inner.inner in
     let e : at sorts.Open (sort first) ≡ true = search rules in
+    let made : node_seen c.in_ok-make_inside.field-0 ≡ inside q i = search rules in
     parens_turn c.args.tokens.now first c.in-Some.rest.now n c.in-Some.ensures e
     ∙ c.in_ok-inner.ensures.read (InParens q n) h
     ∙ c.in_ok-rest.ensures.read (HasItem i (InParens q n)) (λ t. HasPrimary (inside q i) n) (refl, λ t. refl, λ t. refl)
-    ∙ ap (λ v. run c.in_ok-rest.rest.now (HasPrimary v n)) (sym c.in_ok-make_inside.ensures)
+    ∙ ap (λ v. run c.in_ok-rest.rest.now (HasPrimary v n)) (sym made)
 
 pub chains::reference_indexes-returns-in_err-rest-clause-read : goal.chains::reference_indexes-returns-in_err-rest-clause-read
 chains::reference_indexes-returns-in_err-rest-clause-read t c = λ s h.
@@ -175,16 +176,27 @@ chains::reference_indexes-loop-after-preserved t c =
       omega (arith, ap length c.in-Some.ensures.1, c.in_ok-index.ensures.shorter, c.in_ok-rest.ensures.shorter, l.invariant.1),
     )
 
+pub chains::unary-returns-in_err-node-2-clause-read : goal.chains::unary-returns-in_err-node-2-clause-read
+chains::unary-returns-in_err-node-2-clause-read t c = λ n h.
+    let p = err_from_is_err_and c.from_residual-in_err-node-2.result c.from_residual-in_err-node-2.ensures.1 in
+    let first = c.in-Some.first.now in
+    let op = c.in-Some-unary_of.operator in
+    let e : unary_of (sort first) ≡ Some op = search rules in
+    rw (p.1, p.2) (fails_along c.in_err-node-2.field-0.0 _ _
+    (sign_turns c.args.tokens.now first c.in-Some.rest.now n op c.in-Some.ensures e (below (node_holders n) c.args.depth h c.requires c.if-depth-eq100.false))
+    (c.in_err-node-2.ensures.read (Signed op first.place n) (one_more (node_holders n) c.args.depth h)))
+
 pub chains::unary-returns-clause-read : goal.chains::unary-returns-clause-read
 chains::unary-returns-clause-read t c = λ n h.
     let first = c.in-Some.first.now in
     let op = c.in-Some-unary_of.operator in
     let r = c.in_ok-node-2 in
     let e : unary_of (sort first) ≡ Some op = search rules in
+    let made : node_seen c.in_ok-make_unary.field-0 ≡ nodes.Unary first.place op (node_seen r.node) = search rules in
     sign_turns c.args.tokens.now first c.in-Some.rest.now n op c.in-Some.ensures e (below (node_holders n) c.args.depth h c.requires c.if-depth-eq100.false)
     ∙ r.ensures.read (Signed op first.place n) (one_more (node_holders n) c.args.depth h)
     ∙ signed_done r.rest.now op first.place (node_seen r.node) n
-    ∙ ap (λ v. run r.rest.now (HasNode v n)) (sym c.in_ok-make_unary.ensures)
+    ∙ ap (λ v. run r.rest.now (HasNode v n)) (sym made)
 
 pub items::block_items-returns-in_err-next-clause-read : goal.items::block_items-returns-in_err-next-clause-read
 items::block_items-returns-in_err-next-clause-read t c = λ s h.
@@ -243,14 +255,14 @@ pub items::while_item-returns-in_err-rest-clause-read : goal.items::while_item-r
 items::while_item-returns-in_err-rest-clause-read t c = λ s h.
     let p = err_from_is_err_and c.from_residual.result c.from_residual.ensures.1 in
     let q = c.args.place.now in
-    rw (p.1, p.2) (c.in_err-rest.ensures.read (Takes AnOpen (λ o. NeedItem (InParts (while_parts q) s))) (λ o. NeedItem (InParts (while_parts q) s)) (refl, λ t. refl, λ t. refl))
+    rw (p.1, p.2) (c.in_err-rest.ensures.read (while_read q s) (λ o. NeedItem (InParts (while_parts q) s)) (refl, λ t. refl, λ t. refl))
 
 pub items::while_item-returns-in_err-condition-clause-read : goal.items::while_item-returns-in_err-condition-clause-read
 items::while_item-returns-in_err-condition-clause-read t c = λ s h.
     let p = err_from_is_err_and c.from_residual-in_err-condition.result c.from_residual-in_err-condition.ensures.1 in
     let q = c.args.place.now in
     rw (p.1, p.2) (fails_along c.in_err-condition.field-0.0 _ _
-    (c.in_ok-rest.ensures.read (Takes AnOpen (λ o. NeedItem (InParts (while_parts q) s))) (λ o. NeedItem (InParts (while_parts q) s)) (refl, λ t. refl, λ t. refl))
+    (c.in_ok-rest.ensures.read (while_read q s) (λ o. NeedItem (InParts (while_parts q) s)) (refl, λ t. refl, λ t. refl))
     (c.in_err-condition.ensures.read AtClose (λ x. Last (λ b. nodes.While q x b)) s refl h))
 
 pub items::while_item-returns-in_err-body-clause-read : goal.items::while_item-returns-in_err-body-clause-read
@@ -259,7 +271,7 @@ items::while_item-returns-in_err-body-clause-read t c = λ s h.
     let q = c.args.place.now in
     let x = item_seen c.in_ok-condition.condition.value in
     rw (p.1, p.2) (fails_along c.in_err-body.field-0.0 _ _
-    (c.in_ok-rest.ensures.read (Takes AnOpen (λ o. NeedItem (InParts (while_parts q) s))) (λ o. NeedItem (InParts (while_parts q) s)) (refl, λ t. refl, λ t. refl)
+    (c.in_ok-rest.ensures.read (while_read q s) (λ o. NeedItem (InParts (while_parts q) s)) (refl, λ t. refl, λ t. refl)
     ∙ c.in_ok-condition.ensures.read AtClose (λ x. Last (λ b. nodes.While q x b)) s refl h)
     (c.in_err-body.ensures.read (InParts (Last (λ b. nodes.While q x b)) s) h))
 
@@ -268,7 +280,7 @@ items::while_item-returns-clause-read t c = λ s h.
     let q = c.args.place.now in
     let x = item_seen c.in_ok-condition.condition.value in
     let r = c.in_ok-body in
-    c.in_ok-rest.ensures.read (Takes AnOpen (λ o. NeedItem (InParts (while_parts q) s))) (λ o. NeedItem (InParts (while_parts q) s)) (refl, λ t. refl, λ t. refl)
+    c.in_ok-rest.ensures.read (while_read q s) (λ o. NeedItem (InParts (while_parts q) s)) (refl, λ t. refl, λ t. refl)
     ∙ c.in_ok-condition.ensures.read AtClose (λ x. Last (λ b. nodes.While q x b)) s refl h
     ∙ c.in_ok-body.ensures.read (InParts (Last (λ b. nodes.While q x b)) s) h
     ∙ last_done r.rest.now (λ b. nodes.While q x b) (item_seen r.body.value) s
@@ -278,14 +290,14 @@ pub items::for_item-returns-in_err-rest-clause-read : goal.items::for_item-retur
 items::for_item-returns-in_err-rest-clause-read t c = λ s h.
     let p = err_from_is_err_and c.from_residual.result c.from_residual.ensures.1 in
     let q = c.args.place.now in
-    rw (p.1, p.2) (c.in_err-rest.ensures.read (Takes AnOpen (λ o. NeedItem (InParts (for_parts q) s))) (λ o. NeedItem (InParts (for_parts q) s)) (refl, λ t. refl, λ t. refl))
+    rw (p.1, p.2) (c.in_err-rest.ensures.read (for_read q s) (λ o. NeedItem (InParts (for_parts q) s)) (refl, λ t. refl, λ t. refl))
 
 pub items::for_item-returns-in_err-first-clause-read : goal.items::for_item-returns-in_err-first-clause-read
 items::for_item-returns-in_err-first-clause-read t c = λ s h.
     let p = err_from_is_err_and c.from_residual-in_err-first.result c.from_residual-in_err-first.ensures.1 in
     let q = c.args.place.now in
     rw (p.1, p.2) (fails_along c.in_err-first.field-0.0 _ _
-    (c.in_ok-rest.ensures.read (Takes AnOpen (λ o. NeedItem (InParts (for_parts q) s))) (λ o. NeedItem (InParts (for_parts q) s)) (refl, λ t. refl, λ t. refl))
+    (c.in_ok-rest.ensures.read (for_read q s) (λ o. NeedItem (InParts (for_parts q) s)) (refl, λ t. refl, λ t. refl))
     (c.in_err-first.ensures.read AtSemicolon (λ a. Further AtSemicolon (λ x. Further AtClose (λ m. Last (λ b. nodes.For q a x m b)))) s refl h))
 
 pub items::for_item-returns-in_err-condition-clause-read : goal.items::for_item-returns-in_err-condition-clause-read
@@ -294,7 +306,7 @@ items::for_item-returns-in_err-condition-clause-read t c = λ s h.
     let q = c.args.place.now in
     let a = item_seen c.in_ok-first.first.value in
     rw (p.1, p.2) (fails_along c.in_err-condition.field-0.0 _ _
-    (c.in_ok-rest.ensures.read (Takes AnOpen (λ o. NeedItem (InParts (for_parts q) s))) (λ o. NeedItem (InParts (for_parts q) s)) (refl, λ t. refl, λ t. refl)
+    (c.in_ok-rest.ensures.read (for_read q s) (λ o. NeedItem (InParts (for_parts q) s)) (refl, λ t. refl, λ t. refl)
     ∙ c.in_ok-first.ensures.read AtSemicolon (λ a. Further AtSemicolon (λ x. Further AtClose (λ m. Last (λ b. nodes.For q a x m b)))) s refl h)
     (c.in_err-condition.ensures.read AtSemicolon (λ x. Further AtClose (λ m. Last (λ b. nodes.For q a x m b))) s refl h))
 
@@ -305,7 +317,7 @@ items::for_item-returns-in_err-step-clause-read t c = λ s h.
     let a = item_seen c.in_ok-first.first.value in
     let x = item_seen c.in_ok-condition.condition.value in
     rw (p.1, p.2) (fails_along c.in_err-step.field-0.0 _ _
-    (c.in_ok-rest.ensures.read (Takes AnOpen (λ o. NeedItem (InParts (for_parts q) s))) (λ o. NeedItem (InParts (for_parts q) s)) (refl, λ t. refl, λ t. refl)
+    (c.in_ok-rest.ensures.read (for_read q s) (λ o. NeedItem (InParts (for_parts q) s)) (refl, λ t. refl, λ t. refl)
     ∙ c.in_ok-first.ensures.read AtSemicolon (λ a. Further AtSemicolon (λ x. Further AtClose (λ m. Last (λ b. nodes.For q a x m b)))) s refl h
     ∙ c.in_ok-condition.ensures.read AtSemicolon (λ x. Further AtClose (λ m. Last (λ b. nodes.For q a x m b))) s refl h)
     (c.in_err-step.ensures.read AtClose (λ m. Last (λ b. nodes.For q a x m b)) s refl h))
@@ -318,7 +330,7 @@ items::for_item-returns-in_err-body-clause-read t c = λ s h.
     let x = item_seen c.in_ok-condition.condition.value in
     let m = item_seen c.in_ok-step.step.value in
     rw (p.1, p.2) (fails_along c.in_err-body.field-0.0 _ _
-    (c.in_ok-rest.ensures.read (Takes AnOpen (λ o. NeedItem (InParts (for_parts q) s))) (λ o. NeedItem (InParts (for_parts q) s)) (refl, λ t. refl, λ t. refl)
+    (c.in_ok-rest.ensures.read (for_read q s) (λ o. NeedItem (InParts (for_parts q) s)) (refl, λ t. refl, λ t. refl)
     ∙ c.in_ok-first.ensures.read AtSemicolon (λ a. Further AtSemicolon (λ x. Further AtClose (λ m. Last (λ b. nodes.For q a x m b)))) s refl h
     ∙ c.in_ok-condition.ensures.read AtSemicolon (λ x. Further AtClose (λ m. Last (λ b. nodes.For q a x m b))) s refl h
     ∙ c.in_ok-step.ensures.read AtClose (λ m. Last (λ b. nodes.For q a x m b)) s refl h)
@@ -331,7 +343,7 @@ items::for_item-returns-clause-read t c = λ s h.
     let x = item_seen c.in_ok-condition.condition.value in
     let m = item_seen c.in_ok-step.step.value in
     let r = c.in_ok-body in
-    c.in_ok-rest.ensures.read (Takes AnOpen (λ o. NeedItem (InParts (for_parts q) s))) (λ o. NeedItem (InParts (for_parts q) s)) (refl, λ t. refl, λ t. refl)
+    c.in_ok-rest.ensures.read (for_read q s) (λ o. NeedItem (InParts (for_parts q) s)) (refl, λ t. refl, λ t. refl)
     ∙ c.in_ok-first.ensures.read AtSemicolon (λ a. Further AtSemicolon (λ x. Further AtClose (λ m. Last (λ b. nodes.For q a x m b)))) s refl h
     ∙ c.in_ok-condition.ensures.read AtSemicolon (λ x. Further AtClose (λ m. Last (λ b. nodes.For q a x m b))) s refl h
     ∙ c.in_ok-step.ensures.read AtClose (λ m. Last (λ b. nodes.For q a x m b)) s refl h
@@ -374,24 +386,25 @@ items::foreach_item-returns-clause-read t c = λ s h.
     let v = c.in_ok-key.value.now.value in
     let x = item_seen c.in_ok-items.items.value in
     let r = c.in_ok-body in
+    let made : item_seen c.in_ok-make_foreach.field-0 ≡ nodes.Foreach q k v x (item_seen r.body.value) = search rules in
     c.in_ok-key.ensures.read (λ k v. NeedItem (InParts (foreach_parts q k.value v.value) s))
     ∙ c.in_ok-items.ensures.read AtClose (λ x. Last (λ b. nodes.Foreach q k v x b)) s refl h
     ∙ c.in_ok-body.ensures.read (InParts (Last (λ b. nodes.Foreach q k v x b)) s) h
     ∙ last_done r.rest.now (λ b. nodes.Foreach q k v x b) (item_seen r.body.value) s
-    ∙ ap (λ i. run r.rest.now (HasItem i s)) (sym c.in_ok-make_foreach.ensures)
+    ∙ ap (λ i. run r.rest.now (HasItem i s)) (sym made)
 
 pub items::if_item-returns-in_err-rest-clause-read : goal.items::if_item-returns-in_err-rest-clause-read
 items::if_item-returns-in_err-rest-clause-read t c = λ s h.
     let p = err_from_is_err_and c.from_residual.result c.from_residual.ensures.1 in
     let q = c.args.place.now in
-    rw (p.1, p.2) (c.in_err-rest.ensures.read (Takes AnOpen (λ o. NeedItem (InParts (if_parts q) s))) (λ o. NeedItem (InParts (if_parts q) s)) (refl, λ t. refl, λ t. refl))
+    rw (p.1, p.2) (c.in_err-rest.ensures.read (if_read q s) (λ o. NeedItem (InParts (if_parts q) s)) (refl, λ t. refl, λ t. refl))
 
 pub items::if_item-returns-in_err-condition-clause-read : goal.items::if_item-returns-in_err-condition-clause-read
 items::if_item-returns-in_err-condition-clause-read t c = λ s h.
     let p = err_from_is_err_and c.from_residual-in_err-condition.result c.from_residual-in_err-condition.ensures.1 in
     let q = c.args.place.now in
     rw (p.1, p.2) (fails_along c.in_err-condition.field-0.0 _ _
-    (c.in_ok-rest.ensures.read (Takes AnOpen (λ o. NeedItem (InParts (if_parts q) s))) (λ o. NeedItem (InParts (if_parts q) s)) (refl, λ t. refl, λ t. refl))
+    (c.in_ok-rest.ensures.read (if_read q s) (λ o. NeedItem (InParts (if_parts q) s)) (refl, λ t. refl, λ t. refl))
     (c.in_err-condition.ensures.read AtClose (λ x. MayElse (λ a b. choice q x a b)) s refl h))
 
 pub items::if_item-returns-in_err-then-clause-read : goal.items::if_item-returns-in_err-then-clause-read
@@ -400,7 +413,7 @@ items::if_item-returns-in_err-then-clause-read t c = λ s h.
     let q = c.args.place.now in
     let x = item_seen c.in_ok-condition.condition.value in
     rw (p.1, p.2) (fails_along c.in_err-then.field-0.0 _ _
-    (c.in_ok-rest.ensures.read (Takes AnOpen (λ o. NeedItem (InParts (if_parts q) s))) (λ o. NeedItem (InParts (if_parts q) s)) (refl, λ t. refl, λ t. refl)
+    (c.in_ok-rest.ensures.read (if_read q s) (λ o. NeedItem (InParts (if_parts q) s)) (refl, λ t. refl, λ t. refl)
     ∙ c.in_ok-condition.ensures.read AtClose (λ x. MayElse (λ a b. choice q x a b)) s refl h)
     (c.in_err-then.ensures.read (InParts (MayElse (λ a b. choice q x a b)) s) h))
 
@@ -409,7 +422,7 @@ items::if_item-returns-in_default-clause-read t c = λ s h.
     let q = c.args.place.now in
     let x = item_seen c.in_ok-condition.condition.value in
     let a = item_seen c.in_ok-then.then.value in
-    c.in_ok-rest.ensures.read (Takes AnOpen (λ o. NeedItem (InParts (if_parts q) s))) (λ o. NeedItem (InParts (if_parts q) s)) (refl, λ t. refl, λ t. refl)
+    c.in_ok-rest.ensures.read (if_read q s) (λ o. NeedItem (InParts (if_parts q) s)) (refl, λ t. refl, λ t. refl)
     ∙ c.in_ok-condition.ensures.read AtClose (λ x. MayElse (λ a b. choice q x a b)) s refl h
     ∙ c.in_ok-then.ensures.read (InParts (MayElse (λ a b. choice q x a b)) s) h
     ∙ no_else c.in_ok-then.rest.now (λ a b. choice q x a b) a s c.in_default.ensures
@@ -422,7 +435,7 @@ items::if_item-returns-in_err-otherwise-clause-read t c = λ s h.
     let x = item_seen c.in_ok-condition.condition.value in
     let a = item_seen c.in_ok-then.then.value in
     rw (p.1, p.2) (fails_along c.in_err-otherwise.field-0.0 _ _
-    (c.in_ok-rest.ensures.read (Takes AnOpen (λ o. NeedItem (InParts (if_parts q) s))) (λ o. NeedItem (InParts (if_parts q) s)) (refl, λ t. refl, λ t. refl)
+    (c.in_ok-rest.ensures.read (if_read q s) (λ o. NeedItem (InParts (if_parts q) s)) (refl, λ t. refl, λ t. refl)
     ∙ c.in_ok-condition.ensures.read AtClose (λ x. MayElse (λ a b. choice q x a b)) s refl h
     ∙ c.in_ok-then.ensures.read (InParts (MayElse (λ a b. choice q x a b)) s) h
     ∙ else_turns c.in_ok-then.rest.now c.in-Some.after.now (λ a b. choice q x a b) a s c.in-Some.ensures)
@@ -434,7 +447,7 @@ items::if_item-returns-clause-read t c = λ s h.
     let x = item_seen c.in_ok-condition.condition.value in
     let a = item_seen c.in_ok-then.then.value in
     let r = c.in_ok-otherwise in
-    c.in_ok-rest.ensures.read (Takes AnOpen (λ o. NeedItem (InParts (if_parts q) s))) (λ o. NeedItem (InParts (if_parts q) s)) (refl, λ t. refl, λ t. refl)
+    c.in_ok-rest.ensures.read (if_read q s) (λ o. NeedItem (InParts (if_parts q) s)) (refl, λ t. refl, λ t. refl)
     ∙ c.in_ok-condition.ensures.read AtClose (λ x. MayElse (λ a b. choice q x a b)) s refl h
     ∙ c.in_ok-then.ensures.read (InParts (MayElse (λ a b. choice q x a b)) s) h
     ∙ else_turns c.in_ok-then.rest.now c.in-Some.after.now (λ a b. choice q x a b) a s c.in-Some.ensures
@@ -487,17 +500,19 @@ items::reference_item-returns-clause-read t c = λ s h.
     let x = indexed (name w) is in
     let r = c.in_ok-right in
     let y = item_seen r.right.value in
+    let made : item_seen c.in_ok-make_assign.field-0 ≡ assigned (reference w is) y = search rules in
     assign_turns c.args.tokens.now c.in-Some.after.now w is x s c.in-Some.ensures
-    ∙ r.ensures.read (InParts (Last (λ v. assigned (reference w is) v)) s) h
+    ∙ r.ensures.read (InParts (right_side (reference w is)) s) h
     ∙ last_done r.rest.now (λ v. assigned (reference w is) v) y s
-    ∙ ap (λ i. run r.rest.now (HasItem i s)) (sym (c.in_ok-make_assign.ensures ∙ ap (λ v. nodes.Assign w.place v y) c.in_ok-reference.ensures))
+    ∙ ap (λ i. run r.rest.now (HasItem i s)) (sym made)
 
 pub items::word_item-returns-clause-read : goal.items::word_item-returns-clause-read
 items::word_item-returns-clause-read t c = λ s h.
     let w = c.args.word.now in
     let m = c.in_ok-items-2 in
     let r = c.in_ok-node in
+    let made : node_seen c.in_ok-call.call ≡ called w (map item_seen m.items.items) = search rules in
     goes_along c.chain_item.result _ _ _
     (item_call c.args.tokens.now c.in-Some.after.now w s c.in-Some.ensures ∙ m.ensures.read (down 9 (Chained s)) h
-    ∙ ap (λ v. run m.rest.now (HasPrimary v (down 9 (Chained s)))) (sym c.in_ok-call.ensures) ∙ r.ensures.read (down 9 (Chained s)) h)
+    ∙ ap (λ v. run m.rest.now (HasPrimary v (down 9 (Chained s)))) (sym made) ∙ r.ensures.read (down 9 (Chained s)) h)
     (c.chain_item.ensures.read s h)

@@ -24,7 +24,7 @@ returns-in_default-next_is-clause-read c = λ k next q.
     let n = c.in_ok-low.low in
     let f : SFits w64 n = search rules in
     let e = to_z-of_z w64 n f in
-    goes_along c.after_low.result _ _ _ (low_first c.args.tokens.now c.in-Some.field-0-1.now c.in-Some.first.now k next c.in-Some.ensures c.in_default-next_is.ensures ∙ c.in_ok-low.ensures.read (λ n. HasLow k b n next) ∙ ap (λ v. run c.in_ok-low.rest.now (HasLow k b v next)) (sym e)) (c.after_low.ensures.read k next q)
+    goes_along c.after_low.result _ _ _ (low_first c.args.tokens.now c.in-Some.field-0-1.now c.in-Some.first.now k next c.in-Some.ensures c.in_default-next_is.ensures ∙ c.in_ok-low.ensures.read (λ n. HasLow k b n next) ∙ ap (λ v. run c.in_ok-low.rest.now (HasLow k b v next)) (sym e)) (rw c.place.ensures at c.after_low.ensures.read k next q)
 
 pub returns-in_err-high-clause-read : goal.returns-in_err-high-clause-read
 returns-in_err-high-clause-read c = λ k next q.
@@ -48,5 +48,5 @@ returns-clause-read c = λ k next q.
     let m = c.in_ok-high.high in
     let f : SFits w64 m = search rules in
     let e = to_z-of_z w64 m f in
-    let made = rw e at c.in_ok-make_bounds.ensures in
+    let made = rw (e, c.place-2.ensures) at c.in_ok-make_bounds.ensures in
     range_first c.args.tokens.now c.in-Some.field-0-1.now c.in-Some-next_is.after.now c.in-Some.first.now k next c.in-Some.ensures c.in-Some-next_is.ensures ∙ c.in_ok-high.ensures.read (λ n. Takes (Closes k) (λ t. next (bounds b None (Some n)))) ∙ c.in_ok-rest.ensures.read (Takes (Closes k) (λ t. next (bounds b None (Some m)))) (λ t. next (bounds b None (Some m))) (refl, λ t. rw q refl, λ t. refl) ∙ ap (λ v. run c.in_ok-rest.rest.now (next v)) (sym made)

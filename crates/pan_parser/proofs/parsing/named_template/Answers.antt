@@ -1,4 +1,4 @@
-use Rattle.std.proofs.Common.{◌∙◌, [], refl}
+use Rattle.std.proofs.Common.{◌∙◌, ◌≡◌, [], refl, rules}
 use Rattle.std.proofs.lemmas.Result.{err_from_is_err_and}
 use Rattle.pan_ast.specs.declared.token.Token.{Token}
 use Rattle.pan_grammar.specs.Machine.{name_wanted}
@@ -29,4 +29,5 @@ returns-in_err-statements c =
 pub returns : goal.returns
 returns c =
     let of : Token → Header = (λ n. (record { kind = c.args.kind; place = c.args.place.now; name = n })) in
-    c.in_ok-name.ensures.read (name_wanted c.args.kind c.args.place.now) (λ n. Takes ASemicolon (λ s. Statements (of n) [])) (refl, λ t. refl, λ t. refl) ∙ c.in_ok-rest.ensures.read (Takes ASemicolon (λ s. Statements (of c.in_ok-name.token.now) [])) (λ s. Statements (of c.in_ok-name.token.now) []) (refl, λ t. refl, λ t. refl) ∙ c.in_ok-statements.ensures.read (of c.in_ok-name.token.now) ∙ template_alike c.in_ok-statements.rest.now c.args.kind c.args.place.now _ c.in_ok-name.token.now _ _ _ c.in_ok-name.ensures.name c.in_ok-name_place.ensures c.in_ok-place.ensures
+    let at_name : c.in_ok-name_place.name_place ≡ c.in_ok-name.token.now.place = search rules in
+    c.in_ok-name.ensures.read (name_wanted c.args.kind c.args.place.now) (λ n. Takes ASemicolon (λ s. Statements (of n) [])) (refl, λ t. refl, λ t. refl) ∙ c.in_ok-rest.ensures.read (Takes ASemicolon (λ s. Statements (of c.in_ok-name.token.now) [])) (λ s. Statements (of c.in_ok-name.token.now) []) (refl, λ t. refl, λ t. refl) ∙ c.in_ok-statements.ensures.read (of c.in_ok-name.token.now) ∙ template_alike c.in_ok-statements.rest.now c.args.kind c.args.place.now _ c.in_ok-name.token.now _ _ _ c.in_ok-name.ensures.name at_name c.in_ok-place.ensures

@@ -41,7 +41,7 @@ returns-in-Ok-clause-deep c =
 pub returns-in-Err-Bad-clause-fault : goal.returns-in-Err-Bad-clause-fault
 returns-in-Err-Bad-clause-fault c =
     let q : run c.args.tokens.now Start ≡ Err (Bad c.in-Err-Bad.rest.now) = rw c.in-Err-Bad.field-0-is at c.in-Err-Bad.ensures in
-    bad_fault c.args.tokens.now c.in-Err-Bad.rest.now c.fault_on.result q c.fault_on.ensures
+    bad_fault c.args.tokens.now c.in-Err-Bad.rest.now c.fault_on.result (bad_some c.args.tokens.now c.in-Err-Bad.rest.now c.requires.ended q) q c.fault_on.ensures
 
 pub returns-in-Err-Bad-clause-bad : goal.returns-in-Err-Bad-clause-bad
 returns-in-Err-Bad-clause-bad c =
@@ -56,7 +56,7 @@ returns-in-Err-Bad-clause-deep c =
 pub returns-in-Err-Deep-clause-fault : goal.returns-in-Err-Deep-clause-fault
 returns-in-Err-Deep-clause-fault c =
     let q : run c.args.tokens.now Start ≡ Err (Deep c.in-Err-Deep.rest.now) = rw c.in-Err-Deep.field-0-is at c.in-Err-Deep.ensures in
-    deep_fault c.args.tokens.now c.in-Err-Deep.rest.now c.fault_on-in-Err-Deep.result q c.fault_on-in-Err-Deep.ensures
+    deep_fault c.args.tokens.now c.in-Err-Deep.rest.now c.fault_on-in-Err-Deep.result (deep_some c.args.tokens.now c.in-Err-Deep.rest.now q) q c.fault_on-in-Err-Deep.ensures
 
 pub returns-in-Err-Deep-clause-deep : goal.returns-in-Err-Deep-clause-deep
 returns-in-Err-Deep-clause-deep c =

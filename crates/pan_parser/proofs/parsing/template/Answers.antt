@@ -13,7 +13,7 @@ returns-then-is c =
     let first = c.in-Some.first.now in
     let on = c.in-Some.rest.now in
     let x : at sorts.Template (sort first) ≡ true = search rules in
-    goes_along c.named_template.result _ _ _ (ordinary_turns c.args.tokens.now on first c.in-Some.ensures x) c.named_template.ensures
+    goes_along c.named_template.result _ _ _ (ordinary_turns c.args.tokens.now on first c.in-Some.ensures x) (rw c.place.ensures at c.named_template.ensures)
 
 pub returns-in_err-rest : goal.returns-in_err-rest
 returns-in_err-rest c =
@@ -32,4 +32,4 @@ returns c =
     let other : at sorts.Template (sort first) ≡ false = search rules in
     let k = c.in-Some-kind_of.kind in
     let e : kind_of (sort first) ≡ Some k = search rules in
-    goes_along c.named_template-2.result _ _ _ (kind_turns c.args.tokens.now on first k c.in-Some.ensures other e ∙ c.in_ok-rest.ensures.read (kind_read first.place k) (λ w. name_wanted k first.place) (refl, λ t. refl, λ t. refl)) c.named_template-2.ensures
+    goes_along c.named_template-2.result _ _ _ (kind_turns c.args.tokens.now on first k c.in-Some.ensures other e ∙ c.in_ok-rest.ensures.read (kind_read first.place k) (λ w. name_wanted k first.place) (refl, λ t. refl, λ t. refl)) (rw c.place-2.ensures at c.named_template-2.ensures)

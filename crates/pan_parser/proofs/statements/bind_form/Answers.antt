@@ -1,6 +1,8 @@
-use Rattle.std.proofs.Common.{◌∙◌, ◌++◌, [], ◌∷◌, sym, refl, ap}
+use Rattle.std.proofs.Common.{◌∙◌, ◌++◌, [], ◌∷◌, sym, refl, ap, ◌≡◌, rules}
 use Rattle.std.proofs.lemmas.Result.{err_from_is_err_and}
 use Rattle.pan_ast.specs.Templates as plain
+use Rattle.pan_ast.specs.TemplatesSeen.{form_seen}
+use Rattle.pan_ast.specs.TypesSeen.{full_seen}
 use Rattle.pan_grammar.specs.Machine.{bind_read, full_of, run}
 use Rattle.pan_grammar.specs.States.{AnAssign, Statements, Takes}
 use Rattle.pan_grammar.specs.Templates.{stated}
@@ -19,4 +21,5 @@ returns-in_err-full-clause-read c = λ q h ss.
 
 pub returns-clause-read : goal.returns-clause-read
 returns-clause-read c = λ q h ss.
-    c.in_ok-path.ensures.read (bind_read q h ss) (λ w. Takes AnAssign (λ e. full_of h ss (λ f. stated q (plain.Bind w.value f)))) (refl, λ t. refl, λ t. refl) ∙ c.in_ok-full.ensures.read h ss (λ f. stated q (plain.Bind c.in_ok-path.path.now.value f)) ∙ ap (λ v. run c.in_ok-full.rest.now (Statements h (ss ++ stated q v ∷ []))) (sym c.in_ok-bind_statement.ensures)
+    let made : form_seen c.in_ok-bind_statement.field-0 ≡ plain.Bind c.in_ok-path.path.now.value (full_seen c.in_ok-full.full) = search rules in
+    c.in_ok-path.ensures.read (bind_read q h ss) (λ w. Takes AnAssign (λ e. full_of h ss (λ f. stated q (plain.Bind w.value f)))) (refl, λ t. refl, λ t. refl) ∙ c.in_ok-full.ensures.read h ss (λ f. stated q (plain.Bind c.in_ok-path.path.now.value f)) ∙ ap (λ v. run c.in_ok-full.rest.now (Statements h (ss ++ stated q v ∷ []))) (sym made)

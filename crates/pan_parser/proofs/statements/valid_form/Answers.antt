@@ -1,6 +1,8 @@
-use Rattle.std.proofs.Common.{◌∙◌, ◌++◌, [], ◌∷◌, sym, refl, ap}
+use Rattle.std.proofs.Common.{◌∙◌, ◌++◌, [], ◌∷◌, sym, refl, ap, ◌≡◌, rules}
 use Rattle.std.proofs.lemmas.Result.{err_from_is_err_and}
 use Rattle.pan_ast.specs.Templates as plain
+use Rattle.pan_ast.specs.Seen.{item_seen}
+use Rattle.pan_ast.specs.TemplatesSeen.{form_seen}
 use Rattle.pan_grammar.specs.Machine.{item_of, run, valid_read}
 use Rattle.pan_grammar.specs.States.{AnAssign, Statements, Takes}
 use Rattle.pan_grammar.specs.Templates.{stated}
@@ -19,4 +21,5 @@ returns-in_err-body-clause-read c = λ q h ss.
 
 pub returns-clause-read : goal.returns-clause-read
 returns-clause-read c = λ q h ss.
-    c.in_ok-path.ensures.read (valid_read q h ss) (λ w. Takes AnAssign (λ e. item_of h ss (λ i. stated q (plain.Valid w.value i)))) (refl, λ t. refl, λ t. refl) ∙ c.in_ok-body.ensures.read h ss (λ i. stated q (plain.Valid c.in_ok-path.path.now.value i)) ∙ ap (λ v. run c.in_ok-body.rest.now (Statements h (ss ++ stated q v ∷ []))) (sym c.in_ok-valid_statement.ensures)
+    let made : form_seen c.in_ok-valid_statement.field-0 ≡ plain.Valid c.in_ok-path.path.now.value (item_seen c.in_ok-body.body) = search rules in
+    c.in_ok-path.ensures.read (valid_read q h ss) (λ w. Takes AnAssign (λ e. item_of h ss (λ i. stated q (plain.Valid w.value i)))) (refl, λ t. refl, λ t. refl) ∙ c.in_ok-body.ensures.read h ss (λ i. stated q (plain.Valid c.in_ok-path.path.now.value i)) ∙ ap (λ v. run c.in_ok-body.rest.now (Statements h (ss ++ stated q v ∷ []))) (sym made)

@@ -1,6 +1,8 @@
-use Rattle.std.proofs.Common.{◌∙◌, ◌++◌, [], ◌∷◌, sym, refl, ap}
+use Rattle.std.proofs.Common.{◌∙◌, ◌++◌, [], ◌∷◌, sym, refl, ap, ◌≡◌, rules}
 use Rattle.std.proofs.lemmas.Result.{err_from_is_err_and}
 use Rattle.pan_ast.specs.Templates as plain
+use Rattle.pan_ast.specs.Seen.{item_seen}
+use Rattle.pan_ast.specs.TemplatesSeen.{form_seen}
 use Rattle.pan_grammar.specs.Machine.{item_of, run, variable_read}
 use Rattle.pan_grammar.specs.States.{ASetting, Statements, Takes}
 use Rattle.pan_grammar.specs.Templates.{conditional, stated}
@@ -19,4 +21,5 @@ returns-in_err-conditional-clause-read c = λ q h ss.
 
 pub returns-clause-read : goal.returns-clause-read
 returns-clause-read c = λ q h ss.
-    c.in_ok-name.ensures.read (variable_read q c.args.last h ss) (λ w. Takes ASetting (λ a. item_of h ss (λ i. stated q (plain.Variable c.args.last w.value (conditional a) i)))) (refl, λ t. refl, λ t. refl) ∙ c.in_ok-conditional.ensures.read h ss (λ b i. stated q (plain.Variable c.args.last c.in_ok-name.name.now.value b i)) ∙ ap (λ v. run c.in_ok-conditional.rest.now (Statements h (ss ++ stated q v ∷ []))) (sym c.in_ok-variable_statement.ensures)
+    let made : form_seen c.in_ok-variable_statement.field-0 ≡ plain.Variable c.args.last c.in_ok-name.name.now.value c.in_ok-conditional.conditional (item_seen c.in_ok-conditional.right) = search rules in
+    c.in_ok-name.ensures.read (variable_read q c.args.last h ss) (λ w. Takes ASetting (λ a. item_of h ss (λ i. stated q (plain.Variable c.args.last w.value (conditional a) i)))) (refl, λ t. refl, λ t. refl) ∙ c.in_ok-conditional.ensures.read h ss (λ b i. stated q (plain.Variable c.args.last c.in_ok-name.name.now.value b i)) ∙ ap (λ v. run c.in_ok-conditional.rest.now (Statements h (ss ++ stated q v ∷ []))) (sym made)

@@ -24,7 +24,8 @@ field-returns-then-is-clause-read t c = λ e fs s h.
     let first = c.in-Some.first.now in
     let i : at sorts.Include (sort first) ≡ true = search rules in
     let r = c.in_ok-name in
-    include_turns c.args.tokens.now c.in-Some.rest.now first e fs s c.in-Some.ensures i ∙ r.ensures.read (include_read first e fs s) (λ n. FieldsOpen e (fs ++ included first n ∷ []) s) (refl, λ t. refl, λ t. refl) ∙ ap (λ v. run r.rest.now (FieldsOpen e (fs ++ v ∷ []) s)) (sym c.in_ok-make_include.ensures)
+    let made : field_seen c.in_ok-make_include.field-0 ≡ included first r.name.now = search rules in
+    include_turns c.args.tokens.now c.in-Some.rest.now first e fs s c.in-Some.ensures i ∙ r.ensures.read (include_read first e fs s) (λ n. FieldsOpen e (fs ++ included first n ∷ []) s) (refl, λ t. refl, λ t. refl) ∙ ap (λ v. run r.rest.now (FieldsOpen e (fs ++ v ∷ []) s)) (sym made)
 
 pub field-returns-in_err-mark-clause-read : goal.field-returns-in_err-mark-clause-read
 field-returns-in_err-mark-clause-read t c = λ e fs s h.

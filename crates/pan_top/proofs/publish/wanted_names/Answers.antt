@@ -1,10 +1,7 @@
 use Rattle.std.proofs.Common.{◌≡◌, ◌+◌, ◌∷◌, drop, ap, ◌∙◌, arith, is_some, true, ◌||◌}
 use Rattle.std.specs.Prelude.{bytes_eq, cond}
-use Rattle.std.specs.BTreeSet.{contains}
-use Rattle.std.specs.Cmp.Lexicographic.{slice_cmp}
-use Rattle.std.specs.Ordering.{nat_cmp}
+use Rattle.std.specs.HashSet.{contains}
 use Rattle.std.proofs.lemmas.Grind.{common_steps}
-use Rattle.std.proofs.lemmas.Map.Text.{is_eq-slice_cmp}
 use Rattle.pan_top.specs.Shelves.{wanted}
 use Rattle.pan_top.proofs.Shelving.{names_step}
 use Rattle.pan_top.proofs.publish.wanted_names.Goals as goal
@@ -13,8 +10,8 @@ pub loop-want-preserved : goal.loop-want-preserved
 loop-want-preserved c =
     let e : drop c.loop-want.want-index c.args.wants.now ≡ c.want-item.result ∷ drop (c.loop-want.want-index + 1) c.args.wants.now = grind (arith, common_steps, c.want-item.is, c.loop-want-test.true) in
     λ n.
-    let held = contains (slice_cmp nat_cmp) c.loop-want.names n in
+    let held = contains bytes_eq c.loop-want.names n in
     let rest = wanted (drop (c.loop-want.want-index + 1) c.args.wants.now) n in
-    let grown : contains (slice_cmp nat_cmp) c.insert.new.self n ≡ cond (bytes_eq c.want-item.result.name n) true held =
-    c.in_ok-insert.ensures.updates.0 n ∙ ap (λ b. cond b true held) (is_eq-slice_cmp c.in_ok-share.field-0 n ∙ ap (λ k. bytes_eq k n) c.in_ok-share.ensures) in
+    let grown : contains bytes_eq c.insert.new.self n ≡ cond (bytes_eq c.want-item.result.name n) true held =
+    c.in_ok-insert.ensures.updates.0 n ∙ ap (λ b. cond b true held) (ap (λ k. bytes_eq k n) c.in_ok-share.ensures) in
     ap (λ b. b || is_some rest) grown ∙ names_step (bytes_eq c.want-item.result.name n) held c.want-item.result.bytes rest ∙ rw e at (c.loop-want.invariant n)
