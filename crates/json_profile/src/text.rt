@@ -7,7 +7,7 @@ use path_tree::Tree;
 use std::alloc::{AllocError, Global};
 
 /// The room that a profile begins with.
-const USUAL_BYTES: usize = 2048;
+const USUAL_BYTES: usize = 1024;
 
 /// The profile of a tree: one line of compact JSON with keys in byte order, and a line feed.
 ///

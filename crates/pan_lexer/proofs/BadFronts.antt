@@ -10,10 +10,7 @@ use Rattle.pan_lexer.specs.Bytes.{is_blank, is_word_start, is_word_byte, is_name
 use Rattle.pan_lexer.specs.Fronts.{annotation, annotation_body, digits_value, small, ended_int, is_double, plain_int, hex_int, octal_int, int, single, after_single, double, escape_of, hex_pair, taken_as, escape, escaped, encoded, with_front, text_of, lines, line_end, document_of, document_from, document_lines, document, sign_len, sign, front}
 use Rattle.pan_lexer.specs.Spelled.{IsRun, IsLineEnd, IsFront}
 use Rattle.pan_lexer.specs.Faulty.{IsPlain, octal_digits, decimal_digits, no_hex_digit, high_digit, fraction, large_hex, large, letter_hex, letter, IsOpenSingle, single_ends, single_pair, single_byte, IsInside, inside_none, inside_byte, inside_letter, inside_number, no_label, no_semicolon, no_line_end, no_label_line, IsBad, no_brace, open_annotation, bad_int, open_single, open_double, bad_escape, bad_document, other_character}
-use Rattle.pan_lexer.specs.declared.parts.Quoted.{Quoted}
-use Rattle.pan_lexer.specs.declared.parts.Quoted.TheVariants.{Closed, Open, BadAt}
-use Rattle.pan_lexer.specs.declared.parts.Front.{Front}
-use Rattle.pan_lexer.specs.declared.parts.Front.TheVariants.{Skip, Written, Int, Text, Document, Bad}
+use Rattle.pan_lexer.specs.Parts.{Front, Skip, Written, Int, Text, Document, Bad, Quoted, Closed, Open, BadAt}
 use Rattle.pan_lexer.proofs.Ascii.{plus_one}
 use Rattle.pan_lexer.proofs.CleanLines.{and_both}
 use Rattle.pan_lexer.proofs.Runs.{run_within, run_begins}

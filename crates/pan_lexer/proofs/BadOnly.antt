@@ -12,10 +12,7 @@ use Rattle.pan_lexer.specs.Bytes.{is_blank, is_word_start, is_word_byte, is_name
 use Rattle.pan_lexer.specs.Fronts.{annotation, annotation_gap, annotation_body, digits_value, small, ended_int, is_double, plain_int, hex_int, octal_int, int, single, double, escape, escaped, encoded, with_front, text_of, lines, line_end, document_of, document_from, document_lines, document, sign_len, front}
 use Rattle.pan_lexer.specs.Spelled.{IsRun, run_ends, run_more, IsLineEnd, AreLines, IsFront, blanks, comment, name, word, sign as signed}
 use Rattle.pan_lexer.specs.Faulty.{IsPlain, octal_digits, decimal_digits, IsBadInt, no_hex_digit, high_digit, fraction, large_hex, large, letter_hex, letter, IsOpenSingle, single_ends, single_pair, single_byte, IsInside, inside_none, inside_byte, inside_letter, inside_number, IsBadDocument, no_label, no_semicolon, no_line_end, no_label_line, IsBad, no_brace, open_annotation, bad_int, open_single, open_double, bad_escape, bad_document, other_character}
-use Rattle.pan_lexer.specs.declared.parts.Quoted.{Quoted}
-use Rattle.pan_lexer.specs.declared.parts.Quoted.TheVariants.{Open, BadAt}
-use Rattle.pan_lexer.specs.declared.parts.Front.{Front}
-use Rattle.pan_lexer.specs.declared.parts.Front.TheVariants.{Skip, Written, Int, Bad}
+use Rattle.pan_lexer.specs.Parts.{Front, Skip, Written, Int, Bad, Quoted, Open, BadAt}
 use Rattle.pan_lexer.specs.declared.parts.SkipKind.TheVariants.{Annotation}
 use Rattle.pan_lexer.proofs.CleanLines.{and_both}
 use Rattle.pan_lexer.proofs.TextSteps.{not-eqb, front_twice, front_none}

@@ -9,10 +9,7 @@ use Rattle.std.proofs.lemmas.Bool.{eqb-true, ltb-true}
 use Rattle.std.proofs.lemmas.Bool.Decides.{nat_tests}
 use Rattle.pan_lexer.specs.Bytes.{is_blank, is_word_start, is_word_byte, is_name_byte, is_digit, is_octal, is_hex, is_tab, is_in_comment, is_in_annotation, is_single_sign, may_have_equals, may_be_doubled, starts, starts_twice, begins}
 use Rattle.pan_lexer.specs.Fronts.{annotation, annotation_body, digits_value, small, ended_int, is_double, plain_int, hex_int, octal_int, int, single, double, text_of, lines, line_end, document_of, document_from, document_lines, document, sign_len, sign, front}
-use Rattle.pan_lexer.specs.declared.parts.Quoted.{Quoted}
-use Rattle.pan_lexer.specs.declared.parts.Quoted.TheVariants.{Closed, Open, BadAt}
-use Rattle.pan_lexer.specs.declared.parts.Front.{Front}
-use Rattle.pan_lexer.specs.declared.parts.Front.TheVariants.{Skip, Written, Int, Text, Document, Bad}
+use Rattle.pan_lexer.specs.Parts.{Front, Skip, Written, Int, Text, Document, Bad, Quoted, Closed, Open, BadAt}
 use Rattle.pan_ast.specs.declared.fault.Code.TheVariants.{BadCharacter}
 use Rattle.pan_ast.specs.declared.token.TokenKind.TheVariants as kinds
 use Rattle.pan_lexer.proofs.Ascii.{tail, drop_one, one_down, after_run, before_end, ends_run, low_word, low_name, low_tab, low_blank, low_digit, low_hex, low_feed, low_brace}
@@ -35,7 +32,7 @@ leaves_if bs false x y f g = g refl
 low_at : (b k : ℕ) → k < 128 → eqb b k ≡ true → b < 128
 low_at b k h e = subst (λ (x : ℕ). x < 128) (sym (eqb-true b k e)) h
 
-low_start : (b : ℕ) → is_word_start b ≡ true → b < 128
+pub low_start : (b : ℕ) → is_word_start b ≡ true → b < 128
 low_start b e = grind (arith, nat_tests)
 
 start_is_word : (b : ℕ) → is_word_start b ≡ true → is_word_byte b ≡ true
@@ -142,13 +139,13 @@ document_leaves a c bs u = by (prefix_len is_word_byte bs) refl where
         sign (b ∷ on) t h = tail b on (low_at b 59 (omega arith) t) h
 
 -- Signs
-low_single : (b : ℕ) → is_single_sign b ≡ true → b < 128
+pub low_single : (b : ℕ) → is_single_sign b ≡ true → b < 128
 low_single b e = grind (arith, nat_tests)
 
-low_equals : (b : ℕ) → may_have_equals b ≡ true → b < 128
+pub low_equals : (b : ℕ) → may_have_equals b ≡ true → b < 128
 low_equals b e = grind (arith, nat_tests)
 
-low_doubled : (b : ℕ) → may_be_doubled b ≡ true → b < 128
+pub low_doubled : (b : ℕ) → may_be_doubled b ≡ true → b < 128
 low_doubled b e = grind (arith, nat_tests)
 
 abbrev LeavesAt : List ℕ → ℕ → Type 0

@@ -7,8 +7,7 @@ use Rattle.std.proofs.lemmas.Bool.{eqb-true}
 use Rattle.std.proofs.lemmas.Bool.Decides.{nat_tests}
 use Rattle.pan_lexer.specs.Bytes.{is_hex, digit_value}
 use Rattle.pan_lexer.specs.Fronts.{single, after_single, double, escape, escaped, escape_of, hex_pair, taken_as, encoded, with_front}
-use Rattle.pan_lexer.specs.declared.parts.Quoted.{Quoted}
-use Rattle.pan_lexer.specs.declared.parts.Quoted.TheVariants.{Closed, Open, BadAt}
+use Rattle.pan_lexer.specs.Parts.{Quoted, Closed, Open, BadAt}
 use Rattle.pan_lexer.proofs.Ascii.{around, tail, drop_one, low_hex, hex_small, encoded_text}
 
 -- behind what was read, which is a text with the value so far

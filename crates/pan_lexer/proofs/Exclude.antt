@@ -6,7 +6,7 @@ use Rattle.pan_lexer.specs.Bytes.{between, is_blank, is_word_start, is_word_byte
 use Rattle.pan_lexer.specs.Fronts.{front, text_of, int, digits_value, sign}
 use Rattle.pan_lexer.specs.Spelled.{IsRun, IsSingle, IsDouble, IsEnded}
 use Rattle.pan_lexer.specs.declared.parts.SkipKind.TheVariants.{Blank, Comment}
-use Rattle.pan_lexer.specs.declared.parts.Front.TheVariants.{Skip, Written, Int, Text}
+use Rattle.pan_lexer.specs.Parts.{Skip, Written, Int, Text}
 use Rattle.pan_ast.specs.declared.token.TokenKind.TheVariants as kinds
 use Rattle.pan_lexer.proofs.OneKind.{run_only, single_only, double_only}
 use Rattle.pan_lexer.proofs.TextSteps.{not-eqb}

@@ -18,8 +18,7 @@ use Rattle.pan_lexer.specs.declared.lexing.LexError.TheVariants as errors
 use Rattle.pan_lexer.specs.declared.parts.At.{At}
 use Rattle.pan_lexer.specs.declared.parts.Mode.{Mode}
 use Rattle.pan_lexer.specs.declared.parts.Mode.TheVariants.{Before}
-use Rattle.pan_lexer.specs.declared.parts.Front.{Front}
-use Rattle.pan_lexer.specs.declared.parts.Front.TheVariants.{Skip, Written, Int, Text, Document, Bad}
+use Rattle.pan_lexer.specs.Parts.{Front, Skip, Written, Int, Text, Document, Bad}
 use Rattle.pan_lexer.proofs.BadFronts.{IsBadFront, all_bad}
 use Rattle.pan_lexer.proofs.BadOnly.{bad_only}
 use Rattle.pan_lexer.proofs.Cuts.{fits}

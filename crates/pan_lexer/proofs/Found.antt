@@ -10,10 +10,7 @@ use Rattle.pan_ast.specs.declared.token.TokenKind.TheVariants as kinds
 use Rattle.pan_lexer.specs.Bytes.{is_blank, is_word_start, is_word_byte, is_name_byte, is_digit, is_octal, is_hex, is_tab, is_in_comment, is_in_annotation, is_single_sign, may_have_equals, may_be_doubled, starts, starts_twice, begins, digit_value}
 use Rattle.pan_lexer.specs.Fronts.{annotation, annotation_body, digits_value, small, ended_int, is_double, plain_int, hex_int, octal_int, int, single, double, escape_of, hex_pair, taken_as, escape, escaped, encoded, with_front, text_of, label_line, longer, line_at, lines, line_end, document_of, document_from, document_lines, document, sign_len, front}
 use Rattle.pan_lexer.specs.Spelled.{IsRun, IsDouble, ends, plain, letter, number, IsEnded, hexadecimal, octal, decimal_form, IsSign, alone, with_equals, without, twice, once, points, IsLineEnd, IsLabelLine, AreLines, label_here, on_line, line_start, IsFront, blanks, comment, annotation as annotated, name, word, int as counted, single as quoted, double as doubled, document as documented, sign as signed}
-use Rattle.pan_lexer.specs.declared.parts.Quoted.{Quoted}
-use Rattle.pan_lexer.specs.declared.parts.Quoted.TheVariants.{Closed, Open, BadAt}
-use Rattle.pan_lexer.specs.declared.parts.Front.{Front}
-use Rattle.pan_lexer.specs.declared.parts.Front.TheVariants.{Skip, Written, Int, Text, Document, Bad}
+use Rattle.pan_lexer.specs.Parts.{Front, Skip, Written, Int, Text, Document, Bad, Quoted, Closed, Open, BadAt}
 use Rattle.pan_lexer.proofs.CleanLines.{and_both}
 use Rattle.pan_lexer.proofs.TextSteps.{cut, not-eqb}
 use Rattle.pan_lexer.proofs.Runs.{run_within}

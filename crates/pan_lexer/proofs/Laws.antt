@@ -8,8 +8,7 @@ use Rattle.pan_lexer.specs.Lexed.{lexed, origin}
 use Rattle.pan_lexer.specs.Spelled.{IsFront, Spelled}
 use Rattle.pan_lexer.specs.declared.lexing.LexError.{LexError}
 use Rattle.pan_lexer.specs.declared.parts.Mode.TheVariants.{Before}
-use Rattle.pan_lexer.specs.declared.parts.Front.{Front}
-use Rattle.pan_lexer.specs.declared.parts.Front.TheVariants.{Skip, Written, Int, Text, Document, Bad}
+use Rattle.pan_lexer.specs.Parts.{Front, Skip, Written, Int, Text, Document, Bad}
 use Rattle.pan_lexer.proofs.Cuts.{Fronts, IsGood, cuts_lexed, lexed_cuts}
 use Rattle.pan_lexer.proofs.Found.{IsFound, all_found}
 use Rattle.pan_lexer.proofs.Only.{only}

@@ -14,6 +14,7 @@ pub mod FirstWord
 pub mod Found
 pub mod Laws
 pub mod OneKind
+pub mod OneLine
 pub mod Only
 pub mod PlainTexts
 pub mod Runs

@@ -13,8 +13,7 @@ use Rattle.pan_ast.specs.declared.token.TokenKind.TheVariants as kinds
 use Rattle.pan_lexer.specs.Bytes.{is_blank, is_word_start, is_word_byte, is_name_byte, is_digit, is_octal, is_tab, is_in_annotation, is_single_sign, may_have_equals, may_be_doubled, starts, starts_twice, begins}
 use Rattle.pan_lexer.specs.Fronts.{annotation, annotation_gap, annotation_body, digits_value, is_double, plain_int, octal_int, int, label_end, more, label_line, longer, line_at, lines, line_end, document_of, document_from, document_lines, document, sign, front}
 use Rattle.pan_lexer.specs.Spelled.{IsRun, IsEnded, IsInt, hexadecimal, octal, decimal_form, IsSign, alone, with_equals, without, twice, once, points, IsLineEnd, feed, return_feed, IsLabelLine, label_ends_file, label_line_ends, AreLines, label_here, on_line, line_start, IsFront, blanks, comment, annotation as annotated, name, word, int as counted, single as quoted, double as doubled, document as documented, sign as signed}
-use Rattle.pan_lexer.specs.declared.parts.Front.{Front}
-use Rattle.pan_lexer.specs.declared.parts.Front.TheVariants.{Skip, Written, Int, Document, Bad}
+use Rattle.pan_lexer.specs.Parts.{Front, Skip, Written, Int, Document, Bad}
 use Rattle.pan_lexer.specs.declared.parts.SkipKind.TheVariants.{Annotation}
 use Rattle.pan_lexer.proofs.CleanLines.{and_both}
 use Rattle.pan_lexer.proofs.TextSteps.{not-eqb, append_nil}

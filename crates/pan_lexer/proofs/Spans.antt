@@ -11,8 +11,7 @@ use Rattle.pan_lexer.specs.Tokens.{AreInOrder}
 use Rattle.pan_lexer.specs.declared.lexing.LexError.{LexError}
 use Rattle.pan_lexer.specs.declared.parts.At.{At}
 use Rattle.pan_lexer.specs.declared.parts.Mode.{Mode}
-use Rattle.pan_lexer.specs.declared.parts.Front.{Front}
-use Rattle.pan_lexer.specs.declared.parts.Front.TheVariants.{Skip, Written, Int, Text, Document, Bad}
+use Rattle.pan_lexer.specs.Parts.{Front, Skip, Written, Int, Text, Document, Bad}
 use Rattle.pan_lexer.proofs.Whole.{all_within}
 
 advance_start : (p : At) (b : ℕ) → (advance p b).start ≡ p.start + 1

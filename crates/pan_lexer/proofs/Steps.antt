@@ -15,8 +15,7 @@ use Rattle.pan_lexer.specs.declared.parts.Mode.TheVariants.{Before}
 use Rattle.pan_ast.specs.declared.token.TokenKind.{TokenKind}
 use Rattle.pan_ast.specs.declared.token.TokenKind.TheVariants as kinds
 use Rattle.pan_lexer.specs.declared.parts.SkipKind.{SkipKind}
-use Rattle.pan_lexer.specs.declared.parts.Front.{Front}
-use Rattle.pan_lexer.specs.declared.parts.Front.TheVariants.{Skip, Document, Bad}
+use Rattle.pan_lexer.specs.Parts.{Front, Skip, Document, Bad}
 use Rattle.pan_ast.specs.declared.fault.Code.{Code}
 
 -- the bytes of a piece are passed one by one

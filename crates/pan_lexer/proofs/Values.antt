@@ -17,10 +17,7 @@ use Rattle.pan_lexer.specs.Answers.{Gives}
 use Rattle.pan_lexer.specs.declared.lexing.LexError.{LexError}
 use Rattle.pan_lexer.specs.declared.parts.At.{At}
 use Rattle.pan_lexer.specs.declared.parts.Mode.{Mode}
-use Rattle.pan_lexer.specs.declared.parts.Quoted.{Quoted}
-use Rattle.pan_lexer.specs.declared.parts.Quoted.TheVariants.{Closed, Open, BadAt}
-use Rattle.pan_lexer.specs.declared.parts.Front.{Front}
-use Rattle.pan_lexer.specs.declared.parts.Front.TheVariants.{Skip, Written, Int, Text, Document, Bad}
+use Rattle.pan_lexer.specs.Parts.{Front, Skip, Written, Int, Text, Document, Bad, Quoted, Closed, Open, BadAt}
 
 abbrev pub IsWritten : TokenKind → Type 0
 IsWritten kinds.Word = Unit {0}

@@ -5,11 +5,8 @@ use Rattle.std.specs.Prelude.{nat_lt, ◌&&◌}
 use Rattle.std.proofs.lemmas.Bool.{ltb-true}
 use Rattle.pan_lexer.specs.Bytes.{is_word_byte, is_tab, is_in_annotation, is_digit, is_octal, is_hex, is_word_start, begins}
 use Rattle.pan_lexer.specs.Fronts.{single, after_single, double, escape, escaped, encoded, ended_int, plain_int, hex_int, octal_int, int, is_double, small, digits_value, with_front, QuotedFits, text_of, annotation, annotation_body, Fits}
-use Rattle.pan_lexer.specs.declared.parts.Quoted.{Quoted}
-use Rattle.pan_lexer.specs.declared.parts.Quoted.TheVariants.{Closed, Open, BadAt}
+use Rattle.pan_lexer.specs.Parts.{Front, Int, Bad, Quoted, Closed, Open, BadAt}
 use Rattle.pan_ast.specs.declared.fault.Code.TheVariants.{BadCharacter}
-use Rattle.pan_lexer.specs.declared.parts.Front.{Front}
-use Rattle.pan_lexer.specs.declared.parts.Front.TheVariants.{Int, Bad}
 use Rattle.pan_lexer.proofs.Runs.{run_within, run_begins}
 
 pub fits_if : (len : ℕ) (b : Bool) (x y : Front) → (b ≡ true → Fits len x) → (b ≡ false → Fits len y) → Fits len (cond b x y)

@@ -15,8 +15,7 @@ use Rattle.pan_lexer.specs.declared.parts.At.{At}
 use Rattle.pan_lexer.specs.declared.parts.Mode.{Mode}
 use Rattle.pan_lexer.specs.declared.parts.Mode.TheVariants.{Before}
 use Rattle.pan_lexer.specs.declared.parts.SkipKind.{SkipKind}
-use Rattle.pan_lexer.specs.declared.parts.Front.{Front}
-use Rattle.pan_lexer.specs.declared.parts.Front.TheVariants.{Skip, Written, Int, Text, Document}
+use Rattle.pan_lexer.specs.Parts.{Front, Skip, Written, Int, Text, Document}
 
 -- an octal or decimal form of n digits, with its base
 pub data IsPlain : ℕ → List ℕ → ℕ → Type 0 where

@@ -3,13 +3,10 @@
 use Rattle.std.specs.Prelude.{ℕ, zero, suc, ◌+◌, ◌*◌, ◌/◌, ◌%◌, ◌^◌, Bool, true, false, not, ◌||◌, ◌&&◌, ◌==◌, nat_lt, ◌≤◌, if◌then◌else◌, List, [], ◌∷◌, ◌++◌, Option, Some, None, fold, take, drop, length}
 use Rattle.std.specs.List.{prefix_len, starts_with}
 use Rattle.pan_lexer.specs.Bytes.{is_digit, is_octal, is_word_start, is_word_byte, is_name_byte, is_hex, is_tab, is_blank, is_in_comment, is_in_annotation, is_single_sign, may_have_equals, may_be_doubled, starts, starts_twice, begins, digit_value}
-use Rattle.pan_lexer.specs.declared.parts.Front.{Front}
-use Rattle.pan_lexer.specs.declared.parts.Front.TheVariants.{Skip, Written, Int, Text, Document, Bad}
+use Rattle.pan_lexer.specs.Parts.{Front, Skip, Written, Int, Text, Document, Bad, Quoted, Closed, Open, BadAt}
 use Rattle.pan_ast.specs.declared.fault.Code.TheVariants.{BadCharacter, OpenText, Double, IntegerTooLarge}
 use Rattle.pan_ast.specs.declared.token.TokenKind.TheVariants as kinds
 use Rattle.pan_lexer.specs.declared.parts.SkipKind.TheVariants.{Blank, Comment, Annotation}
-use Rattle.pan_lexer.specs.declared.parts.Quoted.{Quoted}
-use Rattle.pan_lexer.specs.declared.parts.Quoted.TheVariants.{Closed, Open, BadAt}
 
 -- Annotations. What is left after the `@` and the n bytes before the `{`
 abbrev pub annotation_body : ℕ → List ℕ → Front

@@ -13,8 +13,7 @@ use Rattle.pan_lexer.specs.Fronts.{front}
 use Rattle.pan_lexer.specs.declared.parts.At.{At}
 use Rattle.pan_lexer.specs.declared.parts.Mode.{Mode}
 use Rattle.pan_lexer.specs.declared.parts.Mode.TheVariants.{Before, Naming, After}
-use Rattle.pan_lexer.specs.declared.parts.Front.{Front}
-use Rattle.pan_lexer.specs.declared.parts.Front.TheVariants.{Skip, Written, Int, Text, Document, Bad}
+use Rattle.pan_lexer.specs.Parts.{Front, Skip, Written, Int, Text, Document, Bad}
 
 -- A line feed begins a line. A byte from 128 to 191 goes on with a character.
 abbrev pub advance : At → ℕ → At

@@ -1,7 +1,9 @@
 pub mod Bytes
 pub mod Parts
 pub mod Fronts
+pub mod Views
 pub mod Lexed
+pub mod Lines
 pub mod Answers
 pub mod Tokens
 pub mod Spelled

@@ -3,8 +3,7 @@ use Rattle.std.specs.Prelude.{ℕ, zero, suc, ◌+◌, Bool, false, not, ◌&&�
 use Rattle.std.specs.List.{starts_with, prefix_len}
 use Rattle.pan_lexer.specs.Bytes.{is_word_byte, is_blank, is_in_comment, begins}
 use Rattle.pan_lexer.specs.Fronts.{annotation}
-use Rattle.pan_lexer.specs.declared.parts.Front.{Front}
-use Rattle.pan_lexer.specs.declared.parts.Front.TheVariants.{Skip, Written, Int, Text, Document, Bad}
+use Rattle.pan_lexer.specs.Parts.{Front, Skip, Written, Int, Text, Document, Bad}
 
 -- the bytes `object`, not followed by a letter, digit or _
 abbrev pub begins_object : List ℕ → Bool

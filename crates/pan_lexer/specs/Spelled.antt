@@ -14,8 +14,7 @@ use Rattle.pan_lexer.specs.declared.parts.Mode.{Mode}
 use Rattle.pan_lexer.specs.declared.parts.Mode.TheVariants.{Before}
 use Rattle.pan_lexer.specs.declared.parts.SkipKind.{SkipKind}
 use Rattle.pan_lexer.specs.declared.parts.SkipKind.TheVariants.{Blank, Comment, Annotation}
-use Rattle.pan_lexer.specs.declared.parts.Front.{Front}
-use Rattle.pan_lexer.specs.declared.parts.Front.TheVariants.{Skip, Written, Int, Text, Document}
+use Rattle.pan_lexer.specs.Parts.{Front, Skip, Written, Int, Text, Document}
 
 -- n bytes pass the test, and the one behind them, if there is one, does not
 pub data IsRun (p : ℕ → Bool) : List ℕ → ℕ → Type 0 where

@@ -1,6 +1,6 @@
 ghost use Rattle.std.specs.Prelude.{◌≡◌, ◌<◌, ◌≤◌, ◌+◌, length, take, drop, IsTrue, true};
 ghost use Rattle.std.specs.List.{prefix_len};
-ghost use Rattle.pan_lexer.specs.Bytes.{between, is_digit, is_octal, is_letter, is_word_start, is_word_byte, is_name_byte, is_hex, is_tab, is_blank, is_in_comment, is_in_annotation, is_single_sign, may_have_equals, may_be_doubled, starts, starts_twice, begins, digit_value};
+ghost use Rattle.pan_lexer.specs.Bytes.{is_digit, is_octal, is_word_start, is_word_byte, is_name_byte, is_hex, is_tab, is_blank, is_in_comment, is_in_annotation, is_single_sign, may_have_equals, may_be_doubled, starts, starts_twice, begins, digit_value};
 
 /// The bytes from n on.
 pub fn behind(bytes: &[u8], n: usize) -> &[u8]
@@ -20,89 +20,73 @@ pub fn front_of(bytes: &[u8], n: usize) -> &[u8]
     &bytes[..n]
 }
 
-pub fn between(low: u8, high: u8, b: u8) -> bool
-    ensures { result ≡ between low high b }
-{
-    low <= b && b <= high
-}
-
 pub fn is_digit(b: u8) -> bool
     ensures { result ≡ is_digit b }
 {
-    between(b'0', b'9', b)
+    matches!(b, b'0'..=b'9')
 }
 
 pub fn is_octal(b: u8) -> bool
     ensures { result ≡ is_octal b }
 {
-    between(b'0', b'7', b)
-}
-
-pub fn is_letter(b: u8) -> bool
-    ensures { result ≡ is_letter b }
-{
-    between(b'A', b'Z', b) || between(b'a', b'z', b)
+    matches!(b, b'0'..=b'7')
 }
 
 pub fn is_word_start(b: u8) -> bool
     ensures { result ≡ is_word_start b }
 {
-    b == b'_' || is_letter(b)
+    matches!(b, b'_' | b'A'..=b'Z' | b'a'..=b'z')
 }
 
 pub fn is_word_byte(b: u8) -> bool
     ensures { result ≡ is_word_byte b }
 {
-    is_word_start(b) || is_digit(b)
+    matches!(b, b'_' | b'A'..=b'Z' | b'a'..=b'z' | b'0'..=b'9')
 }
 
 pub fn is_name_byte(b: u8) -> bool
     ensures { result ≡ is_name_byte b }
 {
-    is_word_byte(b) || between(b'-', b'/', b) || b == b'+'
+    matches!(b, b'_' | b'A'..=b'Z' | b'a'..=b'z' | b'0'..=b'9' | b'-'..=b'/' | b'+')
 }
 
 pub fn is_hex(b: u8) -> bool
     ensures { result ≡ is_hex b }
 {
-    is_digit(b) || between(b'A', b'F', b) || between(b'a', b'f', b)
+    matches!(b, b'0'..=b'9' | b'A'..=b'F' | b'a'..=b'f')
 }
 
 pub fn is_tab(b: u8) -> bool
     ensures { result ≡ is_tab b }
 {
-    b == b' ' || b == 9
+    matches!(b, b' ' | b'\t')
 }
 
 pub fn is_blank(b: u8) -> bool
     ensures { result ≡ is_blank b }
 {
-    is_tab(b) || b == 13 || b == 10
+    matches!(b, b' ' | b'\t' | b'\r' | b'\n')
 }
 
 pub fn is_single_sign(b: u8) -> bool
     ensures { result ≡ is_single_sign b }
 {
-    between(40, 45, b)
-        || b == b'/'
-        || between(58, 59, b)
-        || b == b'%'
-        || b == b'['
-        || between(93, 94, b)
-        || b == b'{'
-        || between(125, 126, b)
+    matches!(
+        b,
+        b'('..=b'-' | b'/' | b':'..=b';' | b'%' | b'[' | b']'..=b'^' | b'{' | b'}'..=b'~'
+    )
 }
 
 pub fn may_have_equals(b: u8) -> bool
     ensures { result ≡ may_have_equals b }
 {
-    between(60, 63, b) || b == b'!'
+    matches!(b, b'<'..=b'?' | b'!')
 }
 
 pub fn may_be_doubled(b: u8) -> bool
     ensures { result ≡ may_be_doubled b }
 {
-    b == b'&' || b == b'|'
+    matches!(b, b'&' | b'|')
 }
 
 pub fn starts(c: u8, bytes: &[u8]) -> bool

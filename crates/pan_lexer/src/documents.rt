@@ -2,6 +2,7 @@ ghost use Rattle.std.specs.Prelude.{◌≡◌, ◌≤◌, ◌<◌, ◌+◌, ◌^
 ghost use Rattle.std.specs.List.{prefix_len};
 ghost use Rattle.pan_lexer.specs.Bytes.{is_tab};
 ghost use Rattle.pan_lexer.specs.Fronts.{label_end, label_line, lines, line_end, document, document_lines, document_of, Fits};
+ghost use Rattle.pan_lexer.specs.Views.{as_front};
 
 use crate::bytes::{begins_word, behind, starts, tab_len, word_len};
 use crate::parts::{Front, Value};
@@ -80,11 +81,11 @@ fn line_end(bytes: &[u8]) -> Option<usize>
 fn document_of<'a>(label: &[u8], gap: usize, bytes: &'a [u8]) -> Front<'a>
     requires label { length label.now < 2 ^ 32 }
     requires gap { gap + length bytes.now < 2 ^ 32 }
-    ensures value { result ≡ document_of (length label.now) gap bytes.now (lines label.now true bytes.now) }
-    ensures fits { Fits (length label.now + 3 + gap + length bytes.now) result }
+    ensures value { as_front result ≡ document_of (length label.now) gap bytes.now (lines label.now true bytes.now) }
+    ensures fits { Fits (length label.now + 3 + gap + length bytes.now) (as_front result) }
 {
     match lines(label, bytes) {
-        Some((n, k)) => { Front::Document(Value::part(&bytes[..n]), label.len() + 2, gap + n + k) }
+        Some((n, k)) => { Front::Document(Value::Plain(&bytes[..n]), label.len() + 2, gap + n + k) }
         None => Front::Bad(Code::OpenText, 0),
     }
 }
@@ -93,8 +94,8 @@ fn document_of<'a>(label: &[u8], gap: usize, bytes: &'a [u8]) -> Front<'a>
 fn document_lines<'a>(label: &[u8], bytes: &'a [u8]) -> Front<'a>
     requires label { length label.now < 2 ^ 32 }
     requires bytes { length bytes.now < 2 ^ 32 }
-    ensures value { result ≡ document_lines label.now (prefix_len is_tab bytes.now) bytes.now }
-    ensures fits { Fits (length label.now + 3 + length bytes.now) result }
+    ensures value { as_front result ≡ document_lines label.now (prefix_len is_tab bytes.now) bytes.now }
+    ensures fits { Fits (length label.now + 3 + length bytes.now) (as_front result) }
 {
     let gap = tab_len(bytes);
     match line_end(&bytes[gap..]) {
@@ -106,8 +107,8 @@ fn document_lines<'a>(label: &[u8], bytes: &'a [u8]) -> Front<'a>
 /// A here-document, after its `<<`.
 pub fn document(bytes: &[u8]) -> Front<'_>
     requires { length bytes.now < 2 ^ 32 }
-    ensures value { result ≡ document bytes.now }
-    ensures fits { Fits (2 + length bytes.now) result }
+    ensures value { as_front result ≡ document bytes.now }
+    ensures fits { Fits (2 + length bytes.now) (as_front result) }
 {
     let n = word_len(bytes);
     if begins_word(bytes) && starts(b';', &bytes[n..]) {

@@ -1,6 +1,7 @@
-ghost use Rattle.std.specs.Prelude.{◌≡◌, ◌≤◌, ◌<◌, ◌^◌, length, drop, if◌then◌else◌, IfOk};
+ghost use Rattle.std.specs.Prelude.{◌≡◌, ◌≤◌, ◌<◌, ◌^◌, length, drop, if◌then◌else◌};
 ghost use Rattle.pan_lexer.specs.Bytes.{starts_twice};
 ghost use Rattle.pan_lexer.specs.Fronts.{sign_len, sign, document, front, Fits};
+ghost use Rattle.pan_lexer.specs.Views.{as_front};
 
 use crate::annotations::annotation;
 use crate::bytes::{
@@ -12,7 +13,6 @@ use crate::numbers::int;
 use crate::parts::{Front, SkipKind};
 use crate::texts::{double, single, text_of};
 use pan_ast::{Code, TokenKind};
-use std::alloc::{AllocError, Global};
 
 /// The bytes of a sign, and 0 for none.
 fn sign_len(bytes: &[u8]) -> usize
@@ -37,8 +37,8 @@ fn sign_len(bytes: &[u8]) -> usize
 
 /// A sign.
 fn sign(bytes: &[u8]) -> Front<'_>
-    ensures value { result ≡ sign bytes.now }
-    ensures fits { Fits (length bytes.now) result }
+    ensures value { as_front result ≡ sign bytes.now }
+    ensures fits { Fits (length bytes.now) (as_front result) }
 {
     let n = sign_len(bytes);
     if n == 0 {
@@ -52,8 +52,8 @@ fn sign(bytes: &[u8]) -> Front<'_>
 #[tactic(auto, using(crate::proofs::Runs::twice_within))]
 fn document_or_sign(bytes: &[u8]) -> Front<'_>
     requires { length bytes.now < 2 ^ 32 }
-    ensures value { result ≡ (if starts_twice 60 bytes.now then document (drop 2 bytes.now) else sign bytes.now) }
-    ensures fits { Fits (length bytes.now) result }
+    ensures value { as_front result ≡ (if starts_twice 60 bytes.now then document (drop 2 bytes.now) else sign bytes.now) }
+    ensures fits { Fits (length bytes.now) (as_front result) }
 {
     if starts_twice(b'<', bytes) {
         document(behind(bytes, 2))
@@ -63,32 +63,32 @@ fn document_or_sign(bytes: &[u8]) -> Front<'_>
 }
 
 /// What stands at the front of a text, where a Name may stand or where it may not.
-pub fn front(alloc: Global, naming: bool, bytes: &[u8]) -> Result<Front<'_>, AllocError>
+pub fn front(naming: bool, bytes: &[u8]) -> Front<'_>
     requires { length bytes.now < 2 ^ 31 }
-    ensures value { IfOk result (λ f. f ≡ front naming bytes.now) }
-    ensures fits { IfOk result (λ f. Fits (length bytes.now) f) }
+    ensures value { as_front result ≡ front naming bytes.now }
+    ensures fits { Fits (length bytes.now) (as_front result) }
 {
     let [first, rest @ ..] = bytes else {
-        return Ok(Front::Bad(Code::BadCharacter, 0));
+        return Front::Bad(Code::BadCharacter, 0);
     };
     let first = *first;
     if is_blank(first) {
-        Ok(Front::Skip(SkipKind::Blank, 1 + blank_len(rest)))
+        Front::Skip(SkipKind::Blank, 1 + blank_len(rest))
     } else if first == b'#' {
-        Ok(Front::Skip(SkipKind::Comment, 1 + comment_len(rest)))
+        Front::Skip(SkipKind::Comment, 1 + comment_len(rest))
     } else if first == b'@' {
-        Ok(annotation(rest))
+        annotation(rest)
     } else if naming && is_name_byte(first) {
-        Ok(Front::Written(TokenKind::Name, 1 + name_len(rest)))
+        Front::Written(TokenKind::Name, 1 + name_len(rest))
     } else if is_word_start(first) {
-        Ok(Front::Written(TokenKind::Word, 1 + word_len(rest)))
+        Front::Written(TokenKind::Word, 1 + word_len(rest))
     } else if is_digit(first) {
-        Ok(int(bytes))
+        int(bytes)
     } else if first == b'\'' {
-        Ok(text_of(single(alloc, rest)?, rest))
+        text_of(single(rest), rest)
     } else if first == b'"' {
-        Ok(text_of(double(alloc, rest)?, rest))
+        text_of(double(rest), rest)
     } else {
-        Ok(document_or_sign(bytes))
+        document_or_sign(bytes)
     }
 }

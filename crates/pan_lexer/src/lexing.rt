@@ -1,6 +1,7 @@
 ghost use Rattle.std.specs.Prelude.{◌≡◌, ◌≤◌, ◌<◌, ◌+◌, ◌^◌, length, IfOk, List, IsUtf8};
 ghost use Rattle.pan_ast.specs.Sorts.{EndsInEnd};
 ghost use Rattle.pan_lexer.specs.Lexed.{place_after, is_naming, is_template, mode_after, lexed, lexed_file, origin};
+ghost use Rattle.pan_lexer.specs.Lines.{IsOneLine};
 ghost use Rattle.pan_lexer.specs.Answers.{Gives, OnFault};
 ghost use Rattle.pan_lexer.specs.Faulty.{Faulty};
 ghost use Rattle.pan_lexer.specs.Spelled.{Spelled};
@@ -79,6 +80,25 @@ fn passed(at: At, bytes: &[u8]) -> At
     }
 }
 
+/// The place after some bytes that stand on one line: a word, a name, a number or a sign.
+#[tactic(auto, using(crate::proofs::OneLine::line_place))]
+fn passed_on_line(at: At, bytes: &[u8]) -> At
+    requires start { at.start + length bytes.now < 2 ^ 31 }
+    requires line { at.line ≤ 1 + at.start }
+    requires column { at.column ≤ 1 + at.start }
+    requires one_line { IsOneLine bytes.now }
+    ensures value { result ≡ place_after at bytes.now }
+    ensures start { result.start ≡ at.start + length bytes.now }
+    ensures line { result.line ≤ 1 + result.start }
+    ensures column { result.column ≤ 1 + result.start }
+{
+    At {
+        start: at.start + bytes.len(),
+        line: at.line,
+        column: at.column + bytes.len() as u32,
+    }
+}
+
 fn is_template(word: &[u8]) -> bool
     ensures { result ≡ is_template word.now }
 {
@@ -122,7 +142,7 @@ fn tokens_of(alloc: Global, bytes: &[u8], file: &Text) -> Result<Seq<Token>, Lex
     let mut mode = Mode::Before;
     'pieces: while at.start < bytes.len() {
         let rest = behind(bytes, at.start);
-        match front(alloc, is_naming(mode), rest)? {
+        match front(is_naming(mode), rest) {
             Front::Skip(_, n) => {
                 at = passed(at, front_of(rest, n));
             }
@@ -130,12 +150,12 @@ fn tokens_of(alloc: Global, bytes: &[u8], file: &Text) -> Result<Seq<Token>, Lex
                 let word = front_of(rest, n);
                 tokens.push(written_token(alloc, &whole, file, kind, at, word)?)?;
                 mode = mode_after(mode, kind, word);
-                at = passed(at, word);
+                at = passed_on_line(at, word);
             }
             Front::Int(value, n) => {
                 tokens.push(int_token(alloc, &whole, file, at, n, value)?)?;
                 mode = mode_after(mode, TokenKind::Int, &[]);
-                at = passed(at, front_of(rest, n));
+                at = passed_on_line(at, front_of(rest, n));
             }
             Front::Text(value, n) => {
                 tokens.push(text_token(alloc, &whole, file, at, n, value)?)?;

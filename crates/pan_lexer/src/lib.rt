@@ -2,7 +2,8 @@
 //!
 //! The lexical rules stand in specs/: `Spelled` says which tokens a file spells, and `Faulty` which fault it has,
 //! both by what may stand at the front of a text. `Fronts` and `Lexed` say the same as functions, which the code
-//! follows; `Tokens` says what a reader of the tokens builds on.
+//! follows, and `Views` what the values of the code stand for there; `Tokens` says what a reader of the tokens
+//! builds on.
 //!
 //! In reading order: `parts` (what the parts hand on to each other), `bytes` (kinds of bytes and runs of them),
 //! `annotations`, `numbers`, `texts` and `documents` (the longer pieces), `fronts` (what stands at the front of

@@ -2,6 +2,7 @@ ghost use Rattle.std.specs.Prelude.{◌≡◌, ◌≤◌, ◌<◌, ◌+◌, ◌^
 ghost use Rattle.std.specs.List.{prefix_len};
 ghost use Rattle.pan_lexer.specs.Bytes.{is_digit, is_octal, is_hex, begins};
 ghost use Rattle.pan_lexer.specs.Fronts.{digits_value, small, ended_int, is_double, plain_int, hex_int, octal_int, int, Fits};
+ghost use Rattle.pan_lexer.specs.Views.{as_front};
 
 use crate::bytes::{begins_word, digit_value, digits_len, hex_len, octal_len, starts};
 use crate::parts::Front;
@@ -36,8 +37,8 @@ fn number(base: u64, digits: &[u8]) -> Option<u64>
 /// An Int of n bytes and of this value, if nothing behind it forbids it.
 fn ended_int(value: Option<u64>, n: usize, rest: &[u8]) -> Front<'_>
     requires { 1 ≤ n }
-    ensures value { result ≡ ended_int value n rest.now }
-    ensures fits { Fits (n + length rest.now) result }
+    ensures value { as_front result ≡ ended_int value n rest.now }
+    ensures fits { Fits (n + length rest.now) (as_front result) }
 {
     match value {
         Some(value) => {
@@ -56,8 +57,8 @@ fn plain_int(base: u64, n: usize, bytes: &[u8]) -> Front<'_>
     requires base { 1 ≤ base }
     requires some { 1 ≤ n }
     requires within { n ≤ length bytes.now }
-    ensures value { result ≡ plain_int base n bytes.now }
-    ensures fits { Fits (length bytes.now) result }
+    ensures value { as_front result ≡ plain_int base n bytes.now }
+    ensures fits { Fits (length bytes.now) (as_front result) }
 {
     let rest = &bytes[n..];
     if is_double(rest) {
@@ -70,8 +71,8 @@ fn plain_int(base: u64, n: usize, bytes: &[u8]) -> Front<'_>
 /// A hexadecimal form, after its `0x`.
 fn hex_int(bytes: &[u8]) -> Front<'_>
     requires { length bytes.now < 2 ^ 32 }
-    ensures value { result ≡ hex_int (prefix_len is_hex bytes.now) bytes.now }
-    ensures fits { Fits (2 + length bytes.now) result }
+    ensures value { as_front result ≡ hex_int (prefix_len is_hex bytes.now) bytes.now }
+    ensures fits { Fits (2 + length bytes.now) (as_front result) }
 {
     let n = hex_len(bytes);
     if n == 0 {
@@ -84,8 +85,8 @@ fn hex_int(bytes: &[u8]) -> Front<'_>
 /// A form that begins with `0` and is not hexadecimal.
 fn octal_int(bytes: &[u8]) -> Front<'_>
     requires { begins is_digit bytes.now ≡ true }
-    ensures value { result ≡ octal_int (prefix_len is_digit bytes.now) (prefix_len is_octal bytes.now) bytes.now }
-    ensures fits { Fits (length bytes.now) result }
+    ensures value { as_front result ≡ octal_int (prefix_len is_digit bytes.now) (prefix_len is_octal bytes.now) bytes.now }
+    ensures fits { Fits (length bytes.now) (as_front result) }
 {
     let n = digits_len(bytes);
     let octal = octal_len(bytes);
@@ -100,8 +101,8 @@ fn octal_int(bytes: &[u8]) -> Front<'_>
 pub fn int(bytes: &[u8]) -> Front<'_>
     requires length { length bytes.now < 2 ^ 32 }
     requires some { begins is_digit bytes.now ≡ true }
-    ensures value { result ≡ int bytes.now }
-    ensures fits { Fits (length bytes.now) result }
+    ensures value { as_front result ≡ int bytes.now }
+    ensures fits { Fits (length bytes.now) (as_front result) }
 {
     if starts(b'0', bytes) {
         if starts(b'x', &bytes[1..]) {

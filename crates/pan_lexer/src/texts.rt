@@ -2,11 +2,11 @@ ghost use Rattle.std.specs.Prelude.{◌≡◌, ◌≤◌, ◌<◌, ◌+◌, ◌^
 ghost use Rattle.std.specs.List.{prefix_len};
 ghost use Rattle.pan_lexer.specs.Bytes.{is_in_single, is_in_double};
 ghost use Rattle.pan_lexer.specs.Fronts.{single, double, escape_of, hex_pair, escape, encoded, text_of, QuotedFits, Fits};
+ghost use Rattle.pan_lexer.specs.Views.{closed_value, as_front, as_quoted};
 
 use crate::bytes::{behind, front_of, hex_value, is_hex, starts, starts_twice};
 use crate::parts::{Front, Quoted, Value};
 use pan_ast::Code;
-use small_types::Bytes;
 use std::alloc::{AllocError, Global};
 
 #[tactic(auto, using(crate::proofs::Runs::run_within))]
@@ -29,25 +29,42 @@ fn double_len(bytes: &[u8]) -> usize
 }
 
 /// A single-quoted text, after its opening quote. Two quotes in it stand for one.
-pub fn single(alloc: Global, bytes: &[u8]) -> Result<Quoted<'_>, AllocError>
-    ensures value { IfOk result (λ q. q ≡ single bytes.now) }
-    ensures fits { IfOk result (λ q. QuotedFits (length bytes.now) q) }
+pub fn single(bytes: &[u8]) -> Quoted<'_>
+    ensures value { as_quoted result ≡ single bytes.now }
+    ensures fits { QuotedFits (length bytes.now) (as_quoted result) }
 {
     let n = single_len(bytes);
     let rest = behind(bytes, n);
     if starts_twice(b'\'', rest) {
-        single_with_quotes(alloc, bytes)
+        single_with_quotes(bytes)
     } else if starts(b'\'', rest) {
-        Ok(Quoted::Closed(Value::part(front_of(bytes, n)), n + 1))
+        Quoted::Closed(Value::Plain(front_of(bytes, n)), n + 1)
     } else {
-        Ok(Quoted::Open)
+        Quoted::Open
     }
 }
 
 /// The same for a text that may have two quotes in it.
-fn single_with_quotes(alloc: Global, bytes: &[u8]) -> Result<Quoted<'_>, AllocError>
-    ensures value { IfOk result (λ q. q ≡ single bytes.now) }
-    ensures fits { IfOk result (λ q. QuotedFits (length bytes.now) q) }
+fn single_with_quotes(bytes: &[u8]) -> Quoted<'_>
+    ensures value { as_quoted result ≡ single bytes.now }
+    ensures fits { QuotedFits (length bytes.now) (as_quoted result) }
+{
+    let mut i = 0;
+    while i < bytes.len() {
+        if bytes[i] != b'\'' {
+            i += 1;
+        } else if starts(b'\'', behind(bytes, i + 1)) {
+            i += 2;
+        } else {
+            return Quoted::Closed(Value::Single(bytes), i + 1);
+        }
+    }
+    Quoted::Open
+}
+
+/// The value of a single-quoted text, from behind its opening quote on. One that is not closed has none.
+pub fn single_value(alloc: Global, bytes: &[u8]) -> Result<Vec<u8>, AllocError>
+    ensures { IfOk result (λ v. v.items ≡ closed_value (single bytes.now)) }
 {
     let mut value = Vec::new(alloc);
     let mut i = 0;
@@ -59,10 +76,10 @@ fn single_with_quotes(alloc: Global, bytes: &[u8]) -> Result<Quoted<'_>, AllocEr
             value.push(b'\'')?;
             i += 2;
         } else {
-            return Ok(Quoted::Closed(Value::made(Bytes::from_vec(value)), i + 1));
+            return Ok(value);
         }
     }
-    Ok(Quoted::Open)
+    Ok(Vec::new(alloc))
 }
 
 /// The character that a letter after a backslash stands for.
@@ -136,32 +153,54 @@ fn push_encoded(value: &mut Vec<u8>, c: u8) -> Result<(), AllocError>
 }
 
 /// A double-quoted text, after its opening quote.
-pub fn double(alloc: Global, bytes: &[u8]) -> Result<Quoted<'_>, AllocError>
-    ensures value { IfOk result (λ q. q ≡ double 0 bytes.now) }
-    ensures fits { IfOk result (λ q. QuotedFits (length bytes.now) q) }
+pub fn double(bytes: &[u8]) -> Quoted<'_>
+    ensures value { as_quoted result ≡ double 0 bytes.now }
+    ensures fits { QuotedFits (length bytes.now) (as_quoted result) }
 {
     let n = double_len(bytes);
     if starts(b'"', behind(bytes, n)) {
-        Ok(Quoted::Closed(Value::part(front_of(bytes, n)), n + 1))
+        Quoted::Closed(Value::Plain(front_of(bytes, n)), n + 1)
     } else {
-        double_with_escapes(alloc, bytes)
+        double_with_escapes(bytes)
     }
 }
 
 /// The same for a text that may have escapes in it.
-fn double_with_escapes(alloc: Global, bytes: &[u8]) -> Result<Quoted<'_>, AllocError>
-    ensures value { IfOk result (λ q. q ≡ double 0 bytes.now) }
-    ensures fits { IfOk result (λ q. QuotedFits (length bytes.now) q) }
+fn double_with_escapes(bytes: &[u8]) -> Quoted<'_>
+    ensures value { as_quoted result ≡ double 0 bytes.now }
+    ensures fits { QuotedFits (length bytes.now) (as_quoted result) }
+{
+    let mut i = 0;
+    while i < bytes.len() {
+        if bytes[i] == b'"' {
+            return Quoted::Closed(Value::Double(bytes), i + 1);
+        }
+        if bytes[i] == b'\\' {
+            let Some((_, n)) = escape(behind(bytes, i + 1)) else {
+                return Quoted::BadAt(i);
+            };
+            i += 1 + n;
+        } else {
+            i += 1;
+        }
+    }
+    Quoted::Open
+}
+
+/// The value of a double-quoted text, from behind its opening quote on. One that is not closed, or has a bad escape,
+/// has none.
+pub fn double_value(alloc: Global, bytes: &[u8]) -> Result<Vec<u8>, AllocError>
+    ensures { IfOk result (λ v. v.items ≡ closed_value (double 0 bytes.now)) }
 {
     let mut value = Vec::new(alloc);
     let mut i = 0;
     while i < bytes.len() {
         if bytes[i] == b'"' {
-            return Ok(Quoted::Closed(Value::made(Bytes::from_vec(value)), i + 1));
+            return Ok(value);
         }
         if bytes[i] == b'\\' {
             let Some((c, n)) = escape(behind(bytes, i + 1)) else {
-                return Ok(Quoted::BadAt(i));
+                return Ok(Vec::new(alloc));
             };
             push_encoded(&mut value, c)?;
             i += 1 + n;
@@ -170,15 +209,15 @@ fn double_with_escapes(alloc: Global, bytes: &[u8]) -> Result<Quoted<'_>, AllocE
             i += 1;
         }
     }
-    Ok(Quoted::Open)
+    Ok(Vec::new(alloc))
 }
 
 /// A text, from its opening quote on; `bytes` are those behind that quote.
 pub fn text_of<'a>(quoted: Quoted<'a>, bytes: &'a [u8]) -> Front<'a>
-    requires quoted { QuotedFits (length bytes.now) quoted }
+    requires quoted { QuotedFits (length bytes.now) (as_quoted quoted) }
     requires length { length bytes.now < 2 ^ 31 }
-    ensures value { result ≡ text_of quoted.entry }
-    ensures fits { Fits (1 + length bytes.now) result }
+    ensures value { as_front result ≡ text_of (as_quoted quoted.entry) }
+    ensures fits { Fits (1 + length bytes.now) (as_front result) }
 {
     match quoted {
         Quoted::Closed(value, n) => Front::Text(value, n + 1),

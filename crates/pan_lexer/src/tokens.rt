@@ -1,7 +1,9 @@
 ghost use Rattle.std.specs.Prelude.{◌≡◌, ◌<◌, ◌+◌, ◌^◌, IfOk, decimal, IsUtf8, length};
 ghost use Rattle.pan_lexer.specs.Lexed.{place_in, token, fault};
+ghost use Rattle.pan_lexer.specs.Views.{as_value};
 
 use crate::parts::{At, Value};
+use crate::texts::{double_value, single_value};
 use itoa::Buffer;
 use pan_ast::{Code, Fault, Place, Token, TokenKind};
 use small_types::Text;
@@ -59,7 +61,30 @@ pub fn written_token(
     token(file, kind, at, word.len(), value)
 }
 
-/// A Text of n bytes and of this value, which stands behind its quote where it has no escapes.
+/// The value of a Text, which stands behind the quote at `start` where it is written plainly.
+fn text_value(
+    alloc: Global,
+    whole: &Text,
+    start: usize,
+    value: Value<'_>,
+) -> Result<Text, AllocError>
+    requires { IsUtf8 (as_value value) }
+    ensures { IfOk result (λ t. t ≡ as_value value.entry) }
+{
+    match value {
+        Value::Plain(bytes) => whole.part(alloc, start.saturating_add(1), as_text(bytes)),
+        Value::Single(bytes) => {
+            let value = single_value(alloc, bytes)?;
+            Text::new(alloc, as_text(value.as_slice()))
+        }
+        Value::Double(bytes) => {
+            let value = double_value(alloc, bytes)?;
+            Text::new(alloc, as_text(value.as_slice()))
+        }
+    }
+}
+
+/// A Text of n bytes and of this value.
 pub fn text_token(
     alloc: Global,
     whole: &Text,
@@ -69,10 +94,10 @@ pub fn text_token(
     value: Value<'_>,
 ) -> Result<Token, AllocError>
     requires end { at.start + n < 2 ^ 64 }
-    requires text { IsUtf8 value }
-    ensures { IfOk result (λ t. t ≡ token file.now TokenKind.Text at n value.entry) }
+    requires text { IsUtf8 (as_value value) }
+    ensures { IfOk result (λ t. t ≡ token file.now TokenKind.Text at n (as_value value.entry)) }
 {
-    let value = whole.part(alloc, at.start.saturating_add(1), as_text(value.as_slice()))?;
+    let value = text_value(alloc, whole, at.start, value)?;
     token(file, TokenKind::Text, at, n, value)
 }
 

@@ -1,5 +1,6 @@
 ghost use Rattle.std.specs.Prelude.{◌≡◌, ◌≤◌, ◌++◌, [], true, length, IfSome, IfOk, OnOk, map, count_by, option_map};
 ghost use Rattle.outside.specs.Files.{has_short_content, are_short};
+ghost use Rattle.pan_top.specs.Objects.{file_of};
 ghost use Rattle.pan_top.specs.Answers.{Object, object_of, is_object_file, with_outcome, answer_of, answers_of, wants_with, wants_of, is_fault};
 
 use crate::compile::{Outcome, compile};
@@ -28,6 +29,7 @@ struct Object<'a> {
 /// The object that a file is the template of.
 fn object_in(file: &PictureFile) -> Option<Object<'_>>
     ensures object { option_map (λ o. record { name = o.name.now; text = o.text.now }) result ≡ object_of file.now }
+    ensures named { IfSome result (λ o. file.now.name ≡ file_of o.name.now) }
     ensures short { has_short_content file.now.content ≡ true → IfSome result (λ o. length o.text.now ≤ 1000000) }
 {
     let Some(name) = file.name.as_str().strip_suffix(".pan") else {
@@ -70,8 +72,8 @@ fn add_outcome(
     let Some(object) = object_in(file) else {
         return Ok(());
     };
-    let outcome = compile(alloc, object.name, object.text)?;
-    outcomes.insert(Text::new(alloc, object.name)?, outcome)?;
+    let outcome = compile(alloc, &file.name, object.name, object.text)?;
+    outcomes.insert(file.name.part(alloc, 0, object.name)?, outcome)?;
     Ok(())
 }
 

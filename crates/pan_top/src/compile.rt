@@ -170,12 +170,6 @@ fn tree_of(alloc: Global, name: &str, file: &Text, text: &[u8]) -> Result<Tree, 
     tree_of_template(alloc, name, &template)
 }
 
-fn file_of(alloc: Global, name: &str) -> Result<Text, AllocError>
-    ensures { IfOk result (λ file. file ≡ file_of name.now) }
-{
-    Text::joined(alloc, name, ".pan")
-}
-
 /// The lines of an object's dependency file.
 fn dependencies_of(alloc: Global, file: &str) -> Result<Bytes, AllocError>
     ensures { IfOk result (λ lines. lines ≡ codes "template " ++ file.now ++ codes "\n") }
@@ -188,13 +182,18 @@ fn dependencies_of(alloc: Global, file: &str) -> Result<Bytes, AllocError>
     Ok(Bytes::from_vec(lines))
 }
 
-/// Compiles an object.
-pub fn compile(alloc: Global, name: &str, text: &[u8]) -> Result<Outcome, AllocError>
-    requires { length text.now ≤ 1000000 }
+/// Compiles the object of this name, whose template is the text of this file.
+pub fn compile(
+    alloc: Global,
+    file: &Text,
+    name: &str,
+    text: &[u8],
+) -> Result<Outcome, AllocError>
+    requires file { file.now ≡ file_of name.now }
+    requires short { length text.now ≤ 1000000 }
     ensures { IfOk result (λ o. o ≡ outcome_of name.now text.now) }
 {
-    let file = file_of(alloc, name)?;
-    match tree_of(alloc, name, &file, text) {
+    match tree_of(alloc, name, file, text) {
         Ok(tree) => {
             let profile = Bytes::from_vec(profile_text(alloc, &tree)?);
             Ok(Outcome::Profile(profile, dependencies_of(alloc, file.as_str())?))

@@ -64,7 +64,11 @@ pub(crate) fn is_digit(c: u8) -> bool
 pub(crate) fn is_key_byte(c: u8) -> bool
     ensures { result ≡ is_key_byte c }
 {
-    matches!(c, b'A'..=b'Z' | b'a'..=b'z' | b'0'..=b'9' | b'_' | b'.' | b'+' | b'-')
+    // Most bytes of keys are small letters.
+    if matches!(c, b'a'..=b'z') {
+        return true;
+    }
+    matches!(c, b'0'..=b'9' | b'A'..=b'Z' | b'_' | b'-' | b'.' | b'+')
 }
 
 pub(crate) fn are_key_bytes(bytes: &[u8]) -> bool
