@@ -6,11 +6,6 @@ use Rattle.std.proofs.lemmas.Slice.Eq.{bytes_eq-Decides}
 use Rattle.outside.specs.declared.sure_shelf.Held.{Held}
 use Rattle.outside.specs.Kept.{kept, without}
 
-eq_by : (a b : List ℕ) (r s : Bool) → bytes_eq a b ≡ r → bytes_eq b a ≡ s → r ≡ s
-eq_by a b true s is back = sym ((bytes_eq-Decides b a).1 (sym ((bytes_eq-Decides a b).0 is))) ∙ back
-eq_by a b false true is back = sym is ∙ (bytes_eq-Decides a b).1 (sym ((bytes_eq-Decides b a).0 back))
-eq_by a b false false is back = refl
-
 -- x: the entry has the name m; y: the name asked for is m; z: the entry has the name asked for
 taken_by : (h : Held) (m n : List ℕ) (hs : List Held) (tail : List Held) (last : Option (List ℕ)) (x y z : Bool) → bytes_eq h.name m ≡ x → bytes_eq m n ≡ y → bytes_eq h.name n ≡ z → kept (without m hs ++ tail) n ≡ (if y then last else kept hs n) → kept ((if x then without m hs else h ∷ without m hs) ++ tail) n ≡ (if y then last else (if z then Some h.bytes else kept hs n))
 taken_by h m n hs tail last true true z isx isy isz ih = ih

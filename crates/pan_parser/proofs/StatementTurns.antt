@@ -1,5 +1,5 @@
 -- Steps of the functions that read statements, as equations of whole readings.
-use Rattle.std.proofs.Common.{ℕ, ◌≡◌, ◌≢◌, Bool, true, false, List, [], ◌∷◌, ◌++◌, Some, None, Err, refl}
+use Rattle.std.proofs.Common.{ℕ, ◌≡◌, ◌≢◌, true, false, List, [], ◌∷◌, ◌++◌, Some, Err, refl}
 use Rattle.pan_ast.specs.declared.place.Place.{Place}
 use Rattle.pan_ast.specs.declared.sort.Sort.TheVariants as sorts
 use Rattle.pan_ast.specs.declared.template.TemplateKind.{TemplateKind}
@@ -9,10 +9,10 @@ use Rattle.pan_ast.specs.Sorts.{at, sort}
 use Rattle.pan_ast.specs.Templates.{Statement}
 use Rattle.pan_ast.specs.Types.{FullType}
 use Rattle.pan_grammar.specs.Grammar.{Tokens}
-use Rattle.pan_grammar.specs.Machine.{Bad, block_included_read, has_full, kind_read, name_wanted, path_read, run, setting_at, text_included_read, variable_read}
+use Rattle.pan_grammar.specs.Machine.{Bad, block_included_read, has_full, kind_read, name_wanted, run, setting_at, text_included_read}
 use Rattle.pan_grammar.specs.States.{Done, IncludeRead, Start, StatementType, Statements}
 use Rattle.pan_grammar.specs.Templates.{Header, kind_of, template}
-use Rattle.pan_grammar.proofs.Tests.{at_miss, at_true}
+use Rattle.pan_grammar.proofs.Tests.{at_miss}
 use Rattle.pan_parser.specs.Answers.{IsAt, NotAt, on_front}
 
 pub type_ends : (ts on : Tokens) (h : Header) (ss : List Statement) (make : FullType → Statement) (f : FullType) → IsAt sorts.Semicolon ts on → on_front (has_full (StatementType h ss make) f) ts ≡ run on (Statements h (ss ++ make f ∷ []))
@@ -27,18 +27,6 @@ text_included ts on first p h ss cut e = rw (cut, e) refl
 
 pub block_included : (ts on : Tokens) (first : Token) (p : Place) (h : Header) (ss : List Statement) → ts ≡ first ∷ on → sort first ≡ sorts.OpenBrace → run ts (IncludeRead p h ss) ≡ run on (block_included_read p h ss first)
 block_included ts on first p h ss cut e = rw (cut, e) refl
-
-pub include_stops : (ts on : Tokens) (first : Token) (p : Place) (h : Header) (ss : List Statement) → ts ≡ first ∷ on → sort first ≢ sorts.Text → sort first ≢ sorts.OpenBrace → run ts (IncludeRead p h ss) ≡ Err (Bad ts)
-include_stops ts on first p h ss cut a b = let x = at_miss sorts.Text (sort first) a in let y = at_miss sorts.OpenBrace (sort first) b in rw (cut, x, y) refl
-
-pub path_turns : (ts on : Tokens) (first : Token) (p : Place) (last : Bool) (h : Header) (ss : List Statement) → ts ≡ first ∷ on → sort first ≡ sorts.Text → on_front (setting_at p last h ss) ts ≡ run on (path_read p last h ss first)
-path_turns ts on first p last h ss cut e = rw (cut, e) refl
-
-pub variable_turns : (ts on : Tokens) (first : Token) (p : Place) (last : Bool) (h : Header) (ss : List Statement) → ts ≡ first ∷ on → sort first ≡ sorts.Variable → on_front (setting_at p last h ss) ts ≡ run on (variable_read p last h ss)
-variable_turns ts on first p last h ss cut e = rw (cut, e) refl
-
-pub setting_stops : (ts on : Tokens) (first : Token) (p : Place) (last : Bool) (h : Header) (ss : List Statement) → ts ≡ first ∷ on → sort first ≢ sorts.Text → sort first ≢ sorts.Variable → on_front (setting_at p last h ss) ts ≡ Err (Bad ts)
-setting_stops ts on first p last h ss cut a b = let x = at_miss sorts.Text (sort first) a in let y = at_miss sorts.Variable (sort first) b in rw (cut, x, y) refl
 
 pub final_turns : (ts on : Tokens) (first : Token) (h : Header) (ss : List Statement) → ts ≡ first ∷ on → sort first ≡ sorts.Final → run ts (Statements h ss) ≡ on_front (setting_at first.place true h ss) on
 final_turns ts [] first h ss cut e = rw (cut, e) refl
@@ -56,9 +44,6 @@ setting_turns ts on t h ss cut e a b c d f g i =
     let i1 = at_miss sorts.Prefix (sort t) i in
     rw (cut, e, a1, b1, c1, d1, f1, g1, i1) refl
 
-pub statements_end : (ts on : Tokens) (h : Header) (ss : List Statement) → IsAt sorts.End ts on → run ts (Statements h ss) ≡ run on (Done (template h ss))
-statements_end ts on h ss i = let c = i.1 in let e = at_true sorts.End (sort i.0) i.2 in rw (c, e) refl
-
 -- ---- headers
 
 pub ordinary_turns : (ts on : Tokens) (first : Token) → ts ≡ first ∷ on → at sorts.Template (sort first) ≡ true → run ts Start ≡ run on (name_wanted kinds.Ordinary first.place)
@@ -66,9 +51,6 @@ ordinary_turns ts on first cut e = rw (cut, e) refl
 
 pub kind_turns : (ts on : Tokens) (first : Token) (k : TemplateKind) → ts ≡ first ∷ on → at sorts.Template (sort first) ≡ false → kind_of (sort first) ≡ Some k → run ts Start ≡ run on (kind_read first.place k)
 kind_turns ts on first k cut other e = rw (cut, other, e) refl
-
-pub start_stops : (ts on : Tokens) (first : Token) → ts ≡ first ∷ on → at sorts.Template (sort first) ≡ false → kind_of (sort first) ≡ None → run ts Start ≡ Err (Bad ts)
-start_stops ts on first cut other e = rw (cut, other, e) refl
 
 pub template_alike : (ts : Tokens) (k : TemplateKind) (p q : Place) (n : Token) (name : List ℕ) (r : Place) (ss : List Statement) → name ≡ n.value → r ≡ n.place → q ≡ p
     → run ts (Done (template (record { kind = k; place = p; name = n }) ss)) ≡ run ts (Done (record { kind = k; name = name; name_place = r; place = q; statements = ss }))

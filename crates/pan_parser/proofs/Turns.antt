@@ -14,11 +14,11 @@ use Rattle.pan_ast.specs.Syntax as nodes
 use Rattle.pan_ast.specs.Templates.{Template}
 use Rattle.pan_grammar.specs.Depths.{holders, item_opens, node_holders, signed, unary_opens}
 use Rattle.pan_grammar.specs.Grammar.{Operator, Tokens, block, called, index, joined, level, literal, name, plain, reference, unary_of}
-use Rattle.pan_grammar.specs.Machine.{Bad, Deep, Stop, for_read, foreach_read, if_read, item_at, over, run, unary_at, while_read}
-use Rattle.pan_grammar.specs.States.{BlockOpen, Braces, CallOpen, Chained, Closes, First, HasItem, HasNode, HasPrimary, HasReference, InBlock, InCall, InIndex, InParens, InParts, InReference, ItemStack, ItemWord, Last, MayElse, NeedItem, NeedUnary, NodeStack, Operand, Parens, Signed, State, Takes, WordRead, down, right_side}
+use Rattle.pan_grammar.specs.Machine.{Stop, item_at, over, run, unary_at}
+use Rattle.pan_grammar.specs.States.{BlockOpen, Braces, CallOpen, Chained, Closes, First, HasItem, HasNode, HasPrimary, HasReference, InBlock, InCall, InIndex, InParens, InParts, InReference, ItemStack, ItemWord, Last, MayElse, NeedItem, NeedUnary, NodeStack, Operand, Parens, Signed, State, Takes, down, right_side}
 use Rattle.pan_grammar.proofs.Firsts.{NotQuoted, item_bare, item_else, unary_sign}
-use Rattle.pan_grammar.proofs.Follow.{literal_bare, op_none, plain_not_signed}
-use Rattle.pan_grammar.proofs.Tests.{at_true, taken, passed, some_taken}
+use Rattle.pan_grammar.proofs.Follow.{literal_bare, op_none}
+use Rattle.pan_grammar.proofs.Tests.{at_true, passed, some_taken}
 use Rattle.pan_parser.specs.declared.stopped.Stopped.{Stopped}
 use Rattle.pan_parser.specs.declared.stopped.Stopped.TheVariants as stops
 use Rattle.pan_parser.specs.Answers.{ends_chains, Fails, Goes, IsAt, NotAt, IsOperator, NoOperator, NoSign, indexed}
@@ -54,27 +54,6 @@ indexed_push x (j ∷ is) i = indexed_push (index x j) is i
 
 -- ---- what an item begins with
 
-pub brace_turns : (ts : Tokens) (first : Token) (on : Tokens) (s : ItemStack) → ts ≡ first ∷ on → sort first ≡ sorts.OpenBrace → over (suc (holders s)) ≡ false → run ts (NeedItem s) ≡ run on (BlockOpen first.place [] s)
-brace_turns ts first on s cut e low = rw (cut, e, low) refl
-
-pub if_turns : (ts : Tokens) (first : Token) (on : Tokens) (s : ItemStack) → ts ≡ first ∷ on → sort first ≡ sorts.If → over (suc (holders s)) ≡ false → run ts (NeedItem s) ≡ run on (if_read first.place s)
-if_turns ts first on s cut e low = rw (cut, e, low) refl
-
-pub while_turns : (ts : Tokens) (first : Token) (on : Tokens) (s : ItemStack) → ts ≡ first ∷ on → sort first ≡ sorts.While → over (suc (holders s)) ≡ false → run ts (NeedItem s) ≡ run on (while_read first.place s)
-while_turns ts first on s cut e low = rw (cut, e, low) refl
-
-pub for_turns : (ts : Tokens) (first : Token) (on : Tokens) (s : ItemStack) → ts ≡ first ∷ on → sort first ≡ sorts.For → over (suc (holders s)) ≡ false → run ts (NeedItem s) ≡ run on (for_read first.place s)
-for_turns ts first on s cut e low = rw (cut, e, low) refl
-
-pub foreach_turns : (ts : Tokens) (first : Token) (on : Tokens) (s : ItemStack) → ts ≡ first ∷ on → sort first ≡ sorts.Foreach → over (suc (holders s)) ≡ false → run ts (NeedItem s) ≡ run on (foreach_read first.place s)
-foreach_turns ts first on s cut e low = rw (cut, e, low) refl
-
-pub word_turns : (ts : Tokens) (first : Token) (on : Tokens) (s : ItemStack) → ts ≡ first ∷ on → NotQuoted (sort first) → is_plain (sort first) ≡ true → over (suc (holders s)) ≡ false → run ts (NeedItem s) ≡ run on (ItemWord first s)
-word_turns ts first on s cut q e low =
-    let to : item_at first s ≡ Some (ItemWord first s) = item_else first s q ∙ taken (is_plain (sort first)) _ _ e in
-    let un : signed (sort first) ≡ false = plain_not_signed (sort first) e in
-    rw (cut, to, un, low) refl
-
 over_alike : (h : ℕ) (b : Bool) → over (suc h) ≡ false → over (cond b (suc (suc h)) (suc h)) ≡ over (cond b (suc (suc h)) 0)
 over_alike h true low = refl
 over_alike h false low = low
@@ -90,47 +69,15 @@ chain_turns ts first on s cut q e low =
 pub sign_turns : (ts : Tokens) (first : Token) (on : Tokens) (n : NodeStack zero) (op : UnaryOp) → ts ≡ first ∷ on → unary_of (sort first) ≡ Some op → over (suc (node_holders n)) ≡ false → run ts (NeedUnary n) ≡ run on (NeedUnary (Signed op first.place n))
 sign_turns ts first on n op cut e low = let to = unary_sign first n op e in rw (cut, to, e, low) refl
 
-pub sign_deep : (ts : Tokens) (first : Token) (on : Tokens) (n : NodeStack zero) (op : UnaryOp) → ts ≡ first ∷ on → unary_of (sort first) ≡ Some op → node_holders n ≡ 100 → run ts (NeedUnary n) ≡ Err (Deep ts)
-sign_deep ts first on n op cut e h = let to = unary_sign first n op e in rw (cut, to, e, h) refl
-
 pub unsigned : (ts : Tokens) (first : Token) (on : Tokens) → ts ≡ first ∷ on → unary_of (sort first) ≡ None → NoSign ts
 unsigned ts first on cut e = rw cut e
-
-no_sign : (ts : Tokens) (first : Token) (on : Tokens) → ts ≡ first ∷ on → NoSign ts → unary_of (sort first) ≡ None
-no_sign ts first on cut h = rw cut at h
-
-pub literal_turns : (ts : Tokens) (first : Token) (on : Tokens) (n : NodeStack zero) (x : Node) → ts ≡ first ∷ on → NoSign ts → literal (sort first) first ≡ Some x → run ts (NeedUnary n) ≡ run on (HasPrimary x n)
-literal_turns ts first on n x cut h e = let un = no_sign ts first on cut h in rw (cut, e, un) refl
-
-pub plain_turns : (ts : Tokens) (first : Token) (on : Tokens) (n : NodeStack zero) → ts ≡ first ∷ on → NoSign ts → literal (sort first) first ≡ None → is_plain (sort first) ≡ true → run ts (NeedUnary n) ≡ run on (WordRead first n)
-plain_turns ts first on n cut h e p = let un = no_sign ts first on cut h in rw (cut, e, p, un) refl
 
 pub parens_turn : (ts : Tokens) (first : Token) (on : Tokens) (n : NodeStack zero) → ts ≡ first ∷ on → at sorts.Open (sort first) ≡ true → run ts (NeedUnary n) ≡ run on (NeedItem (InParens first.place n))
 parens_turn ts first on n cut e = let k = at_true sorts.Open (sort first) e in rw (cut, k) refl
 
-pub operand_stops : (ts : Tokens) (first : Token) (on : Tokens) (n : NodeStack zero) → ts ≡ first ∷ on → NoSign ts → literal (sort first) first ≡ None → is_plain (sort first) ≡ false → at sorts.Open (sort first) ≡ false → run ts (NeedUnary n) ≡ Err (Bad ts)
-operand_stops ts first on n cut h e p o = let un = no_sign ts first on cut h in rw (cut, e, p, o, un) refl
-
 pub signed_done : (ts : Tokens) (op : UnaryOp) (p : Place) (x : Node) (n : NodeStack zero) → run ts (HasNode x (Signed op p n)) ≡ run ts (HasNode (nodes.Unary p op x) n)
 signed_done [] op p x n = refl
 signed_done (t ∷ ts) op p x n = refl
-
-pub call_turns : (ts on : Tokens) (f : Token) (n : NodeStack zero) → IsAt sorts.Open ts on → run ts (WordRead f n) ≡ run on (CallOpen f n)
-call_turns ts on f n h = let c = h.1 in let e = h.2 in rw (c, e) refl
-
-pub name_done : (ts : Tokens) (f : Token) (n : NodeStack zero) → NotAt sorts.Open ts → run ts (WordRead f n) ≡ run ts (HasPrimary (name f) n)
-name_done [] f n h = refl
-name_done (t ∷ ts) f n h = rw h refl
-
-pub no_arguments : (ts on : Tokens) (f : Token) (n : NodeStack zero) → IsAt sorts.Close ts on → run ts (CallOpen f n) ≡ run on (HasPrimary (called f []) n)
-no_arguments ts on f n h = let c = h.1 in let e = h.2 in rw (c, e) refl
-
-pub first_argument : (ts : Tokens) (f : Token) (n : NodeStack zero) → NotAt sorts.Close ts → run ts (CallOpen f n) ≡ run ts (NeedItem (InCall f [] n))
-first_argument [] f n h = refl
-first_argument (t ∷ ts) f n h = rw h refl
-
-pub next_argument : (ts on : Tokens) (f : Token) (is new : List Item) (i : Item) (n : NodeStack zero) → IsAt sorts.Comma ts on → new ≡ is ++ i ∷ [] → run ts (HasItem i (InCall f is n)) ≡ run on (NeedItem (InCall f new n))
-next_argument ts on f is new i n h pushed = let c = h.1 in let e = h.2 in rw (c, e, pushed) refl
 
 pub last_argument : (ts : Tokens) (f : Token) (is new : List Item) (i : Item) (n : NodeStack zero) → NotAt sorts.Comma ts → new ≡ is ++ i ∷ [] → run ts (HasItem i (InCall f is n)) ≡ run ts (Takes (Closes Parens) (λ t. HasPrimary (called f new) n))
 last_argument [] f is new i n h pushed = refl
@@ -144,9 +91,6 @@ indexes_done [] x n h = refl
 indexes_done (t ∷ ts) x n h = rw h refl
 
 -- ---- blocks and other items
-
-pub block_ends : (ts on : Tokens) (p : Place) (is : List Item) (s : ItemStack) → IsAt sorts.CloseBrace ts on → run ts (BlockOpen p is s) ≡ run on (HasItem (block p is) s)
-block_ends ts on p is s h = let c = h.1 in let e = h.2 in rw (c, e) refl
 
 pub in_block : (ts : Tokens) (p : Place) (is : List Item) (s : ItemStack) → NotAt sorts.CloseBrace ts → run ts (BlockOpen p is s) ≡ run ts (NeedItem (InBlock p is s))
 in_block [] p is s h = refl
@@ -173,19 +117,11 @@ no_else (t ∷ ts) make i s h = rw h refl
 pub item_call : (ts on : Tokens) (f : Token) (s : ItemStack) → IsAt sorts.Open ts on → run ts (ItemWord f s) ≡ run on (CallOpen f (down 9 (Chained s)))
 item_call ts on f s h = let c = h.1 in let e = h.2 in rw (c, e) refl
 
-pub item_reference : (ts : Tokens) (f : Token) (s : ItemStack) → NotAt sorts.Open ts → run ts (ItemWord f s) ≡ run ts (HasReference f [] (name f) s)
-item_reference [] f s h = refl
-item_reference (t ∷ ts) f s h = rw h refl
-
 pub reference_index : (ts on : Tokens) (f : Token) (is : List Item) (x : Node) (s : ItemStack) → IsAt sorts.OpenBracket ts on → run ts (HasReference f is x s) ≡ run on (NeedItem (InReference f is x s))
 reference_index ts on f is x s h = let c = h.1 in let e = h.2 in rw (c, e) refl
 
 pub assign_turns : (ts on : Tokens) (f : Token) (is : List Item) (x : Node) (s : ItemStack) → IsAt sorts.Assign ts on → run ts (HasReference f is x s) ≡ run on (NeedItem (InParts (right_side (reference f is)) s))
 assign_turns ts on f is x s h = let c = h.1 in let e = at_true sorts.Assign (sort h.0) h.2 in rw (c, e) refl
-
-pub reference_done : (ts : Tokens) (f : Token) (is : List Item) (x : Node) (s : ItemStack) → NotAt sorts.OpenBracket ts → NotAt sorts.Assign ts → run ts (HasReference f is x s) ≡ run ts (HasNode x (down 9 (Chained s)))
-reference_done [] f is x s h g = refl
-reference_done (t ∷ ts) f is x s h g = rw (h, g) refl
 
 -- ---- chains
 

@@ -14,8 +14,8 @@ use crate::stopped::Stopped;
 use crate::tables::{ends_chains, indexed_name, literal, starts_item};
 use crate::tokens::{cut, expect, expect_word, next_is};
 use pan_ast::make_items::{
-    make_assign, make_block, make_call, make_for, make_foreach, make_if, make_if_else,
-    make_plain, make_reference, make_while,
+    make_assign, make_block, make_call, make_for, make_foreach, make_if, make_if_else, make_plain,
+    make_reference, make_while,
 };
 use pan_ast::{Item, Place, Sort, Token};
 use std::alloc::{AllocError, Global};

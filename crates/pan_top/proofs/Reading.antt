@@ -59,8 +59,3 @@ unwritten place path o terms v at p e f g = rw (e, f, g) refl
 pub refused_at : {A : Type 0} (whole : Read A) (p : Place) (e : Unbuilt) → whole ≡ Err p → IsRefusedAt p e → IsRefused whole e
 refused_at whole p (errors.At q) is at = is ∙ ap Err (sym at)
 refused_at whole p errors.Memory is at = tt
-
--- a refusal of the next statement is one of the whole
-pub refused_after : (made : List Assignment) (next : Read Assignment) (more whole : Read (List Assignment)) (e : Unbuilt) → before_all made (before next more) ≡ whole → IsRefused next e → IsRefused whole e
-refused_after made next more whole (errors.At place) is refused = sym is ∙ ap (λ (r : Read Assignment). before_all made (before r more)) refused
-refused_after made next more whole errors.Memory is refused = tt

@@ -1,6 +1,6 @@
 -- A publication, step by step.
 use Rattle.std.proofs.Common.{◌≡◌, ℕ, Bool, true, false, List, [], ◌∷◌, Option, Some, None, is_some, IfSome, not, if◌then◌else◌, ◌&&◌, ◌||◌, ◌⊎◌, inl, inr, refl, sym, ap, subst, ◌∙◌}
-use Rattle.std.specs.Prelude.{Result, Ok, Err, OnOk, OnErr, IfErr}
+use Rattle.std.specs.Prelude.{Result, Ok, Err, OnOk, IfErr}
 use Rattle.std.specs.Str.{bytes_eq}
 use Rattle.std.specs.List.{list_any}
 use Rattle.std.specs.List.Sorted.{IsPermutation}
@@ -53,13 +53,6 @@ left_early (E.Publishing m) left will start now new name keeps own u opens at = 
 left_early E.Out left will start now new name keeps own u opens at = absurd at
 left_early E.Memory left will start now new name keeps own u opens at = (name, left_at (bytes_eq name) left will start now new name keeps own u opens (λ n closed. closed))
 
-pub publishing_from_at : (n : List ℕ) (e : End) → IsEndAt n e → IsEndOf OfName e
-publishing_from_at n E.Source at = absurd at
-publishing_from_at n E.Shelf at = absurd at
-publishing_from_at n (E.Publishing m) at = refl
-publishing_from_at n E.Out at = absurd at
-publishing_from_at n E.Memory at = tt
-
 -- what holds of what is left behind, whatever names are open, holds after an end
 pub stopped_by : (e : End) (left will : List ℕ → Cell → Cell) (now start new : List ℕ → Cell) → IsEndOf OfName e → ((is_open : List ℕ → Bool) → Leaves is_open left now new → Leaves is_open will start new) → Stopped e left now new → Stopped e will start new
 stopped_by E.Source left will now start new kind go stopped = cc
@@ -71,9 +64,6 @@ stopped_by E.Memory left will now start new kind go stopped = (stopped.0, go (by
 -- before a publication and after it
 pub before_all : (will : List ℕ → Cell → Cell) (old new : List ℕ → Cell) → ((n : List ℕ) → new n ≡ old n) → Stopped E.Memory will old new
 before_all will old new same = ([], record { others = λ n other. same n; own = λ n closed. inl (same n) })
-
-pub after_all : (will : List ℕ → Cell → Cell) (old new : List ℕ → Cell) → ((n : List ℕ) (c : Cell) → is_own n ≡ false → will n c ≡ c) → ((n : List ℕ) → new n ≡ will n (old n)) → Stopped E.Memory will old new
-after_all will old new keeps done = ([], record { others = λ n other. done n ∙ keeps n (old n) other; own = λ n closed. inr (done n) })
 
 -- the set of wanted names grows with each want
 pub names_step : (b held : Bool) (bytes : List ℕ) (rest : Option (List ℕ)) → (cond b true held || is_some rest) ≡ (held || is_some (if b then Some bytes else rest))
@@ -197,18 +187,9 @@ placing_ended is_open names ws old mid new ok knows clear l = record {
   ];
 }
 
--- a result that fails says what a failure says
-pub on_err : {T E : Type 0} {P : Type 0} (r : Result T E) → P → OnErr r P
-on_err (Ok x) p = tt
-on_err (Err e) p = p
-
 pub on_ok : {T E : Type 0} {P Q : Type 0} (r : Result T E) → OnOk r P → (P → Q) → OnOk r Q
 on_ok (Ok x) p f = f p
 on_ok (Err e) p f = tt
-
-pub on_err_map : {T E : Type 0} {P Q : Type 0} (r : Result T E) → OnErr r P → (P → Q) → OnErr r Q
-on_err_map (Ok x) p f = tt
-on_err_map (Err e) p f = f p
 
 pub published_ok : (names : List (List ℕ)) (ws : List Want) (old next new : List ℕ → Cell) → proper ws ≡ true → Lists names old → ((n : List ℕ) → next n ≡ cleared names ws n (old n)) → ((n : List ℕ) → new n ≡ placed ws n (next n)) → (n : List ℕ) → new n ≡ published ws n (old n)
 published_ok names ws old next new ok knows clear place n = place n ∙ ap (placed ws n) (clear n) ∙ published_both names ws n (old n) ok (knows n)
@@ -216,13 +197,6 @@ published_ok names ws old next new ok knows clear place n = place n ∙ ap (plac
 -- a list of names in another order is a list of the same names
 pub lists_again : (items names : List (List ℕ)) (cell : List ℕ → Cell) → IsPermutation items names → Lists items cell → Lists names cell
 lists_again items names cell moved lists n = subst (λ b. IfSome (cell n) (λ content. is_some content ≡ b)) (list_any-IsPermutation (λ m. bytes_eq m n) items names moved) (lists n)
-
-published_by : (own : Bool) (want : Option (List ℕ)) (c : Cell) → own ≡ false → (if own then given want c else c) ≡ c
-published_by true want c other = cc
-published_by false want c other = refl
-
-pub published_keeps : (ws : List Want) (n : List ℕ) (c : Cell) → is_own n ≡ false → published ws n c ≡ c
-published_keeps ws n c other = published_by (is_own n) (wanted ws n) c other
 
 -- what two facts say of an error together
 pub if_err_both : {T E : Type 0} (P Q R : E → Type 0) (r : Result T E) → IfErr r P → IfErr r Q → ((e : E) → P e → Q e → R e) → IfErr r R

@@ -183,12 +183,7 @@ fn dependencies_of(alloc: Global, file: &str) -> Result<Bytes, AllocError>
 }
 
 /// Compiles the object of this name, whose template is the text of this file.
-pub fn compile(
-    alloc: Global,
-    file: &Text,
-    name: &str,
-    text: &[u8],
-) -> Result<Outcome, AllocError>
+pub fn compile(alloc: Global, file: &Text, name: &str, text: &[u8]) -> Result<Outcome, AllocError>
     requires file { file.now ≡ file_of name.now }
     requires short { length text.now ≤ 1000000 }
     ensures { IfOk result (λ o. o ≡ outcome_of name.now text.now) }

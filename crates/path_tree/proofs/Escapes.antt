@@ -6,13 +6,6 @@ use Rattle.path_tree.specs.Grammar.{is_letter, is_digit}
 use Rattle.path_tree.specs.Escape.{escape, escape_rest, escaped_byte, is_hex_digit, hex_value, unescape, unescape_rest}
 use Rattle.path_tree.specs.Reading.{begins_escaped}
 
--- a byte that stands as it is
-pub as_it_is : (ks : List ℕ) (d : ℕ) → 0 < length ks → begins_escaped ks ≡ false → unescape_rest ks ≡ get_or ks 0 d ∷ unescape_rest (drop 1 ks)
-as_it_is [] d h is = absurd (omega arith)
-as_it_is (c ∷ []) d h is = refl
-as_it_is (c ∷ a ∷ []) d h is = refl
-as_it_is (c ∷ a ∷ b ∷ cs) d h is = rw is refl
-
 -- an escaped byte
 pub record Escaped (ks : List ℕ) : Type 0 where
   pub long : 3 ≤ length ks

@@ -1,12 +1,12 @@
 -- What a plan of a put through one term says.
-use Rattle.std.proofs.Common.{◌≡◌, ℕ, zero, suc, ◌+◌, ◌-◌, ◌<◌, ◌≤◌, Bool, true, false, nat_lt, cond, List, [], ◌∷◌, length, get_or, drop, Some, None, Result, Ok, Err, IfOk, refl, ap, sym, ◌∙◌, subst, arith}
+use Rattle.std.proofs.Common.{◌≡◌, ℕ, zero, suc, ◌+◌, ◌-◌, ◌<◌, ◌≤◌, Bool, true, false, nat_lt, cond, List, [], ◌∷◌, length, get_or, drop, Some, None, Result, Ok, Err, refl, ap, sym, ◌∙◌, subst, arith}
 use Rattle.std.proofs.lemmas.Bool.Decides.{nat_tests}
 use Rattle.std.proofs.lemmas.Grind.{common_steps}
 use Rattle.path_tree.specs.Plain.{Plain, dict, list, Items, no_items, Fields, tree_size, tree_height, items_size, items_height}
 use Rattle.path_tree.specs.View.{items_of}
 use Rattle.path_tree.specs.Find.{find_field, item_at, item_count}
 use Rattle.path_tree.specs.Put.{walk, chain, put_field, put_item, over, within_size}
-use Rattle.path_tree.specs.Kept.{HasPlan, IsPlan, IsMade, IsGrown, Fits, wrapped_size}
+use Rattle.path_tree.specs.Kept.{HasPlan, IsPlan, IsMade, IsGrown, wrapped_size}
 use Rattle.path_tree.specs.declared.path.Term.{Term}
 use Rattle.path_tree.specs.declared.path.Term.TheVariants as term
 use Rattle.path_tree.specs.declared.path.PutError.{PutError}
@@ -123,14 +123,6 @@ module _ (n : ℕ) (m : Term) (ms : List Term) (v t : Plain) (f : Plain → Plai
     added_ok size (Ok b) (Err e) is_size p g = added_large (omega (arith, g.large, p.size)) ∙ ap Err (sym g.is)
     added_ok size (Err e) (Ok w) is_size p g = cc
     added_ok size (Err e) (Err x) is_size p g = let same : x ≡ e = cc in added_large (omega (arith, p.large)) ∙ ap Err (sym (same ∙ p.is))
-
-pub made_fits : (ms : List Term) (v : Plain) (r : Result Measure PutError) → IsMade ms v r → IfOk r Fits
-made_fits ms v (Ok m) h = record { size = h.small; height = h.flat }
-made_fits ms v (Err e) h = tt
-
-pub plan_fits : (n : ℕ) (ms : List Term) (v t : Plain) (r : Result Measure PutError) → IsPlan n ms v t r → IfOk r Fits
-plan_fits n ms v t (Ok m) h = record { size = h.small; height = h.flat }
-plan_fits n ms v t (Err e) h = tt
 
 -- the two containers
 module _ (n : ℕ) (ms : List Term) (v t : Plain) where

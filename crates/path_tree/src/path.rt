@@ -155,12 +155,7 @@ fn relative(alloc: Global, whole: &Text, text: &[u8]) -> Result<Path, PathError>
     })
 }
 
-fn external(
-    alloc: Global,
-    whole: &Text,
-    text: &[u8],
-    colon: usize,
-) -> Result<Path, PathError>
+fn external(alloc: Global, whole: &Text, text: &[u8], colon: usize) -> Result<Path, PathError>
     requires colon { colon < length text.now }
     requires short { length text.now < 5000 }
     ensures { IsRead result (external text.now colon) }
@@ -212,12 +207,7 @@ fn terms_below(
 }
 
 // The terms of a text that begins at this byte of the path's text.
-fn terms(
-    alloc: Global,
-    whole: &Text,
-    place: usize,
-    text: &[u8],
-) -> Result<Seq<Term>, PathError>
+fn terms(alloc: Global, whole: &Text, place: usize, text: &[u8]) -> Result<Seq<Term>, PathError>
     requires { place + length text.now < 6000 }
     ensures { IsRead result (terms_at place (pieces text.now)) }
 {

@@ -68,7 +68,10 @@ fn paths_are_read_and_written(rt: HostRuntime) -> Result<(), Fail> {
         ("a:b", PathError::BadTerm(2)),
         ("..:/b", PathError::BadTerm(0)),
     ] {
-        assert_eq!(rt; Path::parse(alloc, &Text::new(alloc, text)?).err(), Some(error));
+        assert_eq!(rt;
+            Path::parse(alloc, &Text::new(alloc, text)?).err(),
+            Some(error)
+        );
     }
     Ok(())
 }

@@ -121,7 +121,9 @@ impl Text {
     pub fn part(&self, alloc: Global, start: usize, text: &str) -> Result<Text, AllocError>
         ensures { IfOk result (λ t. t ≡ text.now) }
     {
-        let start = self.start.saturating_add(u32::try_from(start).unwrap_or(u32::MAX));
+        let start = self
+            .start
+            .saturating_add(u32::try_from(start).unwrap_or(u32::MAX));
         let Some(end) = end_of(&self.whole, start, text) else {
             return Text::new(alloc, text);
         };
@@ -132,6 +134,7 @@ impl Text {
         })
     }
 }
+
 impl Clone for Text {
     ghost is_clone = { λ t copy. copy ≡ t };
 
