@@ -39,14 +39,38 @@ fn unless_absent<T>(outcome: io::Result<T>) -> io::Result<Option<T>>
     }
 }
 
-/// A walk through a folder and all folders below it.
+/// The path of an entry from the root, where it is a regular file or a folder. Everything else is left out, links
+/// among it.
+fn path_of<R: Files>(
+    alloc: Global,
+    folder: &str,
+    entry: &DirEntry<R, Global>,
+) -> io::Result<Option<Text>> {
+    let Some(kind) = unless_absent(entry.file_type())? else {
+        return Ok(None);
+    };
+    let name = entry.file_name();
+    if kind.is_file() {
+        return Ok(Some(Text::joined(alloc, folder, name)?));
+    }
+    if !kind.is_dir() {
+        return Ok(None);
+    }
+    let mut path = String::from_str(alloc, folder)?;
+    path.push_str(name)?;
+    path.push_str("/")?;
+    Ok(Some(Text::from_string(path)?))
+}
+
+/// A walk through a folder and all folders below it, in byte order of their paths from it.
 #[derive(Drop)]
 struct Walk {
     alloc: Global,
     /// The regular files so far, by their paths from the root.
     names: Vec<Text>,
-    /// The folders still to list, by their paths from the root, each with a slash at its end.
-    folders: Vec<String>,
+    /// The files and folders still to come, the next of them last. A folder has a slash at its end, so that
+    /// all that lies below it stands where it stands itself.
+    pending: Vec<Text>,
     entries: u64,
 }
 
@@ -55,7 +79,7 @@ impl Walk {
         Walk {
             alloc,
             names: Vec::new(alloc),
-            folders: Vec::new(alloc),
+            pending: Vec::new(alloc),
             entries: 0,
         }
     }
@@ -66,31 +90,33 @@ impl Walk {
         folder: &str,
         entries: ReadDir<R, Global>,
     ) -> io::Result<()> {
+        let mut found = Vec::new(self.alloc);
         for entry in entries {
             if self.entries >= MOST_ENTRIES {
                 return Err(io::Error::other("too many entries"));
             }
             self.entries += 1;
-            self.take(folder, &entry?)?;
+            if let Some(path) = path_of(self.alloc, folder, &entry?)? {
+                found.push(path)?;
+            }
         }
+        found.sort_by(|a, b| b.cmp(a))?;
+        self.pending.append(&mut found)?;
         Ok(())
     }
 
-    /// Takes a regular file or a folder, and leaves out everything else, links among it.
-    fn take<R: Files>(&mut self, folder: &str, entry: &DirEntry<R, Global>) -> io::Result<()> {
-        let Some(kind) = unless_absent(entry.file_type())? else {
-            return Ok(());
-        };
-        let name = entry.file_name();
-        if kind.is_file() {
-            self.names.push(Text::joined(self.alloc, folder, name)?)?;
-        } else if kind.is_dir() {
-            let mut path = String::from_str(self.alloc, folder)?;
-            path.push_str(name)?;
-            path.push_str("/")?;
-            self.folders.push(path)?;
+    /// Takes the entries of the folder with this path from the root, where it is still there.
+    fn enter<R: Files + AllocGlobal + Clone + Drop>(
+        &mut self,
+        rt: &R,
+        root: &str,
+        folder: &str,
+    ) -> io::Result<()> {
+        let path = path_below(self.alloc, root, folder)?;
+        match unless_absent(fs::read_dir(rt, path.as_str()))? {
+            Some(entries) => self.list(folder, entries),
+            None => Ok(()),
         }
-        Ok(())
     }
 }
 
@@ -103,17 +129,16 @@ pub(crate) fn files_below<R: Files + AllocGlobal + Clone + Drop>(
     let mut walk = Walk::new(rt.alloc());
     walk.list("", fs::read_dir(rt, root)?)?;
     for _ in 0..u64::MAX {
-        let Some(folder) = walk.folders.pop() else {
+        let Some(next) = walk.pending.pop() else {
             break;
         };
-        let path = path_below(rt.alloc(), root, folder.as_str())?;
-        if let Some(entries) = unless_absent(fs::read_dir(rt, path.as_str()))? {
-            walk.list(folder.as_str(), entries)?;
+        if next.as_str().ends_with('/') {
+            walk.enter(rt, root, next.as_str())?;
+        } else {
+            walk.names.push(next)?;
         }
     }
-    let mut names = walk.names;
-    names.sort()?;
-    Ok(names)
+    Ok(walk.names)
 }
 
 /// Reads the first `most` bytes of a file. False where no file is there.

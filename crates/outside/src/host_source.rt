@@ -95,11 +95,11 @@ impl<R: Files + AllocGlobal + Clone + Drop> Source for HostSource<R> {
         }
     }
 
-    fn name(&self, i: usize) -> &str
+    fn name(&self, i: usize) -> &Text
         requires { i < length self.now.names.items }
         ensures { slice_get self.now.names.items i ≡ Some result.now }
     {
-        self.names[i].as_str()
+        &self.names[i]
     }
 
     fn read(&mut self, i: usize, into: &mut Vec<u8>) -> Result<Got, StoreError> {

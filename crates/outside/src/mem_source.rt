@@ -7,7 +7,7 @@ use crate::calls::Calls;
 use crate::error::StoreError;
 use crate::source::{Got, MemFile, Source};
 use crate::sure_source::SureSource;
-use small_types::Seq;
+use small_types::{Seq, Text};
 use std::alloc::Global;
 
 /// Pictures in memory, with a list of the calls that are to fail.
@@ -77,7 +77,7 @@ impl Source for MemSource {
         self.source.begin_scan()
     }
 
-    fn name(&self, i: usize) -> &str {
+    fn name(&self, i: usize) -> &Text {
         self.source.name(i)
     }
 

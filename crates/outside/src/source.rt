@@ -59,7 +59,7 @@ pub trait Source {
         ensures cause { HasCause (fault_count self.old) (fault_count self.new) result };
 
     /// The name of file `i` of the picture taken last.
-    fn name(&self, i: usize) -> &str
+    fn name(&self, i: usize) -> &Text
         requires { i < count self.now }
         ensures { IfSome (scanned self.now) (λ files. NameOf files i result.now) };
 

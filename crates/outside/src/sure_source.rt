@@ -3,7 +3,7 @@ ghost use Rattle.outside.specs.Pictures.{next_picture, later_pictures};
 
 use crate::error::StoreError;
 use crate::source::{Got, MemFile, Source};
-use small_types::Seq;
+use small_types::{Seq, Text};
 use std::alloc::Global;
 use std::marker::Model;
 
@@ -79,8 +79,8 @@ impl Source for SureSource {
         Ok(self.scanned.as_slice().len())
     }
 
-    fn name(&self, i: usize) -> &str {
-        self.file(i).name.as_str()
+    fn name(&self, i: usize) -> &Text {
+        &self.file(i).name
     }
 
     fn read(&mut self, i: usize, into: &mut Vec<u8>) -> Result<Got, StoreError> {

@@ -76,7 +76,7 @@ fn describe<S: Source>(source: &mut S, i: usize, text: &mut String) -> Result<()
     requires { i < S.count source.old }
     ensures { S.count source.new ≡ S.count source.old }
 {
-    text.push_str(source.name(i))?;
+    text.push_str(source.name(i).as_str())?;
     let mut bytes = Vec::new(*text.allocator());
     text.push_str(match source.read(i, &mut bytes)? {
         Got::Bytes => ": ",
@@ -238,5 +238,30 @@ fn folders_of_the_host(rt: HostRuntime) -> Result<(), Fail> {
     assert_eq!(rt; bytes.as_slice(), b"[1, 2]".as_slice());
     assert_eq!(rt; missing, Err(StoreError::Failed));
     assert_eq!(rt; source.faults(), 1);
+    Ok(())
+}
+
+// Puts files into folders, and gives the names that are listed.
+fn listed<H: Shelf>(alloc: Global, shelf: &mut H, root: &str) -> Result<String, StoreError> {
+    let mut text = String::new(alloc);
+    shelf.open_root(root)?;
+    for name in ["b", "a/x", "a0", "a-b", "a/y/z"] {
+        shelf.put(name, b"[]")?;
+    }
+    let mut names = Vec::new(alloc);
+    shelf.names(&mut names)?;
+    for name in &names {
+        text.push_str(name.as_str())?;
+        text.push(' ')?;
+    }
+    Ok(text)
+}
+
+#[test]
+fn names_of_folders_come_in_byte_order(rt: HostRuntime) -> Result<(), Fail> {
+    let mut shelf = HostShelf::new(rt.clone()?);
+    let seen = listed(rt.alloc(), &mut shelf, "names_of_folders");
+    fs::remove_dir_all(&rt, "names_of_folders")?;
+    assert_eq!(rt; seen?.as_str(), "a-b a/x a/y/z a0 b ");
     Ok(())
 }
