@@ -1,4 +1,5 @@
 pub mod Ascii
+pub mod Standing
 pub mod Splits
 pub mod Pieces
 pub mod Numbers

@@ -1,8 +1,8 @@
 -- The pieces of a path, one after the other.
-use Rattle.std.proofs.Common.{◌≡◌, ℕ, suc, ◌+◌, ◌<◌, ◌≤◌, Bool, true, false, cond, List, [], ◌∷◌, ◌++◌, length, take, drop, ◌==◌, ◌&&◌, not, Option, Some, None, Result, Ok, Err, refl, arith, add-one}
+use Rattle.std.proofs.Common.{◌≡◌, ℕ, suc, ◌+◌, ◌<◌, ◌≤◌, Bool, true, false, cond, List, [], ◌∷◌, ◌++◌, length, take, drop, ◌==◌, ◌&&◌, not, Option, Some, None, Result, Ok, Err, refl, ap, append_assoc, arith, add-one}
 use Rattle.std.specs.List.{onto_first}
-use Rattle.path_tree.specs.Paths.{pieces_from, inside_after}
-use Rattle.path_tree.specs.Reading.{piece_length}
+use Rattle.path_tree.specs.Paths.{pieces, pieces_from, inside_after, term_of, terms_after, terms_at}
+use Rattle.path_tree.specs.Reading.{optional_pieces, piece_length}
 use Rattle.path_tree.specs.declared.path.Term.{Term}
 use Rattle.path_tree.specs.declared.path.PathError.{PathError}
 
@@ -31,3 +31,13 @@ behind ms (Err e) = Err e
 abbrev pub text_length : Option (List ℕ) → ℕ
 text_length None = 0
 text_length (Some text) = length text + 1
+
+-- a term that was read joins those before it
+pub behind_one : (ms all : List Term) (m : Term) (place : ℕ) (piece text : List ℕ) (more : Option (List ℕ)) → all ≡ ms ++ m ∷ [] → pieces text ≡ piece ∷ optional_pieces more → term_of piece ≡ Some m → behind all (terms_at (place + (length piece + 1)) (optional_pieces more)) ≡ behind ms (terms_at place (pieces text))
+behind_one ms all m place piece text more made parts read =
+    let next : place + (length piece + 1) ≡ place + length piece + 1 = omega arith in
+    rw (made, parts, read, next) (one (terms_at (place + length piece + 1) (optional_pieces more)))
+  where
+    one : (r : Result (List Term) PathError) → behind (ms ++ m ∷ []) r ≡ behind ms (terms_after (Some m) place r)
+    one (Ok ns) = ap Ok (append_assoc ms (m ∷ []) ns)
+    one (Err e) = refl

@@ -80,3 +80,23 @@ module _ (k : List ℕ) where
   place_ok es f (Err i) within parted =
       let p = parted (searchable_from_sorted nat_list_cmp_total (λ (e : Entry). e.key) es k (λ j d a b. rw add-one (rising es f j d (omega arith)))) in
       lacks es i within (λ j d lt. p.0 j d (omega arith) lt) (λ d lt. p.1 i d (omega arith) lt)
+
+  -- all stand before a key that is above the last
+  below_last : (es : List Entry) (i : ℕ) (e : Entry) → AreFields (fields_of es) → suc i ≡ length es → cmp (get_or es i e).key k ≡ Less → (j : ℕ) (d : Entry) → j < length es → cmp (get_or es j d).key k ≡ Less
+  below_last [] i e f last is j d h = absurd (omega (arith, h))
+  below_last (g ∷ es) zero e f last is zero d h = is
+  below_last (g ∷ es) zero e f last is (suc j) d h = absurd (omega (arith, last, h))
+  below_last (g ∷ es) (suc i) e f last is zero d h = nat_list_cmp_total.trans g.key (get_or es i e).key k (above g.key es f.3 f.4 i e (omega (arith, last))) is
+  below_last (g ∷ es) (suc i) e f last is (suc j) d h = below_last es i e f.4 (omega (arith, last)) is j d (omega (arith, h))
+
+  -- a key above the last has its place at the end
+  pub place_end : (es : List Entry) (i : ℕ) (e : Entry) → AreFields (fields_of es) → suc i ≡ length es → cmp (get_or es i e).key k ≡ Less → Lacks k es (length es)
+  place_end es i e f last is = lacks es (length es) (omega arith) (λ j d lt. below_last es i e f last is j d lt) (λ d lt. absurd (omega (arith, lt)))
+
+  at_any : (es : List Entry) (i : ℕ) (d e : Entry) → i < length es → get_or es i d ≡ get_or es i e
+  at_any [] i d e h = absurd (omega (arith, h))
+  at_any (g ∷ es) zero d e h = refl
+  at_any (g ∷ es) (suc i) d e h = at_any es i d e (omega (arith, h))
+
+  pub place_last : (es : List Entry) (i : ℕ) (e : Entry) → AreFields (fields_of es) → suc i ≡ length es → cmp (get_or es i e).key k ≡ Equal → Stands k es i
+  place_last es i e f last is = stands es i f (omega (arith, last)) (λ d. ap (λ (x : Entry). cmp x.key k) (at_any es i d e (omega (arith, last))) ∙ is)

@@ -1,5 +1,6 @@
 -- What the functions that read a path or an escaped text answer.
-use Rattle.std.specs.Prelude.{false, ◌≡◌, ◌≢◌, ℕ, ◌+◌, Bool, List, [], ◌∷◌, ◌==◌, ◌&&◌, not, if◌then◌else◌, Option, Some, None, Result, Ok, Err, IfOk, IfErr}
+use Rattle.std.specs.Prelude.{false, ◌≡◌, ◌≢◌, ℕ, ◌+◌, ◌≤◌, Bool, List, length, [], ◌∷◌, ◌==◌, ◌&&◌, not, if◌then◌else◌, Option, Some, None, Result, Ok, Err, IfOk, IfErr}
+use Rattle.small_types.specs.Parts.{bytes_from_to}
 use Rattle.path_tree.specs.Escape.{is_escape}
 use Rattle.path_tree.specs.Paths.{pieces, inside_after}
 use Rattle.path_tree.specs.declared.path.PathError.{PathError}
@@ -9,6 +10,11 @@ use Rattle.path_tree.specs.declared.path.PathError.TheVariants as error
 pub record IsRead {T : Type 0} (r read : Result T PathError) : Type 0 where
   pub ok : IfOk r (λ x. read ≡ Ok x)
   pub err : IfErr r (λ e. e ≢ error.Memory → read ≡ Err e)
+
+-- the bytes stand in a whole from this place on
+pub record StandsAt (place : ℕ) (bytes whole : List ℕ) : Type 0 where
+  pub within : place + length bytes ≤ length whole
+  pub same : bytes_from_to place (place + length bytes) whole ≡ bytes
 
 -- how many bytes stand before the first slash outside of braces
 abbrev pub piece_length : Bool → List ℕ → ℕ

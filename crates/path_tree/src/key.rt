@@ -1,18 +1,18 @@
-ghost use Rattle.std.specs.Prelude.{◌≡◌, ◌==◌, ◌↔◌, true, false, IfOk, OnOk, IsErrOf};
+ghost use Rattle.std.specs.Prelude.{◌≡◌, ◌<◌, ◌+◌, ◌==◌, ◌↔◌, true, false, IfOk, OnOk, IsErrOf, length};
 ghost use Rattle.std.specs.Cmp.Lexicographic.{slice_cmp, pointwise};
 ghost use Rattle.std.specs.Cmp.Rules.{comparing};
 ghost use Rattle.std.specs.List.{list_all};
 ghost use Rattle.std.specs.Ordering.{nat_cmp, as_partial_cmp};
-ghost use Rattle.std.specs.Str.{IsAscii, IsUtf8};
+ghost use Rattle.std.specs.Str.{IsUtf8};
 ghost use Rattle.std.proofs.Common.{rules};
 ghost use Rattle.path_tree.specs.Grammar.{is_digit, is_key, is_key_byte, is_letter};
+ghost use Rattle.path_tree.specs.Reading.{StandsAt};
 ghost use Rattle.path_tree.specs.declared.key.KeyError.TheVariants.{Memory};
 
 use small_types::Text;
 use std::alloc::{AllocError, Global};
 use std::cmp::Ordering;
 use std::marker::Model;
-use std::str::from_utf8_unchecked;
 
 /// A key of a dict: 1 to 1,000 bytes, an ASCII letter or `_`, then letters, digits or any of `_ . + -`.
 /// Contracts see the list of its bytes. Copies share one text in memory.
@@ -87,14 +87,6 @@ pub fn is_key(bytes: &[u8]) -> bool
     (is_letter(*first) || *first == b'_') && are_key_bytes(rest) && rest.len() < 1000
 }
 
-/// Bytes below 128 as a text.
-pub(crate) fn ascii_text(bytes: &[u8]) -> &str
-    requires { IsAscii bytes.now }
-    ensures { result.now ≡ bytes.now }
-{
-    unsafe { from_utf8_unchecked(bytes) }
-}
-
 impl Key {
     /// The key of a text. `BadKey` exactly where the text is no key.
     pub fn parse(alloc: Global, text: &str) -> Result<Key, KeyError>
@@ -109,17 +101,14 @@ impl Key {
         Ok(Key { text })
     }
 
-    /// The key of bytes that are those of a key. It shares the memory of a text that they stand in.
-    pub(crate) fn in_text(
-        alloc: Global,
-        whole: &Text,
-        start: usize,
-        bytes: &[u8],
-    ) -> Result<Key, AllocError>
-        requires { is_key bytes.now ≡ true }
+    /// The key of bytes that are those of a key, and stand in a text from `start` on. It shares the text's memory.
+    pub(crate) fn in_text(whole: &Text, start: usize, bytes: &[u8]) -> Result<Key, AllocError>
+        requires key { is_key bytes.now ≡ true }
+        requires part { StandsAt start bytes.now whole.now }
+        requires short { start + length bytes.now < 6000 }
         ensures { IfOk result (λ k. k ≡ bytes.now) }
     {
-        let text = whole.part(alloc, start, ascii_text(bytes))?;
+        let text = whole.slice(start, start + bytes.len())?;
         Ok(Key { text })
     }
 

@@ -6,10 +6,11 @@ ghost use Rattle.std.specs.Ordering.{nat_cmp, as_partial_cmp};
 ghost use Rattle.std.specs.Str.{IsUtf8};
 ghost use Rattle.std.proofs.Common.{rules};
 ghost use Rattle.path_tree.specs.Grammar.{is_dots, is_name, is_segment};
+ghost use Rattle.path_tree.specs.Reading.{StandsAt};
 ghost use Rattle.path_tree.specs.declared.name.NameError.TheVariants.{Memory};
 
 use crate::bytes::first_of;
-use crate::key::{are_key_bytes, ascii_text};
+use crate::key::are_key_bytes;
 use small_types::Text;
 use std::alloc::{AllocError, Global};
 use std::cmp::Ordering;
@@ -96,12 +97,13 @@ impl Name {
         Ok(Name { text })
     }
 
-    /// The name of bytes that are those of a template name. It shares the memory of a text that begins with them.
-    pub(crate) fn at_start(alloc: Global, whole: &Text, bytes: &[u8]) -> Result<Name, AllocError>
-        requires { is_name bytes.now ≡ true }
+    /// The name of bytes that are those of a template name, and that a text begins with. It shares the text's memory.
+    pub(crate) fn at_start(whole: &Text, bytes: &[u8]) -> Result<Name, AllocError>
+        requires name { is_name bytes.now ≡ true }
+        requires part { StandsAt 0 bytes.now whole.now }
         ensures { IfOk result (λ k. k ≡ bytes.now) }
     {
-        let text = whole.part(alloc, 0, ascii_text(bytes))?;
+        let text = whole.slice(0, bytes.len())?;
         Ok(Name { text })
     }
 

@@ -2,7 +2,7 @@ ghost use Rattle.std.specs.Prelude.{◌≡◌, ◌≢◌, ◌∷◌, ◌++◌, [
 ghost use Rattle.std.specs.List.{list_all};
 ghost use Rattle.path_tree.specs.Grammar.{is_digit, is_index, is_name, number_of};
 ghost use Rattle.path_tree.specs.Paths.{first_of, in_braces, key_term, braced_term, term_of, terms_at, terms_below, absolute_at, path_of, path_text, path_with, pieces, relative, relative_or_external, external, terms_text, term_text};
-ghost use Rattle.path_tree.specs.Reading.{IsRead, optional_pieces, piece_length};
+ghost use Rattle.path_tree.specs.Reading.{IsRead, StandsAt, optional_pieces, piece_length};
 ghost use Rattle.path_tree.specs.declared.path.PathError.TheVariants.{Memory};
 ghost use Rattle.path_tree.specs.declared.path.PutError.TheVariants as put_error;
 ghost use Rattle.path_tree.specs.declared.path.Anchor.TheVariants as anchor;
@@ -135,7 +135,8 @@ impl Path {
 }
 
 fn relative_or_external(alloc: Global, whole: &Text, text: &[u8]) -> Result<Path, PathError>
-    requires { length text.now < 5000 }
+    requires part { StandsAt 0 text.now whole.now }
+    requires short { length text.now < 5000 }
     ensures { IsRead result (relative_or_external text.now (first_of 58 123 text.now)) }
 {
     match first_of(b':', b'{', text) {
@@ -145,7 +146,8 @@ fn relative_or_external(alloc: Global, whole: &Text, text: &[u8]) -> Result<Path
 }
 
 fn relative(alloc: Global, whole: &Text, text: &[u8]) -> Result<Path, PathError>
-    requires { length text.now < 5000 }
+    requires part { StandsAt 0 text.now whole.now }
+    requires short { length text.now < 5000 }
     ensures { IsRead result (relative text.now) }
 {
     let terms = terms(alloc, whole, 0, text)?;
@@ -156,11 +158,12 @@ fn relative(alloc: Global, whole: &Text, text: &[u8]) -> Result<Path, PathError>
 }
 
 fn external(alloc: Global, whole: &Text, text: &[u8], colon: usize) -> Result<Path, PathError>
+    requires part { StandsAt 0 text.now whole.now }
     requires colon { colon < length text.now }
     requires short { length text.now < 5000 }
     ensures { IsRead result (external text.now colon) }
 {
-    let Some(name) = name_of(alloc, whole, &text[..colon])? else {
+    let Some(name) = name_of(whole, &text[..colon])? else {
         return Err(PathError::BadTerm(0));
     };
     absolute(
@@ -180,7 +183,8 @@ fn absolute(
     place: usize,
     text: &[u8],
 ) -> Result<Path, PathError>
-    requires { place + length text.now < 6000 }
+    requires part { StandsAt place text.now whole.now }
+    requires short { place + length text.now < 6000 }
     ensures { IsRead result (absolute_at anchor place text.now) }
 {
     let [b'/', rest @ ..] = text else {
@@ -196,7 +200,8 @@ fn terms_below(
     place: usize,
     text: &[u8],
 ) -> Result<Seq<Term>, PathError>
-    requires { place + length text.now < 6000 }
+    requires part { StandsAt place text.now whole.now }
+    requires short { place + length text.now < 6000 }
     ensures { IsRead result (terms_below place text.now) }
 {
     if text.is_empty() {
@@ -208,7 +213,8 @@ fn terms_below(
 
 // The terms of a text that begins at this byte of the path's text.
 fn terms(alloc: Global, whole: &Text, place: usize, text: &[u8]) -> Result<Seq<Term>, PathError>
-    requires { place + length text.now < 6000 }
+    requires part { StandsAt place text.now whole.now }
+    requires short { place + length text.now < 6000 }
     ensures { IsRead result (terms_at place (pieces text.now)) }
 {
     let mut terms = Vec::new(alloc);
@@ -229,8 +235,8 @@ fn terms(alloc: Global, whole: &Text, place: usize, text: &[u8]) -> Result<Seq<T
 // The bytes before the first slash outside of braces, and those behind it.
 fn first_piece(text: &[u8]) -> (&[u8], Option<&[u8]>)
     ensures pieces { pieces text.now ≡ result.0.now ∷ optional_pieces (option_copied result.1) }
-    ensures smaller { IfSome result.1 (λ more. length more.now + length result.0.now + 1 ≡ length text.now) }
-    ensures last { result.1 ≡ None → length result.0.now ≡ length text.now }
+    ensures first { StandsAt 0 result.0.now text.now }
+    ensures more { IfSome (option_copied result.1) (λ more. StandsAt (length result.0.now + 1) more text.now) }
 {
     let end = piece_end(text);
     if end < text.len() {
@@ -261,10 +267,12 @@ fn term_of(
     place: usize,
     piece: &[u8],
 ) -> Result<Option<Term>, AllocError>
+    requires part { StandsAt place piece.now whole.now }
+    requires short { place + length piece.now < 6000 }
     ensures { IfOk result (λ t. t ≡ term_of piece.now) }
 {
     if is_key(piece) {
-        Ok(Some(Term::Key(Key::in_text(alloc, whole, place, piece)?)))
+        Ok(Some(Term::Key(Key::in_text(whole, place, piece)?)))
     } else if is_index(piece) {
         Ok(Some(Term::Index(number_of(piece))))
     } else {
@@ -305,13 +313,14 @@ fn key_term(alloc: Global, text: String) -> Result<Option<Term>, AllocError>
     }
 }
 
-fn name_of(alloc: Global, whole: &Text, bytes: &[u8]) -> Result<Option<Name>, AllocError>
+fn name_of(whole: &Text, bytes: &[u8]) -> Result<Option<Name>, AllocError>
+    requires { StandsAt 0 bytes.now whole.now }
     ensures { IfOk result (λ n. n ≡ (if is_name bytes.now then Some bytes.now else None)) }
 {
     if !is_name(bytes) {
         return Ok(None);
     }
-    let name = Name::at_start(alloc, whole, bytes)?;
+    let name = Name::at_start(whole, bytes)?;
     Ok(Some(name))
 }
 

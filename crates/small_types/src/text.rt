@@ -62,6 +62,14 @@ fn end_of(whole: &str, start: u32, text: &str) -> Option<u32>
     }
 }
 
+/// Where a byte of a part stands in the whole, of which the part is the bytes from `start` to before `end`.
+fn place_in(start: u32, end: u32, byte: usize) -> u32
+    requires { start + byte ≤ end }
+    ensures { result ≡ start + byte }
+{
+    start + byte as u32
+}
+
 impl Text {
     /// A copy of a text.
     pub fn new(alloc: Global, text: &str) -> Result<Text, AllocError>
@@ -114,6 +122,21 @@ impl Text {
             whole: self.whole.clone()?,
             start: self.start,
             end: self.end,
+        })
+    }
+
+    /// The text from byte `start` to before byte `end` of this one, shared with it.
+    #[tactic(auto, using(crate::proofs::Parts::part_of_part, crate::proofs::Parts::within_part))]
+    pub fn slice(&self, start: usize, end: usize) -> Result<Text, AllocError>
+        requires order { start ≤ end }
+        requires within { end ≤ length self.now }
+        requires text { IsUtf8 (bytes_from_to start end self.now) }
+        ensures { IfOk result (λ t. t ≡ bytes_from_to start end self.now) }
+    {
+        Ok(Text {
+            whole: self.whole.clone()?,
+            start: place_in(self.start, self.end, start),
+            end: place_in(self.start, self.end, end),
         })
     }
 

@@ -46,8 +46,25 @@ pub(super) fn value_at(entries: &[Entry], i: usize) -> Option<&Tree>
     }
 }
 
-// Where the key stands among the entries, or where it would.
+// Where the key stands among the entries, or where it would. Keys mostly come in order, so the last entry is
+// looked at first.
 pub(super) fn place(entries: &[Entry], key: &Key) -> Result<usize, usize>
+    requires { AreFields (fields_of entries.now) }
+    ensures { IsPlace key.now entries.now result }
+{
+    let count = entries.len();
+    if count == 0 {
+        return Err(0);
+    }
+    match entries[count - 1].key.cmp(key) {
+        Ordering::Less => Err(count),
+        Ordering::Equal => Ok(count - 1),
+        Ordering::Greater => searched(entries, key),
+    }
+}
+
+// The same, by halves.
+fn searched(entries: &[Entry], key: &Key) -> Result<usize, usize>
     requires { AreFields (fields_of entries.now) }
     ensures { IsPlace key.now entries.now result }
 {

@@ -1,13 +1,14 @@
-use Rattle.std.proofs.Common.{◌≡◌, ◌+◌, ◌≤◌, option_copied}
+use Rattle.std.proofs.Common.{◌≡◌, ◌+◌, ◌≤◌, IfSome, option_copied}
 use Rattle.path_tree.specs.Paths.{terms_at, pieces}
-use Rattle.path_tree.specs.Reading.{optional_pieces}
+use Rattle.path_tree.specs.Reading.{StandsAt, optional_pieces}
 use Rattle.path_tree.proofs.Pieces.{behind, text_length}
 use Rattle.path_tree.proofs.path.terms.Given as goal
 
 abbrev pub invariant-loop-rest : goal.invariant-loop-rest
 invariant-loop-rest l = record {
   read : behind l.terms.items (terms_at l.place (optional_pieces (option_copied l.rest))) ≡ terms_at l.fn.place (pieces l.fn.text);
-  short : l.place + text_length (option_copied l.rest) ≤ 6001;
+  part : IfSome (option_copied l.rest) (λ text. StandsAt l.place text l.whole);
+  short : l.place + text_length (option_copied l.rest) ≤ 6000;
 }
 
 abbrev pub decreases-loop-rest : goal.decreases-loop-rest

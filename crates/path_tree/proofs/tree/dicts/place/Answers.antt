@@ -1,12 +1,15 @@
-use Rattle.std.proofs.Common.{rules}
-use Rattle.std.specs.Ordering.{nat_cmp}
-use Rattle.std.specs.Cmp.Lexicographic.{slice_cmp}
-use Rattle.std.proofs.lemmas.Fn.{always_returns_same}
-use Rattle.path_tree.proofs.Places.{place_ok}
+use Rattle.std.proofs.Common.{◌≡◌, suc, ◌-◌, length, arith, sym, ◌∙◌}
+use Rattle.path_tree.proofs.Places.{place_end, place_last}
 use Rattle.path_tree.proofs.tree.dicts.place.Goals as goal
 
-pub returns : goal.returns
-returns c =
-    let facts = c.binary_search_by.ensures in
-    let by_key = facts.position (λ e. slice_cmp nat_cmp e.key c.args.key.now) (always_returns_same _ _ _ (λ a r g called. search rules)) in
-    place_ok c.args.key.now c.args.entries.now c.requires _ facts.bound by_key
+pub returns-in-Less : goal.returns-in-Less
+returns-in-Less c =
+    let es = c.args.entries.now in
+    let last : suc (length es - 1) ≡ length es = omega (arith, c.if-count-eq0.false) in
+    place_end c.args.key.now es (length es - 1) c.index-entries-count.result c.requires last (sym c.cmp.ensures ∙ c.in-Less.is)
+
+pub returns-in-Equal : goal.returns-in-Equal
+returns-in-Equal c =
+    let es = c.args.entries.now in
+    let last : suc (length es - 1) ≡ length es = omega (arith, c.if-count-eq0.false) in
+    place_last c.args.key.now es (length es - 1) c.index-entries-count.result c.requires last (sym c.cmp.ensures ∙ c.in-Equal.is)
