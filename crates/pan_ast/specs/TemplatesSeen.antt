@@ -13,8 +13,8 @@ abbrev pub form_seen : RStatementForm → StatementForm
 form_seen (forms.Assign l p c i) = plain.Assign l p c (item_seen i)
 form_seen (forms.Variable l n c i) = plain.Variable l n c (item_seen i)
 form_seen (forms.Function n b) = plain.Function n (item_seen b.value)
-form_seen (forms.Define n f) = plain.Define n (full_seen f)
-form_seen (forms.Bind p f) = plain.Bind p (full_seen f)
+form_seen (forms.Define n f) = plain.Define n (full_seen f.value)
+form_seen (forms.Bind p f) = plain.Bind p (full_seen f.value)
 form_seen (forms.Valid p b) = plain.Valid p (item_seen b.value)
 form_seen (forms.Include i) = plain.Include (item_seen i)
 form_seen (forms.Prefix p) = plain.Prefix p

@@ -71,22 +71,30 @@ pub fn function_statement(
 }
 
 /// `type name = type;`
-pub fn type_statement(name: &Text, full: FullType) -> Result<StatementForm, AllocError>
+pub fn type_statement(
+    alloc: Global,
+    name: &Text,
+    full: FullType,
+) -> Result<StatementForm, AllocError>
     ensures { IfOk result (λ f. form_seen f ≡ plain.Define name.now (full_seen full)) }
 {
     Ok(StatementForm::Define {
         name: name.share()?,
-        full,
+        full: Rc::new(alloc, full)?,
     })
 }
 
 /// `bind "path" = type;`
-pub fn bind_statement(path: &Text, full: FullType) -> Result<StatementForm, AllocError>
+pub fn bind_statement(
+    alloc: Global,
+    path: &Text,
+    full: FullType,
+) -> Result<StatementForm, AllocError>
     ensures { IfOk result (λ f. form_seen f ≡ plain.Bind path.now (full_seen full)) }
 {
     Ok(StatementForm::Bind {
         path: path.share()?,
-        full,
+        full: Rc::new(alloc, full)?,
     })
 }
 

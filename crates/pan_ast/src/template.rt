@@ -58,12 +58,12 @@ pub enum StatementForm {
     /// `type name = type;`
     Define {
         name: Text,
-        full: FullType,
+        full: Rc<FullType>,
     },
     /// `bind "path" = type;`
     Bind {
         path: Text,
-        full: FullType,
+        full: Rc<FullType>,
     },
     /// `valid "path" = item;`
     Valid {

@@ -23,12 +23,12 @@ pub enum TokenKind {
 #[derive(Drop)]
 pub struct Token {
     kind: TokenKind,
+    // What it is to the grammar, as readers of tokens ask often.
+    sort: Sort,
     start: usize,
     end: usize,
     place: Place,
     value: Text,
-    // What it is to the grammar, as readers of tokens ask often.
-    sort: Sort,
 }
 
 impl Model for Token {
@@ -51,11 +51,11 @@ impl Token {
         let sort = sort_of(kind, value.as_str());
         Token {
             kind,
+            sort,
             start,
             end,
             place,
             value,
-            sort,
         }
     }
 

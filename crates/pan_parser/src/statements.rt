@@ -122,7 +122,7 @@ fn type_form(alloc: Global, tokens: &[Token]) -> Result<(StatementForm, &[Token]
 {
     let (name, rest) = expect_word(tokens)?;
     let (full, rest) = type_of(alloc, rest)?;
-    Ok((type_statement(name.value(), full)?, rest))
+    Ok((type_statement(alloc, name.value(), full)?, rest))
 }
 
 /// After `bind`.
@@ -132,7 +132,7 @@ fn bind_form(alloc: Global, tokens: &[Token]) -> Result<(StatementForm, &[Token]
 {
     let (path, rest) = expect(Sort::Text, tokens)?;
     let (full, rest) = type_of(alloc, rest)?;
-    Ok((bind_statement(path.value(), full)?, rest))
+    Ok((bind_statement(alloc, path.value(), full)?, rest))
 }
 
 /// After `valid`.
