@@ -1,13 +1,13 @@
 -- Words, names, signs and numbers are of ASCII characters on one line.
 use Rattle.std.proofs.Common.{◌≡◌, ◌≢◌, ℕ, ◌+◌, ◌<◌, Bool, true, false, cond, eqb, List, [], ◌∷◌, length, take, drop, Option, Some, None, refl, sym, ap, subst, ◌∙◌, arith}
-use Rattle.std.specs.List.{prefix_len}
+use Rattle.std.specs.List.{prefix_len, list_all}
 use Rattle.std.specs.Prelude.{◌&&◌, nat_le, nat_lt}
 use Rattle.std.proofs.lemmas.Bool.{eqb-true}
 use Rattle.std.proofs.Math.Nat.{add_assoc, add-zero}
 use Rattle.pan_ast.specs.declared.fault.Code.TheVariants.{BadCharacter}
 use Rattle.pan_ast.specs.declared.token.TokenKind.TheVariants as kinds
 use Rattle.pan_lexer.specs.Parts.{Front, Written, Int, Bad, Quoted, Closed, Open, BadAt}
-use Rattle.pan_lexer.specs.Bytes.{is_blank, is_word_start, is_word_byte, is_name_byte, is_digit, is_octal, is_hex, is_tab, is_in_annotation, is_single_sign, may_have_equals, may_be_doubled, starts, starts_twice, begins}
+use Rattle.pan_lexer.specs.Bytes.{is_printed, is_blank, is_word_start, is_word_byte, is_name_byte, is_digit, is_octal, is_hex, is_tab, is_in_annotation, is_single_sign, may_have_equals, may_be_doubled, starts, starts_twice, begins}
 use Rattle.pan_lexer.specs.Fronts.{annotation_body, annotation, digits_value, small, ended_int, is_double, plain_int, hex_int, octal_int, int, single, double, text_of, lines, line_end, document_of, document_from, document, sign_len, sign, front}
 use Rattle.pan_lexer.specs.Lexed.{advance, place_after}
 use Rattle.pan_lexer.specs.Lines.{IsOneLine, StandsOnLine}
@@ -40,6 +40,14 @@ one_line (b ∷ bs) p h = ap (λ (q : At). place_after q bs) (advance_along p b 
 
 pub line_place : (p : At) (bs : List ℕ) → IsOneLine bs → record { start = p.start + length bs; line = p.line; column = p.column + length bs } ≡ place_after p bs
 line_place p bs h = sym (one_line bs p h)
+
+-- Printed characters
+pub printed_line : (bs : List ℕ) → list_all is_printed bs ≡ true → IsOneLine bs
+printed_line [] e = tt
+printed_line (b ∷ bs) e =
+    let r = and_both (is_printed b) (list_all is_printed bs) e in
+    let within = between_no_sign 32 126 b r.0 in
+    (omega (arith, within.1), ((λ h. omega (arith, within.0, h)), printed_line bs r.1))
 
 -- Runs
 abbrev IsInk : ℕ → Type 0

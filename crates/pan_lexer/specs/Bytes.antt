@@ -11,6 +11,10 @@ is_digit b = between 48 57 b
 abbrev pub is_octal : ℕ → Bool
 is_octal b = between 48 55 b
 
+-- an ASCII character that is printed, blanks among them
+abbrev pub is_printed : ℕ → Bool
+is_printed b = between 32 126 b
+
 abbrev pub is_letter : ℕ → Bool
 is_letter b = between 65 90 b || between 97 122 b
 

@@ -1,6 +1,6 @@
 ghost use Rattle.std.specs.Prelude.{◌≡◌, ◌<◌, ◌≤◌, ◌+◌, length, take, drop, IsTrue, true};
 ghost use Rattle.std.specs.List.{prefix_len};
-ghost use Rattle.pan_lexer.specs.Bytes.{is_digit, is_octal, is_word_start, is_word_byte, is_name_byte, is_hex, is_tab, is_blank, is_in_comment, is_in_annotation, is_single_sign, may_have_equals, may_be_doubled, starts, starts_twice, begins, digit_value};
+ghost use Rattle.pan_lexer.specs.Bytes.{is_digit, is_octal, is_printed, is_word_start, is_word_byte, is_name_byte, is_hex, is_tab, is_blank, is_in_comment, is_in_annotation, is_single_sign, may_have_equals, may_be_doubled, starts, starts_twice, begins, digit_value};
 
 /// The bytes from n on.
 pub fn behind(bytes: &[u8], n: usize) -> &[u8]
@@ -66,6 +66,12 @@ pub fn is_blank(b: u8) -> bool
     ensures { result ≡ is_blank b }
 {
     matches!(b, b' ' | b'\t' | b'\r' | b'\n')
+}
+
+pub fn is_printed(b: u8) -> bool
+    ensures { result ≡ is_printed b }
+{
+    matches!(b, b' '..=b'~')
 }
 
 pub fn is_single_sign(b: u8) -> bool

@@ -1,6 +1,8 @@
 ghost use Rattle.std.specs.Prelude.{◌≡◌, ◌≤◌, ◌<◌, ◌+◌, ◌^◌, length, IfOk, List, IsUtf8};
+ghost use Rattle.std.specs.List.{list_all};
 ghost use Rattle.pan_ast.specs.Sorts.{EndsInEnd};
 ghost use Rattle.pan_lexer.specs.Lexed.{place_after, is_naming, is_template, mode_after, lexed, lexed_file, origin};
+ghost use Rattle.pan_lexer.specs.Bytes.{is_printed};
 ghost use Rattle.pan_lexer.specs.Lines.{IsOneLine};
 ghost use Rattle.pan_lexer.specs.Answers.{Gives, OnFault};
 ghost use Rattle.pan_lexer.specs.Faulty.{Faulty};
@@ -8,7 +10,7 @@ ghost use Rattle.pan_lexer.specs.Spelled.{Spelled};
 ghost use Rattle.pan_lexer.specs.Tokens.{EndsOnce, AreValues, AreInOrder};
 ghost use Rattle.pan_lexer.specs.declared.lexing.LexError.TheVariants.{Memory};
 
-use crate::bytes::{behind, front_of};
+use crate::bytes::{behind, front_of, is_printed};
 use crate::fronts::front;
 use crate::parts::{At, Front, Mode};
 use crate::tokens::{as_text, fault, int_token, text_token, token, written_token};
@@ -54,7 +56,7 @@ fn origin() -> At
 }
 
 /// The place after some bytes. A line feed begins a line, and columns count characters.
-fn passed(at: At, bytes: &[u8]) -> At
+fn passed_lines(at: At, bytes: &[u8]) -> At
     requires start { at.start + length bytes.now < 2 ^ 31 }
     requires line { at.line ≤ 1 + at.start }
     requires column { at.column ≤ 1 + at.start }
@@ -96,6 +98,36 @@ fn passed_on_line(at: At, bytes: &[u8]) -> At
         start: at.start + bytes.len(),
         line: at.line,
         column: at.column + bytes.len() as u32,
+    }
+}
+
+/// Whether the bytes are ASCII characters that are printed, and so stand on one line.
+fn are_printed(bytes: &[u8]) -> bool
+    ensures { result ≡ list_all is_printed bytes.now }
+{
+    // No way out in between, so that many bytes are looked at in one step.
+    let mut all = true;
+    for b in bytes {
+        all &= is_printed(*b);
+    }
+    all
+}
+
+/// The place after some bytes. Most texts stand on one line, which needs no count.
+#[tactic(auto, using(crate::proofs::OneLine::printed_line))]
+fn passed(at: At, bytes: &[u8]) -> At
+    requires start { at.start + length bytes.now < 2 ^ 31 }
+    requires line { at.line ≤ 1 + at.start }
+    requires column { at.column ≤ 1 + at.start }
+    ensures value { result ≡ place_after at bytes.now }
+    ensures start { result.start ≡ at.start + length bytes.now }
+    ensures line { result.line ≤ 1 + result.start }
+    ensures column { result.column ≤ 1 + result.start }
+{
+    if are_printed(bytes) {
+        passed_on_line(at, bytes)
+    } else {
+        passed_lines(at, bytes)
     }
 }
 
