@@ -59,3 +59,12 @@ unwritten place path o terms v at p e f g = rw (e, f, g) refl
 pub refused_at : {A : Type 0} (whole : Read A) (p : Place) (e : Unbuilt) → whole ≡ Err p → IsRefusedAt p e → IsRefused whole e
 refused_at whole p (errors.At q) is at = is ∙ ap Err (sym at)
 refused_at whole p errors.Memory is at = tt
+
+-- the first of some statements is not built, or a later one
+pub refused_first : (first : Read Assignment) (more : Read (List Assignment)) (u : Unbuilt) → IsRefused first u → IsRefused (before first more) u
+refused_first first more (errors.At place) is = rw is refl
+refused_first first more errors.Memory is = tt
+
+pub refused_later : (first : Read Assignment) (a : Assignment) (more : Read (List Assignment)) (u : Unbuilt) → first ≡ Ok a → IsRefused more u → IsRefused (before first more) u
+refused_later first a more (errors.At place) is later = rw (is, later) refl
+refused_later first a more errors.Memory is later = tt

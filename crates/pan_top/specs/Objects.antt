@@ -70,16 +70,17 @@ tree_after (a ∷ more) tree = and_then (assigned a tree) (tree_after more)
 abbrev pub not_built : Place → Fault
 not_built place = record { code = code.NotBuilt; place = place; detail = [] }
 
-abbrev pub tree_of_read : Read (List Assignment) → Result Plain Fault
-tree_of_read (Ok assignments) = tree_after assignments (dict no_fields)
-tree_of_read (Err place) = Err (not_built place)
+-- what statements make of a tree; a construct that is not built comes before all other faults
+abbrev pub tree_of_read : Read (List Assignment) → Plain → Result Plain Fault
+tree_of_read (Ok assignments) tree = tree_after assignments tree
+tree_of_read (Err place) tree = Err (not_built place)
 
 -- a template with another name than its file's
 abbrev pub wrong_template : Place → Fault
 wrong_template place = record { code = code.WrongTemplate; place = place; detail = [] }
 
 abbrev pub tree_of_template : List ℕ → Template → Result Plain Fault
-tree_of_template name z = if bytes_eq z.name name then tree_of_read (assignments z.statements) else Err (wrong_template z.name_place)
+tree_of_template name z = if bytes_eq z.name name then tree_of_read (assignments z.statements) (dict no_fields) else Err (wrong_template z.name_place)
 
 abbrev pub tree_of_parsed : List ℕ → Result Template Fault → Result Plain Fault
 tree_of_parsed name (Ok z) = tree_of_template name z

@@ -1,12 +1,14 @@
-ghost use Rattle.std.specs.Prelude.{◌≡◌, ◌≢◌, ◌≤◌, ◌++◌, [], IfOk, IfErr, OnOk, Ok, Err, codes, length};
-ghost use Rattle.pan_ast.specs.TemplatesSeen.{template_seen};
+ghost use Rattle.std.specs.Prelude.{◌≡◌, ◌≢◌, ◌≤◌, ◌++◌, [], ◌∷◌, List, IfOk, IfErr, OnOk, Ok, Err, codes, length, map};
+ghost use Rattle.pan_ast.specs.TemplatesSeen.{statement_seen, template_seen};
+ghost use Rattle.path_tree.specs.Plain.{Plain};
 ghost use Rattle.path_tree.specs.Plain as plain;
-ghost use Rattle.pan_top.specs.Objects.{literal_tree, fault_of, put_at, assigned, tree_after, tree_of_template, template_of, tree_of, file_of, outcome_of, dependencies_of, IsFault};
+ghost use Rattle.pan_top.specs.Statements.{Read, assignments, IsRefused};
+ghost use Rattle.pan_top.specs.Objects.{literal_tree, fault_of, put_at, assigned, tree_of_read, tree_of_template, template_of, tree_of, file_of, outcome_of, dependencies_of, IsFault};
 ghost use Rattle.pan_top.specs.declared.compile.CompileError.TheVariants.{Memory};
 
-use crate::statements::{Assignment, Literal, Unbuilt, assignments};
+use crate::statements::{Assignment, Literal, Unbuilt, assignments, built};
 use json_profile::profile_text;
-use pan_ast::{Code, Fault, Place, Template};
+use pan_ast::{Code, Fault, Place, Statement, Template};
 use pan_lexer::{LexError, lex};
 use pan_parser::{ParseError, parse};
 use path_tree::{PutError, Refused, Tree};
@@ -102,23 +104,62 @@ fn put(alloc: Global, tree: &mut Tree, assignment: &Assignment) -> Result<(), Pu
     tree.put(alloc, assignment.terms.as_slice(), value)
 }
 
-/// The tree after assignments in order.
-fn tree_after(alloc: Global, assignments: &[Assignment]) -> Result<Tree, CompileError>
-    ensures ok { IfOk result (λ t. tree_after assignments.now (plain.dict plain.no_fields) ≡ Ok t) }
-    ensures err { IfErr result (IsFault (tree_after assignments.now (plain.dict plain.no_fields))) }
-{
-    let mut tree = Tree::empty_dict(alloc)?;
-    for assignment in assignments {
-        assign(alloc, &mut tree, assignment)?;
-    }
-    Ok(tree)
-}
-
 /// A fault of this kind without a detail.
 fn fault_at(alloc: Global, code: Code, place: Place) -> Result<Fault, AllocError>
     ensures { IfOk result (λ f. f ≡ record { code = code; place = place; detail = [] }) }
 {
     Fault::new(alloc, code, place, "")
+}
+
+/// The fault of a construct that is not built.
+fn not_built(alloc: Global, unbuilt: Unbuilt) -> CompileError
+    ensures { (read : Read (List Assignment)) (tree : Plain) → IsRefused read unbuilt → IsFault (tree_of_read read tree) result }
+{
+    match unbuilt {
+        Unbuilt::At(place) => match fault_at(alloc, Code::NotBuilt, place) {
+            Ok(fault) => CompileError::Fault(fault),
+            Err(AllocError) => CompileError::Memory,
+        },
+        Unbuilt::Memory => CompileError::Memory,
+    }
+}
+
+/// Assigns what the first of some statements says. Where that is refused, a construct that is not built in a
+/// later one is the fault before it.
+fn assign_first(
+    alloc: Global,
+    tree: &mut Tree,
+    statement: &Statement,
+    later: &[Statement],
+) -> Result<(), CompileError>
+    ensures ok { OnOk result (tree_of_read (assignments (statement_seen statement.now ∷ map statement_seen later.now)) tree.old ≡ tree_of_read (assignments (map statement_seen later.now)) tree.new) }
+    ensures err { IfErr result (IsFault (tree_of_read (assignments (statement_seen statement.now ∷ map statement_seen later.now)) tree.old)) }
+{
+    let assignment = match built(alloc, statement) {
+        Ok(assignment) => assignment,
+        Err(unbuilt) => return Err(not_built(alloc, unbuilt)),
+    };
+    let Err(error) = assign(alloc, tree, &assignment) else {
+        return Ok(());
+    };
+    match assignments(alloc, later) {
+        Ok(_) => Err(error),
+        Err(unbuilt) => Err(not_built(alloc, unbuilt)),
+    }
+}
+
+/// The tree after statements in order.
+fn tree_of_statements(alloc: Global, statements: &[Statement]) -> Result<Tree, CompileError>
+    ensures ok { IfOk result (λ t. tree_of_read (assignments (map statement_seen statements.now)) (plain.dict plain.no_fields) ≡ Ok t) }
+    ensures err { IfErr result (IsFault (tree_of_read (assignments (map statement_seen statements.now)) (plain.dict plain.no_fields))) }
+{
+    let mut tree = Tree::empty_dict(alloc)?;
+    let mut rest = statements;
+    while let [statement, later @ ..] = rest {
+        assign_first(alloc, &mut tree, statement, later)?;
+        rest = later;
+    }
+    Ok(tree)
 }
 
 /// The tree of an object with this template.
@@ -130,15 +171,7 @@ fn tree_of_template(alloc: Global, name: &str, template: &Template) -> Result<Tr
         let place = template.name_place.share()?;
         return Err(CompileError::Fault(fault_at(alloc, Code::WrongTemplate, place)?));
     }
-    match assignments(alloc, &template.statements) {
-        Ok(assignments) => tree_after(alloc, &assignments),
-        Err(Unbuilt::At(place)) => Err(CompileError::Fault(fault_at(
-            alloc,
-            Code::NotBuilt,
-            place,
-        )?)),
-        Err(Unbuilt::Memory) => Err(CompileError::Memory),
-    }
+    tree_of_statements(alloc, &template.statements)
 }
 
 /// The template of a text, from the file of this name.

@@ -22,7 +22,7 @@ fn has_file_name<S: Source>(source: &S, i: usize) -> bool
     requires { i < S.count source.now }
     ensures { IfSome (S.scanned source.now) (λ files. IfSome (slice_get files i) (λ f. result ≡ has_file_name f)) }
 {
-    is_file_name(source.name(i).as_bytes())
+    is_file_name(source.name(i).as_str().as_bytes())
 }
 
 fn name_count<S: Source>(source: &S, i: usize) -> usize
@@ -86,19 +86,14 @@ fn weight(content: &Content) -> usize
 }
 
 /// The content comes into the picture, where its name is new.
-fn take_in(
-    alloc: Global,
-    picture: &mut Picture,
-    name: &str,
-    content: Content,
-) -> Result<(), AllocError>
+fn take_in(picture: &mut Picture, name: &Text, content: Content) -> Result<(), AllocError>
     requires { has_short_content content ≡ true }
     ensures { OnOk result (picture.new ≡ with_found name.now (Some content) picture.old) }
 {
-    if picture.find(name).is_some() {
+    if picture.find(name.as_str()).is_some() {
         return Ok(());
     }
-    picture.add(Text::new(alloc, name)?, content)
+    picture.add(name.share()?, content)
 }
 
 /// Reads a file into the picture, and gives what the read counts.
@@ -122,7 +117,7 @@ fn read_one<S: Source>(
         return Ok(0);
     };
     let weight = weight(&content);
-    take_in(alloc, picture, source.name(i), content)?;
+    take_in(picture, source.name(i), content)?;
     Ok(weight)
 }
 

@@ -142,7 +142,8 @@ fn set_to(alloc: Global, place: &Place, path: &Text, item: &Item) -> Result<Assi
     })
 }
 
-fn built(alloc: Global, statement: &Statement) -> Result<Assignment, Unbuilt>
+/// What a statement assigns.
+pub fn built(alloc: Global, statement: &Statement) -> Result<Assignment, Unbuilt>
     ensures ok { IfOk result (λ a. built (statement_seen statement.now) ≡ Ok a) }
     ensures err { IfErr result (IsRefused (built (statement_seen statement.now))) }
 {
