@@ -14,7 +14,7 @@ build() {
   log=$(mktemp)
   trap 'rm -f "$log"' EXIT
   echo "pan: building the program; each crate is proved first, which takes minutes the first time" >&2
-  for crate in small_types path_tree outside pan_ast pan_lexer pan_grammar pan_parser json_profile pan_top pan; do
+  for crate in base path_tree outside pan_ast pan_lexer pan_grammar pan_parser json_profile pan_top pan; do
     echo "pan: proving $crate" >&2
     (cd "$top/crates/$crate" && rt check >"$log" 2>&1) || { cat "$log" >&2; exit 1; }
   done

@@ -2,7 +2,7 @@ ghost use Rattle.std.specs.Prelude.{◌≡◌, ◌++◌, ◌∷◌, [], IfOk, If
 ghost use Rattle.std.specs.IoError.{error_kind};
 ghost use Rattle.outside.specs.Absent.{says_absent};
 
-use small_types::Text;
+use base::Text;
 use std::alloc::{AllocError, Global};
 use std::fs::{DirEntry, File, ReadDir};
 use std::io::{ErrorKind, Read, Write};

@@ -4,7 +4,7 @@ use crate::error::StoreError;
 use crate::faults::Faults;
 use crate::folder;
 use crate::shelf::Shelf;
-use small_types::Text;
+use base::Text;
 use std::alloc::AllocError;
 use std::rt::Files;
 use std::{fs, io};

@@ -5,7 +5,7 @@ use crate::error::StoreError;
 use crate::faults::Faults;
 use crate::folder;
 use crate::source::{Got, Source};
-use small_types::Text;
+use base::Text;
 use std::io::ErrorKind;
 use std::rt::Files;
 use std::{fs, io};

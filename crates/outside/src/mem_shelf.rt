@@ -9,7 +9,7 @@ use crate::calls::Calls;
 use crate::error::StoreError;
 use crate::shelf::Shelf;
 use crate::sure_shelf::{Held, SureShelf};
-use small_types::Text;
+use base::Text;
 use std::alloc::Global;
 
 /// A shelf in memory, with a list of the calls that are to fail.

@@ -7,7 +7,7 @@ use crate::calls::Calls;
 use crate::error::StoreError;
 use crate::source::{Got, MemFile, Source};
 use crate::sure_source::SureSource;
-use small_types::{Seq, Text};
+use base::{Seq, Text};
 use std::alloc::Global;
 
 /// Pictures in memory, with a list of the calls that are to fail.

@@ -2,7 +2,7 @@ ghost use Rattle.std.specs.Prelude.{◌≡◌, ◌≤◌, List, [], OnOk, OnErr,
 ghost use Rattle.outside.specs.Files.{is_rising, are_short, has_short_content, content_in, with_file, place_in};
 ghost use Rattle.outside.specs.declared.picture.PictureFile.{PictureFile};
 
-use small_types::{Bytes, Text};
+use base::{Bytes, Text};
 use std::alloc::{AllocError, Global};
 use std::marker::Model;
 

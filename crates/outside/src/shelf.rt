@@ -4,7 +4,7 @@ ghost use Rattle.outside.specs.Causes.{HasCause};
 ghost use Rattle.outside.specs.Cells.{Cell, Gives, Opens, Reads};
 
 use crate::error::StoreError;
-use small_types::Text;
+use base::Text;
 
 /// Names with bytes.
 ///

@@ -4,7 +4,7 @@ ghost use Rattle.outside.specs.Pictures.{next_picture, later_pictures, NameOf, F
 ghost use Rattle.outside.specs.declared.source.MemFile.{MemFile};
 
 use crate::error::StoreError;
-use small_types::{Bytes, Text};
+use base::{Bytes, Text};
 
 /// A file of a source: its name, and its bytes, or None where it is gone when it is read.
 #[derive(Debug, Drop)]

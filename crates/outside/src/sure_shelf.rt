@@ -3,7 +3,7 @@ ghost use Rattle.outside.specs.Kept.{kept, without};
 
 use crate::error::StoreError;
 use crate::shelf::Shelf;
-use small_types::{Bytes, Text};
+use base::{Bytes, Text};
 use std::alloc::{AllocError, Global};
 use std::marker::Model;
 

@@ -3,7 +3,7 @@ ghost use Rattle.outside.specs.Pictures.{next_picture, later_pictures};
 
 use crate::error::StoreError;
 use crate::source::{Got, MemFile, Source};
-use small_types::{Seq, Text};
+use base::{Seq, Text};
 use std::alloc::Global;
 use std::marker::Model;
 

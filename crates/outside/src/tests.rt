@@ -4,7 +4,7 @@ use crate::{
     Content, Got, Held, HostShelf, HostSink, HostSource, MemFile, MemShelf, MemSink, MemSource,
     Picture, Shelf, Sink, Source, StoreError, SureShelf, SureSink, SureSource, is_file_name,
 };
-use small_types::{Bytes, Seq, Text};
+use base::{Bytes, Seq, Text};
 use std::alloc::{AllocError, Global};
 use std::io::{ErrorKind, Write};
 use std::test::Fail;

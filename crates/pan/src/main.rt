@@ -1,9 +1,9 @@
 //! The compiler as a program. It makes the host's devices, calls `pan_top::pan` and ends with its status.
 #![tactic(auto)]
 
+use base::Text;
 use outside::{HostShelf, HostSink, HostSource};
 use pan_top::{Status, pan};
-use small_types::Text;
 use std::alloc::AllocError;
 use std::process::ExitCode;
 use std::{env, io};

@@ -4,8 +4,8 @@ ghost use Rattle.pan_ast.specs.Detail.{is_continuation, chars_len, first_chars};
 ghost use Rattle.pan_ast.specs.Printed.{hex_digit, printed_byte, printed, place_text, detail_text, line_of};
 
 use crate::place::Place;
+use base::Text;
 use itoa::Buffer;
-use small_types::Text;
 use std::alloc::{AllocError, Global};
 
 /// The kinds of faults. Each is printed as a short code, `F01` and so on.

@@ -5,8 +5,8 @@ ghost use Rattle.pan_ast.specs.Seen.{item_seen, items_seen, node_seen, reference
 
 use crate::place::Place;
 use crate::syntax::{Form, Item, ItemForm, Node, Reference, Step};
+use base::Text;
 use path_tree::{BinaryOp, UnaryOp};
-use small_types::Text;
 use std::alloc::{AllocError, Global};
 
 /// A number.

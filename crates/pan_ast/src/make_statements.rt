@@ -8,7 +8,7 @@ use crate::place::Place;
 use crate::syntax::Item;
 use crate::template::{Statement, StatementForm};
 use crate::types::FullType;
-use small_types::Text;
+use base::Text;
 use std::alloc::{AllocError, Global};
 use std::rc::Rc;
 

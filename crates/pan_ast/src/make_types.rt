@@ -6,8 +6,8 @@ ghost use Rattle.pan_ast.specs.TypesSeen.{field_seen, fields_seen, full_seen, he
 use crate::place::Place;
 use crate::syntax::Item;
 use crate::types::{Bounds, Field, FullType, Head, RecordForm, Suffix, TypeForm};
+use base::Text;
 use path_tree::Key;
-use small_types::Text;
 use std::alloc::{AllocError, Global};
 use std::rc::Rc;
 

@@ -1,6 +1,6 @@
 ghost use Rattle.std.specs.Prelude.{◌≡◌, IfOk};
 
-use small_types::Text;
+use base::Text;
 use std::alloc::AllocError;
 
 /// A place in a file. Lines and columns count from 1, columns in characters. Copies share the file's name.

@@ -1,6 +1,6 @@
 use crate::place::Place;
+use base::Text;
 use path_tree::{BinaryOp, UnaryOp};
-use small_types::Text;
 
 /// An expression that may stand for a statement list, a condition or a loop, with the place of its first token.
 #[derive(Drop)]

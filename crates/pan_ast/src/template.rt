@@ -1,8 +1,8 @@
 use crate::place::Place;
 use crate::syntax::Item;
 use crate::types::FullType;
+use base::Text;
 use path_tree::Name;
-use small_types::Text;
 use std::rc::Rc;
 
 /// The word before `template` in a header, or none.

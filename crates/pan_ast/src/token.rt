@@ -3,7 +3,7 @@ ghost use Rattle.pan_ast.specs.Sorts.{sort};
 
 use crate::place::Place;
 use crate::sort::{Sort, sort_of};
-use small_types::Text;
+use base::Text;
 use std::marker::Model;
 
 /// The kinds of tokens. A Name is the name of a template in its header; an End stands after the last token.

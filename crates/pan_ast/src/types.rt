@@ -1,7 +1,7 @@
 use crate::place::Place;
 use crate::syntax::Item;
+use base::Text;
 use path_tree::Key;
-use small_types::Text;
 use std::rc::Rc;
 
 /// A type with its default and its test: `type = item with item`, each of the two where it is written.

@@ -14,8 +14,8 @@ use crate::bytes::{behind, front_of, is_printed};
 use crate::fronts::front;
 use crate::parts::{At, Front, Mode};
 use crate::tokens::{as_text, fault, int_token, text_token, token, written_token};
+use base::{Seq, Text};
 use pan_ast::{Code, Fault, Token, TokenKind};
-use small_types::{Seq, Text};
 use std::alloc::{AllocError, AllocFailed, Global};
 
 /// How many bytes a token of usual text takes at least, with what is skipped before it.

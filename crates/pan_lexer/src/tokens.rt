@@ -4,9 +4,9 @@ ghost use Rattle.pan_lexer.specs.Views.{as_value};
 
 use crate::parts::{At, Value};
 use crate::texts::{double_value, single_value};
+use base::Text;
 use itoa::Buffer;
 use pan_ast::{Code, Fault, Place, Token, TokenKind};
-use small_types::Text;
 use std::alloc::{AllocError, Global};
 use std::str::from_utf8_unchecked;
 

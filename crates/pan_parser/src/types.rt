@@ -16,12 +16,12 @@ use crate::items::item;
 use crate::stopped::Stopped;
 use crate::tables::starts_type;
 use crate::tokens::{cut, expect, expect_mark, expect_type_name, next_is};
+use base::Text;
 use pan_ast::make_types::{
     make_choice, make_field, make_full, make_include, make_named, make_record, make_type,
 };
 use pan_ast::{Field, FullType, Head, Item, Sort, Token, TypeForm};
 use path_tree::{Key, KeyError};
-use small_types::Text;
 use std::alloc::{AllocError, Global};
 
 /// The key that the token of a text is, or None where it is none.

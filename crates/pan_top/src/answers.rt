@@ -5,10 +5,10 @@ ghost use Rattle.pan_top.specs.Answers.{Object, object_of, is_object_file, with_
 
 use crate::compile::{Outcome, compile};
 use crate::publish::Want;
+use base::Text;
 use outside::{Content, PictureFile};
 use pan_lexer::is_object;
 use path_tree::is_name;
-use small_types::Text;
 use std::alloc::{AllocError, Global};
 use std::collections::BTreeMap;
 

@@ -7,12 +7,12 @@ ghost use Rattle.pan_top.specs.Objects.{literal_tree, fault_of, put_at, assigned
 ghost use Rattle.pan_top.specs.declared.compile.CompileError.TheVariants.{Memory};
 
 use crate::statements::{Assignment, Literal, Unbuilt, assignments, built};
+use base::{Bytes, Text};
 use json_profile::profile_text;
 use pan_ast::{Code, Fault, Place, Statement, Template};
 use pan_lexer::{LexError, lex};
 use pan_parser::{ParseError, parse};
 use path_tree::{PutError, Refused, Tree};
-use small_types::{Bytes, Text};
 use std::alloc::{AllocError, AllocFailed, Global};
 
 /// What compiling an object gives.

@@ -5,8 +5,8 @@ ghost use Rattle.pan_top.specs.Ends.{IsEndOf, Caused, IsEndAt, OfName, OfShelf, 
 ghost use Rattle.pan_top.specs.declared.publish.Want.{Want};
 
 use crate::status::{End, Status};
+use base::{Bytes, Text};
 use outside::{Shelf, StoreError};
-use small_types::{Bytes, Text};
 use std::alloc::{AllocError, Global};
 use std::collections::HashSet;
 

@@ -18,8 +18,8 @@ use crate::report::report;
 use crate::scan::scan;
 use crate::status::{End, Status};
 use crate::words::command;
+use base::Text;
 use outside::{Picture, Shelf, Sink, Source, StoreError};
-use small_types::Text;
 use std::alloc::{AllocError, Global};
 
 /// The most objects of a picture.

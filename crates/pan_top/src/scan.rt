@@ -5,8 +5,8 @@ ghost use Rattle.pan_top.specs.Scans.{has_file_name, found_of, content_weight, w
 ghost use Rattle.pan_top.specs.Ends.{IsEndOf, Caused, OfSource};
 
 use crate::status::{End, Status};
+use base::{Bytes, Text};
 use outside::{Content, Got, Picture, Source, StoreError, is_file_name};
-use small_types::{Bytes, Text};
 use std::alloc::{AllocError, Global};
 
 /// The most file names of a scan.

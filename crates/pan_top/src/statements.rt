@@ -6,9 +6,9 @@ ghost use Rattle.pan_ast.specs.TemplatesSeen.{statement_seen};
 ghost use Rattle.pan_top.specs.Statements.{literal_of, literal_in, is_key_term, built_terms, path_terms, set_to, built, assignments, IsRefused, IsRefusedAt};
 ghost use Rattle.pan_top.specs.declared.statements.Unbuilt.TheVariants.{Memory};
 
+use base::{Seq, Text};
 use pan_ast::{Form, Item, ItemForm, Node, Place, Statement, StatementForm};
 use path_tree::{Anchor, Path, PathError, Term};
-use small_types::{Seq, Text};
 use std::alloc::{AllocError, AllocFailed, Global};
 
 /// A value that is written out.

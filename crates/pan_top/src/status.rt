@@ -2,7 +2,7 @@ ghost use Rattle.std.specs.Prelude.{◌≡◌};
 ghost use Rattle.pan_top.specs.declared.status.End.TheVariants.{Memory};
 ghost use Rattle.pan_top.specs.Ends.{status_of, exit_code_of};
 
-use small_types::Text;
+use base::Text;
 use std::alloc::{AllocError, AllocFailed};
 
 /// How a call of the compiler ended.

@@ -1,7 +1,7 @@
 ghost use Rattle.std.specs.Prelude.{◌≡◌, ◌∷◌, [], true, bytes_eq, codes, MatchOption, false};
 ghost use Rattle.pan_top.specs.Commands.{is_folder, is_command};
 
-use small_types::Text;
+use base::Text;
 
 /// The folders that a command names.
 #[derive(Clone, Copy)]

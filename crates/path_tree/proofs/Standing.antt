@@ -2,8 +2,8 @@
 use Rattle.std.proofs.Common.{◌≡◌, ℕ, ◌+◌, List, length, Option, Some, None, IfSome, ap, sym, ◌∙◌, subst, arith}
 use Rattle.std.proofs.lemmas.Str.{IsUtf8-from_ascii}
 use Rattle.std.specs.Str.{IsAscii, IsUtf8}
-use Rattle.small_types.specs.Parts.{bytes_from_to}
-use Rattle.small_types.proofs.Parts.{part_of_part}
+use Rattle.base.specs.Parts.{bytes_from_to}
+use Rattle.base.proofs.Parts.{part_of_part}
 use Rattle.path_tree.specs.Reading.{StandsAt}
 
 -- a part of a part

@@ -1,6 +1,6 @@
 -- What the functions that read a path or an escaped text answer.
 use Rattle.std.specs.Prelude.{false, ◌≡◌, ◌≢◌, ℕ, ◌+◌, ◌≤◌, Bool, List, length, [], ◌∷◌, ◌==◌, ◌&&◌, not, if◌then◌else◌, Option, Some, None, Result, Ok, Err, IfOk, IfErr}
-use Rattle.small_types.specs.Parts.{bytes_from_to}
+use Rattle.base.specs.Parts.{bytes_from_to}
 use Rattle.path_tree.specs.Escape.{is_escape}
 use Rattle.path_tree.specs.Paths.{pieces, inside_after}
 use Rattle.path_tree.specs.declared.path.PathError.{PathError}

@@ -9,7 +9,7 @@ ghost use Rattle.path_tree.specs.Grammar.{is_digit, is_key, is_key_byte, is_lett
 ghost use Rattle.path_tree.specs.Reading.{StandsAt};
 ghost use Rattle.path_tree.specs.declared.key.KeyError.TheVariants.{Memory};
 
-use small_types::Text;
+use base::Text;
 use std::alloc::{AllocError, Global};
 use std::cmp::Ordering;
 use std::marker::Model;

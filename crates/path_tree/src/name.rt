@@ -11,7 +11,7 @@ ghost use Rattle.path_tree.specs.declared.name.NameError.TheVariants.{Memory};
 
 use crate::bytes::first_of;
 use crate::key::are_key_bytes;
-use small_types::Text;
+use base::Text;
 use std::alloc::{AllocError, Global};
 use std::cmp::Ordering;
 use std::marker::Model;

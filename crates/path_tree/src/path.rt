@@ -11,7 +11,7 @@ use crate::bytes::first_of;
 use crate::escaping::escape_bytes;
 use crate::key::{Key, KeyError, is_digit, is_key};
 use crate::name::{Name, is_name};
-use small_types::{Seq, Text};
+use base::{Seq, Text};
 use std::alloc::{AllocError, AllocFailed, Global};
 
 /// A step of a path: into a dict by a key, or into a list by an index from 0.

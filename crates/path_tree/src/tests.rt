@@ -1,5 +1,5 @@
 use super::*;
-use small_types::Text;
+use base::Text;
 use std::alloc::Global;
 use std::test::Fail;
 

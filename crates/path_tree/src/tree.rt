@@ -19,7 +19,7 @@ use crate::key::Key;
 use crate::kind::Kind;
 use crate::path::{PutError, Term};
 use crate::refused::Refused;
-use small_types::Text;
+use base::Text;
 use std::alloc::{AllocError, Global};
 use std::marker::Model;
 use std::rc::Rc;

@@ -5,7 +5,7 @@ ghost use Rattle.std.specs.Cmp.Rules.{comparing, hashing};
 ghost use Rattle.std.specs.Hash as fed;
 ghost use Rattle.std.specs.Str.{IsUtf8};
 ghost use Rattle.std.proofs.Common.{rules};
-ghost use Rattle.small_types.specs.Parts.{bytes_from_to};
+ghost use Rattle.base.specs.Parts.{bytes_from_to};
 
 use std::alloc::{AllocError, Global};
 use std::cmp::Ordering;
@@ -28,7 +28,7 @@ impl Model for Text {
     ghost use Rattle.std.specs.Prelude.{◌≤◌, ℕ, List, length};
     ghost use Rattle.std.specs.Str.{IsUtf8};
     ghost use Rattle.std.specs.Rc.{rc_str_bytes};
-    ghost use Rattle.small_types.specs.Parts.{bytes_from_to};
+    ghost use Rattle.base.specs.Parts.{bytes_from_to};
 
     ghost Value = { List ℕ };
 

@@ -1,7 +1,7 @@
 -- The parts of a part.
 use Rattle.std.proofs.Common.{◌≡◌, ◌≤◌, ◌+◌, ◌-◌, ℕ, List, length, take, drop, sym, ap, ◌∙◌, arith}
 use Rattle.std.proofs.lemmas.List.{length-drop, length-take-le, drop-take, take-take, drop-drop}
-use Rattle.small_types.specs.Parts.{bytes_from_to}
+use Rattle.base.specs.Parts.{bytes_from_to}
 
 pub part_length : (s e : ℕ) (bytes : List ℕ) → s ≤ e → e ≤ length bytes → length (bytes_from_to s e bytes) ≡ e - s
 part_length s e bytes le within = length-take-le (e - s) (drop s bytes) (omega (arith, length-drop s bytes))

@@ -6,10 +6,10 @@
 #![tactic(auto)]
 
 use anyhow::Result;
+use base::Text;
 use pan_ast::Fault;
 use pan_lexer::{LexError, lex};
 use pan_parser::{ParseError, parse};
-use small_types::Text;
 use std::alloc::Global;
 
 /// Takes what stands before the next `$` off the line.

@@ -1,4 +1,4 @@
-//! Makes and reads large trees, for the benchmark: `tree_bench rising|random|list|reads N` prints the tree's size.
+//! Makes and reads large trees, for the benchmark: `bench_trees rising|random|list|reads N` prints the tree's size.
 #![tactic(auto)]
 
 use anyhow::{Result, anyhow};
@@ -80,7 +80,7 @@ fn made(alloc: Global, kind: &str, n: u32) -> Result<Tree> {
 fn main(rt: HostRuntime) -> Result<()> {
     let mut words = env::args(&rt)?.skip(1);
     let (Some(kind), Some(count)) = (words.next(), words.next()) else {
-        return Err(anyhow!("tree_bench rising|random|list|reads N"));
+        return Err(anyhow!("bench_trees rising|random|list|reads N"));
     };
     let tree = made(rt.alloc(), kind.as_str(), count.parse::<u32>()?)?;
     let size = tree.size();

@@ -8,9 +8,9 @@
 #![tactic(auto)]
 
 use anyhow::{Result, anyhow};
+use base::{Bytes, Seq, Text};
 use outside::{Held, MemFile, MemShelf, MemSink, MemSource, Shelf, Sink, Source};
 use pan_top::pan;
-use small_types::{Bytes, Seq, Text};
 use std::alloc::{AllocError, Global};
 use std::mem;
 

@@ -7,10 +7,10 @@
 #![tactic(auto)]
 
 use anyhow::{Result, anyhow};
+use base::Text;
 use dml_ops::{binary, unary};
 use json_profile::profile_text;
 use path_tree::{BinaryOp, Kind, Path, PathError, PutError, Refused, Tree, UnaryOp};
-use small_types::Text;
 use std::alloc::Global;
 
 fn value_of(alloc: Global, word: &str) -> Result<Tree> {

@@ -5,10 +5,10 @@
 #![tactic(auto)]
 
 use anyhow::Result;
+use base::Text;
 use pan_ast::{Fault, Token, TokenKind};
 use pan_lexer::{LexError, is_object, lex};
 use percent_encoding::percent_decode;
-use small_types::Text;
 use std::alloc::{AllocError, Global};
 
 fn kind_text(kind: TokenKind) -> &'static str {
