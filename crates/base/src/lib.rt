@@ -1,13 +1,17 @@
-//! Types over `String` and `Vec` that contracts see as plain texts and lists, so that a struct or an enum
-//! made of them is plain data to a clause, and `≡` on it compares contents.
+//! What every other crate stands on, and nothing of Pan.
 //!
-//! In reading order: `text` (a shared text), `bytes` (a list of bytes), `seq` (a list of values).
+//! Types over `String` and `Vec` that contracts see as plain texts and lists, so that a struct or an enum made
+//! of them is plain data to a clause, and `≡` on it compares contents: `text` (a shared text), `bytes` (a list
+//! of bytes), `seq` (a list of values). Then `steps` (a count for proofs) and `limits` (each limit, once).
 #![tactic(auto)]
 
 mod bytes;
+pub mod limits;
 mod seq;
+mod steps;
 mod text;
 
 pub use bytes::Bytes;
 pub use seq::Seq;
+pub use steps::Steps;
 pub use text::Text;
