@@ -1,4 +1,6 @@
 pub mod Keeping
 pub mod Order
-pub mod Places
+pub mod Positions
+pub mod Twice
+pub mod Short
 pub mod Silent

@@ -1,4 +1,5 @@
 -- File names.
+use Rattle.base.specs.declared.limits.TheConstants.{MAX_FILE_NAME_BYTES}
 use Rattle.std.specs.Prelude.{ℕ, List, [], ◌∷◌, length, Bool, true, false, not, ◌&&◌, ◌==◌, nat_le, if◌then◌else◌}
 
 -- from the space to the tilde, but no slash
@@ -17,4 +18,4 @@ abbrev mutual
   are_segments_on (c ∷ cs) = if c == 47 then are_segments cs else (is_name_byte c && are_segments_on cs)
 
 abbrev pub is_file_name : List ℕ → Bool
-is_file_name bytes = nat_le (length bytes) 400 && are_segments bytes
+is_file_name bytes = nat_le (length bytes) MAX_FILE_NAME_BYTES && are_segments bytes

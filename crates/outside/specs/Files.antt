@@ -20,7 +20,7 @@ abbrev pub is_rising : List PictureFile → Bool
 is_rising [] = true
 is_rising (f ∷ fs) = begins_above f.name fs && is_rising fs
 
--- the bytes that are kept are at most 1,000,000
+-- the bytes that are kept are no more than a file may have
 abbrev pub has_short_content : Content → Bool
 has_short_content (Content.Bytes bytes) = is_short bytes
 has_short_content Content.TooLong = true
@@ -39,7 +39,7 @@ abbrev pub with_file : List ℕ → Content → List PictureFile → List Pictur
 with_file n c [] = record { name = n; content = c } ∷ []
 with_file n c (f ∷ fs) = if is_below f.name n then f ∷ with_file n c fs else record { name = n; content = c } ∷ f ∷ fs
 
--- how many files stand before the place of this name
-abbrev pub place_in : List PictureFile → List ℕ → ℕ
-place_in [] n = 0
-place_in (f ∷ fs) n = if is_below f.name n then suc (place_in fs n) else 0
+-- how many files stand before the position of this name
+abbrev pub position_in : List PictureFile → List ℕ → ℕ
+position_in [] n = 0
+position_in (f ∷ fs) n = if is_below f.name n then suc (position_in fs n) else 0

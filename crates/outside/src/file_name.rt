@@ -1,10 +1,12 @@
 ghost use Rattle.std.specs.Prelude.{◌≡◌};
 ghost use Rattle.outside.specs.FileNames.{is_name_byte, are_segments, is_file_name};
 
+use base::limits::MAX_FILE_NAME_BYTES;
+
 fn is_name_byte(byte: u8) -> bool
     ensures { result ≡ is_name_byte byte }
 {
-    (0x20..=0x7e).contains(&byte) && byte != b'/'
+    (b' '..=b'~').contains(&byte) && byte != b'/'
 }
 
 fn are_segments(bytes: &[u8]) -> bool
@@ -32,5 +34,5 @@ fn are_segments(bytes: &[u8]) -> bool
 pub fn is_file_name(bytes: &[u8]) -> bool
     ensures { result ≡ is_file_name bytes.now }
 {
-    bytes.len() <= 400 && are_segments(bytes)
+    bytes.len() <= MAX_FILE_NAME_BYTES && are_segments(bytes)
 }

@@ -1,5 +1,5 @@
 ghost use Rattle.std.specs.Prelude.{◌≡◌, ◌≤◌, List, [], OnOk, OnErr, IfSome, None, true, option_copied, length};
-ghost use Rattle.outside.specs.Files.{is_rising, are_short, has_short_content, content_in, with_file, place_in};
+ghost use Rattle.outside.specs.Files.{is_rising, are_short, has_short_content, content_in, with_file, position_in};
 ghost use Rattle.outside.specs.declared.picture.PictureFile.{PictureFile};
 
 use base::{Bytes, Text};
@@ -9,9 +9,9 @@ use std::marker::Model;
 /// What a file of a picture holds.
 #[derive(Debug, Drop)]
 pub enum Content {
-    /// At most 1,000,000 bytes.
+    /// At most `MAX_FILE_BYTES` bytes.
     Bytes(Bytes),
-    /// Over 1,000,000 bytes, which are not kept.
+    /// More bytes, which are not kept.
     TooLong,
 }
 
@@ -41,9 +41,9 @@ impl Model for Picture {
 }
 
 /// How many names are below this one.
-fn place_of(files: &[PictureFile], name: &str) -> usize
+fn position_of(files: &[PictureFile], name: &str) -> usize
     requires { is_rising files.now ≡ true }
-    ensures { result ≡ place_in files.now name.now }
+    ensures { result ≡ position_in files.now name.now }
 {
     // Names mostly come in order, so most places are at the end.
     let count = files.len();
@@ -60,7 +60,7 @@ fn content_of<'a>(files: &'a [PictureFile], name: &str) -> Option<&'a Content>
     ensures content { option_copied result ≡ content_in files.now name.now }
     ensures short { IfSome result (λ content. has_short_content content.now ≡ true) }
 {
-    let file = files.get(place_of(files, name))?;
+    let file = files.get(position_of(files, name))?;
     if file.name.as_str() != name {
         return None;
     }
@@ -78,15 +78,15 @@ impl Picture {
     }
 
     /// Adds a file with a new name at its place.
-    #[tactic(auto, using(crate::proofs::Places::place_within, crate::proofs::Places::insert_is, crate::proofs::Places::rising_with, crate::proofs::Places::short_with))]
+    #[tactic(auto, using(crate::proofs::Positions::position_within, crate::proofs::Positions::insert_is, crate::proofs::Positions::rising_with, crate::proofs::Positions::short_with))]
     pub fn add(&mut self, name: Text, content: Content) -> Result<(), AllocError>
         requires new { content_in self.old name ≡ None }
         requires short { has_short_content content ≡ true }
         ensures ok { OnOk result (self.new ≡ with_file name content self.old) }
         ensures err { OnErr result (self.new ≡ self.old) }
     {
-        let place = place_of(&self.files, name.as_str());
-        self.files.insert(place, PictureFile { name, content })?;
+        let position = position_of(&self.files, name.as_str());
+        self.files.insert(position, PictureFile { name, content })?;
         Ok(())
     }
 

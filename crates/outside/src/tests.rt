@@ -1,8 +1,10 @@
-ghost use Rattle.std.specs.Prelude.{◌≡◌, ◌<◌};
+ghost use Rattle.std.specs.Prelude.{◌≡◌, ◌<◌, IfOk, true};
+ghost use Rattle.outside.specs.Pictures.{are_pictures};
 
 use crate::{
     Content, Got, Held, HostShelf, HostSink, HostSource, MemFile, MemShelf, MemSink, MemSource,
-    Picture, Shelf, Sink, Source, StoreError, SureShelf, SureSink, SureSource, is_file_name,
+    Picture, Shelf, Sink, Source, StoreError, SureShelf, SureSink, SureSource, are_distinct,
+    is_file_name,
 };
 use base::{Bytes, Seq, Text};
 use std::alloc::{AllocError, Global};
@@ -57,7 +59,9 @@ fn a_picture_is_in_byte_order(rt: HostRuntime) -> Result<(), Fail> {
     Ok(())
 }
 
-fn pictures(alloc: Global) -> Result<Vec<Seq<MemFile>>, AllocError> {
+fn pictures(alloc: Global) -> Result<Vec<Seq<MemFile>>, AllocError>
+    ensures { IfOk result (λ pictures. are_pictures pictures.items ≡ true) }
+{
     let mut first = Vec::new(alloc);
     first.push(MemFile {
         name: Text::new(alloc, "a.pan")?,
@@ -67,6 +71,9 @@ fn pictures(alloc: Global) -> Result<Vec<Seq<MemFile>>, AllocError> {
         name: Text::new(alloc, "gone.pan")?,
         content: None,
     })?;
+    if !are_distinct(alloc, &first)? {
+        first.clear();
+    }
     let mut pictures = Vec::new(alloc);
     pictures.push(Seq::from_vec(first))?;
     Ok(pictures)

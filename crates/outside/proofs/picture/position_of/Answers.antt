@@ -2,13 +2,13 @@ use Rattle.std.proofs.Common.{◌≡◌, ◌-◌, suc, length, true, arith, rule
 use Rattle.std.proofs.lemmas.List.Sorted.{IsPartitionPoint-from_clause}
 use Rattle.outside.specs.Files.{is_below}
 use Rattle.outside.specs.declared.picture.PictureFile.{PictureFile}
-use Rattle.outside.proofs.Places.{at_end, partitioned, place_is}
-use Rattle.outside.proofs.picture.place_of.Goals as goal
+use Rattle.outside.proofs.Positions.{at_end, partitioned, position_is}
+use Rattle.outside.proofs.picture.position_of.Goals as goal
 
 pub returns : goal.returns
 returns c =
     let point = IsPartitionPoint-from_clause (λ (f : PictureFile). is_below f.name c.args.name.now) _ _ c.partition_point.ensures.partitioned (partitioned c.args.name.now c.args.files.now c.requires) (λ a r q k. search rules) in
-    place_is c.args.name.now c.args.files.now c.partition_point.result c.partition_point.ensures.bound point
+    position_is c.args.name.now c.args.files.now c.partition_point.result c.partition_point.ensures.bound point
 
 pub returns-then-lt : goal.returns-then-lt
 returns-then-lt c =

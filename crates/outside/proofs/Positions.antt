@@ -1,10 +1,10 @@
--- The places of names in a picture.
+-- The positions of names in a picture.
 use Rattle.std.proofs.Common.{◌≡◌, ◌≤◌, ◌<◌, ℕ, zero, suc, Bool, true, false, List, [], ◌∷◌, length, Option, Some, None, ◌&&◌, if◌then◌else◌, refl, sym, ap, ◌∙◌, arith}
 use Rattle.std.specs.Prelude.{bytes_eq, slice_index_or, slice_get}
 use Rattle.std.specs.List.{insert}
 use Rattle.std.specs.List.Sorted.{IsPartitionPoint, IsPartitionedBy}
 use Rattle.std.proofs.lemmas.Option.{slice_get_read}
-use Rattle.outside.specs.Files.{is_below, begins_above, is_rising, has_short_content, are_short, content_in, with_file, place_in}
+use Rattle.outside.specs.Files.{is_below, begins_above, is_rising, has_short_content, are_short, content_in, with_file, position_in}
 use Rattle.outside.specs.declared.picture.Content.{Content}
 use Rattle.outside.specs.declared.picture.PictureFile.{PictureFile}
 use Rattle.outside.proofs.Order.{below_chain, below_differs, above_differs, else_above}
@@ -38,15 +38,15 @@ partitioned n (f ∷ fs) q zero (suc j) d le h p = below_chain f.name (slice_ind
 partitioned n (f ∷ fs) q (suc i) zero d le h p = absurd (omega arith)
 partitioned n (f ∷ fs) q (suc i) (suc j) d le h p = partitioned n fs (second_true _ _ q) i j d (omega arith) (omega arith) p
 
-pub place_is : (n : List ℕ) (fs : List PictureFile) (i : ℕ) → i ≤ length fs → IsPartitionPoint (λ (f : PictureFile). is_below f.name n ≡ true) (λ (f : PictureFile). is_below f.name n ≡ false) fs i → i ≡ place_in fs n
-place_is n [] i le point = omega arith
-place_is n (f ∷ fs) zero le point = rw (point.1 0 f (omega arith) (omega arith)) refl
-place_is n (f ∷ fs) (suc i) le point =
-    let ih : i ≡ place_in fs n = place_is n fs i (omega arith) (λ k d l h. point.0 (suc k) d (omega arith) (omega arith), λ k d l h. point.1 (suc k) d (omega arith) (omega arith)) in
+pub position_is : (n : List ℕ) (fs : List PictureFile) (i : ℕ) → i ≤ length fs → IsPartitionPoint (λ (f : PictureFile). is_below f.name n ≡ true) (λ (f : PictureFile). is_below f.name n ≡ false) fs i → i ≡ position_in fs n
+position_is n [] i le point = omega arith
+position_is n (f ∷ fs) zero le point = rw (point.1 0 f (omega arith) (omega arith)) refl
+position_is n (f ∷ fs) (suc i) le point =
+    let ih : i ≡ position_in fs n = position_is n fs i (omega arith) (λ k d l h. point.0 (suc k) d (omega arith) (omega arith), λ k d l h. point.1 (suc k) d (omega arith) (omega arith)) in
     rw (point.0 0 f (omega arith) (omega arith)) (omega arith)
 
--- a name above the last, the file `i`, has its place at the end
-pub at_end : (n : List ℕ) (fs : List PictureFile) (i : ℕ) (f : PictureFile) → is_rising fs ≡ true → suc i ≡ length fs → f ≡ slice_index_or fs i f → is_below f.name n ≡ true → length fs ≡ place_in fs n
+-- a name above the last, the file `i`, has its position at the end
+pub at_end : (n : List ℕ) (fs : List PictureFile) (i : ℕ) (f : PictureFile) → is_rising fs ≡ true → suc i ≡ length fs → f ≡ slice_index_or fs i f → is_below f.name n ≡ true → length fs ≡ position_in fs n
 at_end n [] i f q last is p = absurd (omega arith)
 at_end n (g ∷ []) zero f q last is p = rw (ap (λ (x : PictureFile). is_below x.name n) (sym is) ∙ p) refl
 at_end n (g ∷ []) (suc i) f q last is p = absurd (omega arith)
@@ -54,24 +54,24 @@ at_end n (g ∷ h ∷ hs) zero f q last is p = absurd (omega arith)
 at_end n (g ∷ h ∷ hs) (suc i) f q last is p =
     let high : is_below g.name f.name ≡ true = ap (λ (x : PictureFile). is_below g.name x.name) is ∙ above_each g.name (h ∷ hs) i f (first_true _ _ q) (second_true _ _ q) (omega arith) in
     let next : suc i ≡ length (h ∷ hs) = omega (arith, last) in
-    let rest : length (h ∷ hs) ≡ place_in (h ∷ hs) n = at_end n (h ∷ hs) i f (second_true _ _ q) next is p in
+    let rest : length (h ∷ hs) ≡ position_in (h ∷ hs) n = at_end n (h ∷ hs) i f (second_true _ _ q) next is p in
     rw (below_chain g.name f.name n high p) (ap (λ (k : ℕ). suc k) rest)
 
-insert_by : (n : List ℕ) (c : Content) (f : PictureFile) (fs : List PictureFile) (b : Bool) → insert fs (place_in fs n) (record { name = n; content = c }) ≡ with_file n c fs → insert (f ∷ fs) (if b then suc (place_in fs n) else 0) (record { name = n; content = c }) ≡ (if b then f ∷ with_file n c fs else record { name = n; content = c } ∷ f ∷ fs)
+insert_by : (n : List ℕ) (c : Content) (f : PictureFile) (fs : List PictureFile) (b : Bool) → insert fs (position_in fs n) (record { name = n; content = c }) ≡ with_file n c fs → insert (f ∷ fs) (if b then suc (position_in fs n) else 0) (record { name = n; content = c }) ≡ (if b then f ∷ with_file n c fs else record { name = n; content = c } ∷ f ∷ fs)
 insert_by n c f fs true ih = ap (λ gs. f ∷ gs) ih
 insert_by n c f fs false ih = refl
 
-pub insert_is : (n : List ℕ) (c : Content) (fs : List PictureFile) → insert fs (place_in fs n) (record { name = n; content = c }) ≡ with_file n c fs
+pub insert_is : (n : List ℕ) (c : Content) (fs : List PictureFile) → insert fs (position_in fs n) (record { name = n; content = c }) ≡ with_file n c fs
 insert_is n c [] = refl
 insert_is n c (f ∷ fs) = insert_by n c f fs (is_below f.name n) (insert_is n c fs)
 
-place_within_by : (b : Bool) (k m : ℕ) → k ≤ m → (if b then suc k else 0) ≤ suc m
-place_within_by true k m h = omega arith
-place_within_by false k m h = omega arith
+position_within_by : (b : Bool) (k m : ℕ) → k ≤ m → (if b then suc k else 0) ≤ suc m
+position_within_by true k m h = omega arith
+position_within_by false k m h = omega arith
 
-pub place_within : (n : List ℕ) (fs : List PictureFile) → place_in fs n ≤ length fs
-place_within n [] = omega arith
-place_within n (f ∷ fs) = place_within_by (is_below f.name n) (place_in fs n) (length fs) (place_within n fs)
+pub position_within : (n : List ℕ) (fs : List PictureFile) → position_in fs n ≤ length fs
+position_within n [] = omega arith
+position_within n (f ∷ fs) = position_within_by (is_below f.name n) (position_in fs n) (length fs) (position_within n fs)
 
 slice_get-past : (fs : List PictureFile) (i : ℕ) → length fs ≤ i → slice_get fs i ≡ None
 slice_get-past [] i past = refl
@@ -83,31 +83,31 @@ absent : (n : List ℕ) (fs : List PictureFile) → begins_above n fs ≡ true �
 absent n [] p q = refl
 absent n (f ∷ fs) p q = rw (above_differs f.name n p) (absent n fs (begins_on n f fs p (first_true _ _ q)) (second_true _ _ q))
 
--- the content of the file at a place, where it has this name
+-- the content of the file at a position, where it has this name
 abbrev pub content_at : List ℕ → Option PictureFile → Option Content
 content_at n None = None
 content_at n (Some f) = if bytes_eq f.name n then Some f.content else None
 
-found_by : (n : List ℕ) (f : PictureFile) (fs : List PictureFile) (b e : Bool) → is_below f.name n ≡ b → bytes_eq f.name n ≡ e → is_rising (f ∷ fs) ≡ true → content_in fs n ≡ content_at n (slice_get fs (place_in fs n)) → (if e then Some f.content else content_in fs n) ≡ content_at n (slice_get (f ∷ fs) (if b then suc (place_in fs n) else 0))
+found_by : (n : List ℕ) (f : PictureFile) (fs : List PictureFile) (b e : Bool) → is_below f.name n ≡ b → bytes_eq f.name n ≡ e → is_rising (f ∷ fs) ≡ true → content_in fs n ≡ content_at n (slice_get fs (position_in fs n)) → (if e then Some f.content else content_in fs n) ≡ content_at n (slice_get (f ∷ fs) (if b then suc (position_in fs n) else 0))
 found_by n f fs true true isb ise q ih = let h : bytes_eq f.name n ≡ false = below_differs f.name n isb in cc
 found_by n f fs true false isb ise q ih = ih
 found_by n f fs false true isb ise q ih = rw ise refl
 found_by n f fs false false isb ise q ih = rw ise (absent n fs (begins_on n f fs (else_above f.name n isb ise) (first_true _ _ q)) (second_true _ _ q))
 
-pub found : (n : List ℕ) (fs : List PictureFile) → is_rising fs ≡ true → content_in fs n ≡ content_at n (slice_get fs (place_in fs n))
+pub found : (n : List ℕ) (fs : List PictureFile) → is_rising fs ≡ true → content_in fs n ≡ content_at n (slice_get fs (position_in fs n))
 found n [] q = refl
 found n (f ∷ fs) q = found_by n f fs (is_below f.name n) (bytes_eq f.name n) refl refl q (found n fs (second_true _ _ q))
 
-pub found_none : (n : List ℕ) (fs : List PictureFile) (i : ℕ) → is_rising fs ≡ true → i ≡ place_in fs n → length fs ≤ i → content_in fs n ≡ None
+pub found_none : (n : List ℕ) (fs : List PictureFile) (i : ℕ) → is_rising fs ≡ true → i ≡ position_in fs n → length fs ≤ i → content_in fs n ≡ None
 found_none n fs i q at past = found n fs q ∙ rw (sym at) (ap (content_at n) (slice_get-past fs i past))
 
-item_there : (n : List ℕ) (fs : List PictureFile) (i : ℕ) (f : PictureFile) → i ≡ place_in fs n → i < length fs → f ≡ slice_index_or fs i f → slice_get fs (place_in fs n) ≡ Some f
+item_there : (n : List ℕ) (fs : List PictureFile) (i : ℕ) (f : PictureFile) → i ≡ position_in fs n → i < length fs → f ≡ slice_index_or fs i f → slice_get fs (position_in fs n) ≡ Some f
 item_there n fs i f at within is = rw (sym at) (slice_get_read fs (length fs) i f refl within is)
 
-pub found_other : (n : List ℕ) (fs : List PictureFile) (i : ℕ) (f : PictureFile) → is_rising fs ≡ true → i ≡ place_in fs n → i < length fs → f ≡ slice_index_or fs i f → bytes_eq f.name n ≡ false → content_in fs n ≡ None
+pub found_other : (n : List ℕ) (fs : List PictureFile) (i : ℕ) (f : PictureFile) → is_rising fs ≡ true → i ≡ position_in fs n → i < length fs → f ≡ slice_index_or fs i f → bytes_eq f.name n ≡ false → content_in fs n ≡ None
 found_other n fs i f q at within is e = found n fs q ∙ ap (content_at n) (item_there n fs i f at within is) ∙ rw e refl
 
-pub found_there : (n : List ℕ) (fs : List PictureFile) (i : ℕ) (f : PictureFile) → is_rising fs ≡ true → i ≡ place_in fs n → i < length fs → f ≡ slice_index_or fs i f → bytes_eq f.name n ≡ true → content_in fs n ≡ Some f.content
+pub found_there : (n : List ℕ) (fs : List PictureFile) (i : ℕ) (f : PictureFile) → is_rising fs ≡ true → i ≡ position_in fs n → i < length fs → f ≡ slice_index_or fs i f → bytes_eq f.name n ≡ true → content_in fs n ≡ Some f.content
 found_there n fs i f q at within is e = found n fs q ∙ ap (content_at n) (item_there n fs i f at within is) ∙ rw e refl
 
 short_got : (fs : List PictureFile) (i : ℕ) (f : PictureFile) → are_short fs ≡ true → slice_get fs i ≡ Some f → has_short_content f.content ≡ true
