@@ -3,7 +3,7 @@ ghost use Rattle.demo_pictures.specs.Demo.{next_number, port_of, numbered, gatew
 
 use base::{Bytes, Text};
 use itoa::Buffer;
-use outside::{Content, Picture};
+use load_path::{Content, Picture};
 use std::alloc::{AllocError, Global};
 
 const TYPES: &str =

@@ -4,7 +4,8 @@ use Rattle.std.specs.Prelude.{nat_le, take, option_map}
 use Rattle.std.proofs.lemmas.Bool.{le-leb}
 use Rattle.std.proofs.lemmas.List.{length-take, take_all}
 use Rattle.base.specs.declared.limits.TheConstants.{MAX_FILE_BYTES}
-use Rattle.outside.specs.Pictures.{got_of, read_of, is_short}
+use Rattle.outside.specs.Pictures.{got_of, read_of}
+use Rattle.load_path.specs.Pictures.{is_short}
 use Rattle.outside.specs.declared.source.Got.TheVariants.{Bytes}
 
 -- so few bytes of one more are all

@@ -5,8 +5,6 @@ pub mod Cells
 pub mod Changes
 pub mod Lines
 pub mod Contents
-pub mod FileNames
-pub mod Files
 -- What the forms in memory are seen as, and what inner contracts use.
 pub mod Calls
 pub mod Reels

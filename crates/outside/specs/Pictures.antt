@@ -1,7 +1,7 @@
 -- The pictures of a source: lists of files, each with its bytes, or gone.
-use Rattle.std.specs.Prelude.{◌≡◌, ℕ, List, [], ◌∷◌, Option, Some, None, Bool, true, IfSome, slice_get, nat_le, length, if◌then◌else◌, not, ◌&&◌, bytes_eq}
+use Rattle.std.specs.Prelude.{◌≡◌, ℕ, List, [], ◌∷◌, Option, Some, None, Bool, true, IfSome, slice_get, if◌then◌else◌, not, ◌&&◌, bytes_eq}
 use Rattle.std.specs.List.{list_any}
-use Rattle.base.specs.declared.limits.TheConstants.{MAX_FILE_BYTES}
+use Rattle.load_path.specs.Pictures.{is_short}
 use Rattle.outside.specs.declared.source.MemFile.{MemFile}
 use Rattle.outside.specs.declared.source.Got.{Got}
 use Rattle.outside.specs.declared.source.Got.TheVariants.{Bytes, Gone, TooLong}
@@ -18,10 +18,6 @@ later_pictures (p ∷ ps) = ps
 -- file number i has this name
 abbrev pub NameOf : List MemFile → ℕ → List ℕ → Type 0
 NameOf files i name = IfSome (slice_get files i) (λ f. name ≡ f.name)
-
--- at most the bytes that a file may have
-abbrev pub is_short : List ℕ → Bool
-is_short bytes = nat_le (length bytes) MAX_FILE_BYTES
 
 -- what a read of a file with this content gives: its answer, and its bytes
 abbrev pub got_of : Option (List ℕ) → Got

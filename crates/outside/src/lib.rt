@@ -2,8 +2,7 @@
 //! a trait with a meaning, what the object holds where it tells that, and a count of its faults.
 //!
 //! In reading order: `error`; the traits `source`, `shelf`, `lines` and `sink`; `distinct` (a test of a
-//! picture's names); `picture` (files by name, as a scan collects them) and `file_name` (the grammar of their
-//! names); the forms in memory that never fail, `sure_source`, `sure_shelf`, `sure_lines`, `sure_sink`; those
+//! picture's names); the forms in memory that never fail, `sure_source`, `sure_shelf`, `sure_lines`, `sure_sink`; those
 //! with a list of the calls that are to fail (`calls`), `mem_source`, `mem_shelf`, `mem_lines`, `mem_sink`; and
 //! those of the host, `faults`, `folder`, `host_source`, `host_shelf`, `host_lines`, `host_sink`.
 #![tactic(auto)]
@@ -12,7 +11,6 @@ mod calls;
 mod distinct;
 mod error;
 mod faults;
-mod file_name;
 mod folder;
 mod host_lines;
 mod host_shelf;
@@ -23,7 +21,6 @@ mod mem_lines;
 mod mem_shelf;
 mod mem_sink;
 mod mem_source;
-mod picture;
 mod shelf;
 mod sink;
 mod source;
@@ -34,7 +31,6 @@ mod sure_source;
 
 pub use distinct::are_distinct;
 pub use error::StoreError;
-pub use file_name::is_file_name;
 pub use host_lines::HostLines;
 pub use host_shelf::HostShelf;
 pub use host_sink::HostSink;
@@ -44,7 +40,6 @@ pub use mem_lines::MemLines;
 pub use mem_shelf::MemShelf;
 pub use mem_sink::MemSink;
 pub use mem_source::MemSource;
-pub use picture::{Content, Picture, PictureFile};
 pub use shelf::{Change, Shelf};
 pub use sink::Sink;
 pub use source::{Got, MemFile, Source};

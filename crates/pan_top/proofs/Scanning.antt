@@ -4,7 +4,7 @@ use Rattle.std.specs.Prelude.{slice_get, option_map, if◌then◌else◌, cond}
 use Rattle.std.proofs.lemmas.List.Sums.{sum_by-cons}
 use Rattle.base.specs.declared.limits.TheConstants.{MAX_SCAN_FILES, MAX_SCAN_BYTES}
 use Rattle.outside.specs.declared.source.MemFile.{MemFile}
-use Rattle.outside.specs.declared.picture.PictureFile.{PictureFile}
+use Rattle.load_path.specs.declared.picture.PictureFile.{PictureFile}
 use Rattle.outside.specs.Pictures.{next_picture}
 use Rattle.pan_top.specs.Scans.{has_file_name, weight_of, taken_in, scanned_of}
 

@@ -2,13 +2,13 @@
 use Rattle.std.specs.Prelude.{ℕ, Bool, List, [], Option, Some, None, if◌then◌else◌, nat_lt, length, is_some, option_map, count_by, sum_by, fold}
 use Rattle.base.specs.declared.limits.TheConstants.{MAX_SCAN_FILES, MAX_SCAN_BYTES}
 use Rattle.pan_top.specs.declared.scan.TheConstants.{TOO_LONG_BYTES}
-use Rattle.outside.specs.Pictures.{is_short}
-use Rattle.outside.specs.FileNames.{is_file_name}
-use Rattle.outside.specs.Files.{content_in, with_file}
+use Rattle.load_path.specs.Pictures.{is_short}
+use Rattle.load_path.specs.FileNames.{is_file_name}
+use Rattle.load_path.specs.Pictures.{content_in, with_file}
 use Rattle.outside.specs.declared.source.MemFile.{MemFile}
-use Rattle.outside.specs.declared.picture.PictureFile.{PictureFile}
-use Rattle.outside.specs.declared.picture.Content.{Content}
-use Rattle.outside.specs.declared.picture.Content.TheVariants.{Bytes, TooLong}
+use Rattle.load_path.specs.declared.picture.PictureFile.{PictureFile}
+use Rattle.load_path.specs.declared.picture.Content.{Content}
+use Rattle.load_path.specs.declared.picture.Content.TheVariants.{Bytes, TooLong}
 
 abbrev pub has_file_name : MemFile → Bool
 has_file_name f = is_file_name f.name

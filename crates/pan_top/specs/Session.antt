@@ -5,7 +5,7 @@ use Rattle.outside.specs.Cells.{Cell}
 use Rattle.outside.specs.Contents.{Appends, AppendsPart}
 use Rattle.outside.specs.Pictures.{later_pictures}
 use Rattle.outside.specs.declared.source.MemFile.{MemFile}
-use Rattle.outside.specs.declared.picture.PictureFile.{PictureFile}
+use Rattle.load_path.specs.declared.picture.PictureFile.{PictureFile}
 use Rattle.pan_top.specs.declared.status.End.{End}
 use Rattle.pan_top.specs.declared.status.End.TheVariants as E
 use Rattle.pan_top.specs.declared.status.Status.{Status}

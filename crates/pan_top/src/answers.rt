@@ -1,5 +1,5 @@
 ghost use Rattle.std.specs.Prelude.{◌≡◌, ◌≤◌, ◌++◌, [], true, length, IfSome, IfOk, OnOk, map, count_by, option_map};
-ghost use Rattle.outside.specs.Files.{has_short_content, are_short};
+ghost use Rattle.load_path.specs.Pictures.{has_short_content, are_short};
 ghost use Rattle.pan_top.specs.Objects.{file_of};
 ghost use Rattle.pan_top.specs.Answers.{Object, object_of, is_object_file, with_outcome, answer_of, answers_of, wants_with, wants_of, is_fault};
 ghost use Rattle.base.specs.declared.limits.TheConstants.{MAX_FILE_BYTES};
@@ -7,7 +7,7 @@ ghost use Rattle.base.specs.declared.limits.TheConstants.{MAX_FILE_BYTES};
 use crate::compile::{Outcome, compile};
 use crate::publish::Want;
 use base::Text;
-use outside::{Content, PictureFile};
+use load_path::{Content, PictureFile};
 use pan_lexer::is_object;
 use path_tree::is_name;
 use std::alloc::{AllocError, Global};

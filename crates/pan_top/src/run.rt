@@ -2,7 +2,7 @@ ghost use Rattle.std.specs.Prelude.{◌≡◌, ◌≤◌, ◌⊎◌, ℕ, List, 
 ghost use Rattle.outside.specs.Causes.{Rose};
 ghost use Rattle.outside.specs.Contents.{Appends, AppendsPart};
 ghost use Rattle.outside.specs.Pictures.{next_picture, later_pictures};
-ghost use Rattle.outside.specs.Files.{is_rising};
+ghost use Rattle.load_path.specs.Pictures.{is_rising};
 ghost use Rattle.pan_top.specs.Commands.{is_command, source_in, out_in};
 ghost use Rattle.pan_top.specs.Scans.{scanned_of};
 ghost use Rattle.pan_top.specs.Shelves.{Stopped, Lists, proper};
@@ -20,7 +20,8 @@ use crate::status::{End, Status};
 use crate::words::command;
 use base::Text;
 use base::limits::MAX_OBJECTS;
-use outside::{Picture, Shelf, Sink, Source, StoreError};
+use load_path::Picture;
+use outside::{Shelf, Sink, Source, StoreError};
 use std::alloc::{AllocError, Global};
 
 fn write<O: Sink>(out: &mut O, text: &[u8]) -> Result<(), End>

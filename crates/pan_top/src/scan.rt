@@ -1,6 +1,6 @@
 ghost use Rattle.std.specs.Prelude.{◌≡◌, ◌≤◌, ◌<◌, ◌⊎◌, ℕ, IfOk, IfErr, IfSome, OnOk, OnErr, Some, true, option_map, length, count_by, slice_get, if◌then◌else◌};
 ghost use Rattle.outside.specs.Pictures.{next_picture, later_pictures};
-ghost use Rattle.outside.specs.Files.{has_short_content};
+ghost use Rattle.load_path.specs.Pictures.{has_short_content};
 ghost use Rattle.pan_top.specs.Scans.{has_file_name, found_of, content_weight, weight_of, with_found, taken_in, scanned_of};
 ghost use Rattle.pan_top.specs.declared.scan.TheConstants.{TOO_LONG_BYTES};
 ghost use Rattle.pan_top.specs.Ends.{IsEndOf, Caused, OfSource};
@@ -8,7 +8,8 @@ ghost use Rattle.pan_top.specs.Ends.{IsEndOf, Caused, OfSource};
 use crate::status::{End, Status};
 use base::limits::{MAX_FILE_BYTES, MAX_SCAN_BYTES, MAX_SCAN_FILES};
 use base::{Bytes, Text};
-use outside::{Content, Got, Picture, Source, StoreError, is_file_name};
+use load_path::{Content, Picture, is_file_name};
+use outside::{Got, Source, StoreError};
 use std::alloc::{AllocError, Global};
 
 /// What the read of a file counts that is too long.

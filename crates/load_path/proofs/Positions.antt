@@ -4,10 +4,10 @@ use Rattle.std.specs.Prelude.{bytes_eq, slice_index_or, slice_get}
 use Rattle.std.specs.List.{insert}
 use Rattle.std.specs.List.Sorted.{IsPartitionPoint, IsPartitionedBy}
 use Rattle.std.proofs.lemmas.Option.{slice_get_read}
-use Rattle.outside.specs.Files.{is_below, begins_above, is_rising, has_short_content, are_short, content_in, with_file, position_in}
-use Rattle.outside.specs.declared.picture.Content.{Content}
-use Rattle.outside.specs.declared.picture.PictureFile.{PictureFile}
-use Rattle.outside.proofs.Order.{below_chain, below_differs, above_differs, else_above}
+use Rattle.load_path.specs.Pictures.{is_below, begins_above, is_rising, has_short_content, are_short, content_in, with_file, position_in}
+use Rattle.load_path.specs.declared.picture.Content.{Content}
+use Rattle.load_path.specs.declared.picture.PictureFile.{PictureFile}
+use Rattle.load_path.proofs.Order.{below_chain, below_differs, above_differs, else_above}
 
 first_true : (a b : Bool) → a && b ≡ true → a ≡ true
 first_true true b is = refl

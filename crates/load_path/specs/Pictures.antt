@@ -1,10 +1,14 @@
 -- A picture as a list of files in byte order of names.
-use Rattle.std.specs.Prelude.{ℕ, suc, List, [], ◌∷◌, Option, Some, None, Bool, true, ◌&&◌, bytes_eq, if◌then◌else◌}
+use Rattle.std.specs.Prelude.{ℕ, suc, List, [], ◌∷◌, Option, Some, None, Bool, true, ◌&&◌, bytes_eq, nat_le, length, if◌then◌else◌}
+use Rattle.base.specs.declared.limits.TheConstants.{MAX_FILE_BYTES}
 use Rattle.std.specs.Cmp.Lexicographic.{slice_cmp}
 use Rattle.std.specs.Ordering.{nat_cmp, is_lt}
-use Rattle.outside.specs.Pictures.{is_short}
-use Rattle.outside.specs.declared.picture.Content.{Content}
-use Rattle.outside.specs.declared.picture.PictureFile.{PictureFile}
+use Rattle.load_path.specs.declared.picture.Content.{Content}
+use Rattle.load_path.specs.declared.picture.PictureFile.{PictureFile}
+
+-- at most the bytes that a file may have
+abbrev pub is_short : List ℕ → Bool
+is_short bytes = nat_le (length bytes) MAX_FILE_BYTES
 
 -- a stands before b in byte order
 abbrev pub is_below : List ℕ → List ℕ → Bool

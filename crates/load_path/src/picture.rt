@@ -1,6 +1,6 @@
 ghost use Rattle.std.specs.Prelude.{◌≡◌, ◌≤◌, List, [], OnOk, OnErr, IfSome, None, true, option_copied, length};
-ghost use Rattle.outside.specs.Files.{is_rising, are_short, has_short_content, content_in, with_file, position_in};
-ghost use Rattle.outside.specs.declared.picture.PictureFile.{PictureFile};
+ghost use Rattle.load_path.specs.Pictures.{is_rising, are_short, has_short_content, content_in, with_file, position_in};
+ghost use Rattle.load_path.specs.declared.picture.PictureFile.{PictureFile};
 
 use base::{Bytes, Text};
 use std::alloc::{AllocError, Global};
@@ -30,8 +30,8 @@ pub struct Picture {
 
 impl Model for Picture {
     ghost use Rattle.std.specs.Prelude.{◌≡◌, List, true};
-    ghost use Rattle.outside.specs.Files.{is_rising, are_short};
-    ghost use Rattle.outside.specs.declared.picture.PictureFile.{PictureFile};
+    ghost use Rattle.load_path.specs.Pictures.{is_rising, are_short};
+    ghost use Rattle.load_path.specs.declared.picture.PictureFile.{PictureFile};
 
     ghost Value = { List PictureFile };
 

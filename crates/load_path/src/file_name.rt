@@ -1,5 +1,5 @@
 ghost use Rattle.std.specs.Prelude.{◌≡◌};
-ghost use Rattle.outside.specs.FileNames.{is_name_byte, are_segments, is_file_name};
+ghost use Rattle.load_path.specs.FileNames.{is_name_byte, are_segments, is_file_name};
 
 use base::limits::MAX_FILE_NAME_BYTES;
 

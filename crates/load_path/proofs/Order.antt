@@ -7,7 +7,7 @@ use Rattle.std.specs.declared.cmp.Ordering.TheVariants.{Less, Equal, Greater}
 use Rattle.std.specs.Ordering.{nat_cmp, is_lt, is_eq, ordering_reverse}
 use Rattle.std.proofs.lemmas.Cmp.{nat_list_cmp_total}
 use Rattle.std.proofs.lemmas.Map.Text.{is_eq-slice_cmp}
-use Rattle.outside.specs.Files.{is_below}
+use Rattle.load_path.specs.Pictures.{is_below}
 
 less : (o : Ordering) → is_lt o ≡ true → o ≡ Less
 less Less is = refl

@@ -1,7 +1,7 @@
 use Rattle.std.proofs.Common.{◌≡◌, true, false, sym, rules}
 use Rattle.std.specs.Prelude.{bytes_eq}
-use Rattle.outside.proofs.Positions.{found_none, found_other, found_there, short_at}
-use Rattle.outside.proofs.picture.content_of.Goals as goal
+use Rattle.load_path.proofs.Positions.{found_none, found_other, found_there, short_at}
+use Rattle.load_path.proofs.picture.content_of.Goals as goal
 
 pub returns-in_err-file-clause-content : goal.returns-in_err-file-clause-content
 returns-in_err-file-clause-content c = rw c.from_residual.ensures (sym (found_none c.args.name.now c.args.files.now c.position_of.result c.requires.rising c.position_of.ensures c.in_err-file.ensures.lookup.3))

@@ -1,9 +1,9 @@
 use Rattle.std.proofs.Common.{◌≡◌, ◌-◌, suc, length, true, arith, rules}
 use Rattle.std.proofs.lemmas.List.Sorted.{IsPartitionPoint-from_clause}
-use Rattle.outside.specs.Files.{is_below}
-use Rattle.outside.specs.declared.picture.PictureFile.{PictureFile}
-use Rattle.outside.proofs.Positions.{at_end, partitioned, position_is}
-use Rattle.outside.proofs.picture.position_of.Goals as goal
+use Rattle.load_path.specs.Pictures.{is_below}
+use Rattle.load_path.specs.declared.picture.PictureFile.{PictureFile}
+use Rattle.load_path.proofs.Positions.{at_end, partitioned, position_is}
+use Rattle.load_path.proofs.picture.position_of.Goals as goal
 
 pub returns : goal.returns
 returns c =
