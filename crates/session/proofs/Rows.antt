@@ -8,7 +8,7 @@ use Rattle.publication.specs.declared.trouble.Which.TheVariants.{Json}
 use Rattle.publication.specs.declared.trouble.Call.TheVariants.{Put}
 use Rattle.publication.specs.Stands.{Stand, AtStart, Has, Unspecified}
 use Rattle.session.specs.Sessions.{State, Round, Quits, BrokeOff, Done, next, reached, started}
-use Rattle.session.specs.Toy.{Toy, toy, new_toy}
+use Rattle.session.proofs.Toy.{Toy, toy, new_toy}
 
 abbrev file : List ℕ → List ℕ → MemFile
 file name text = record { name = name; content = Some text }
