@@ -1,3 +1,8 @@
+pub mod Counts
+pub mod Growing
+pub mod Found
+pub mod Equality
+pub mod Listing
 pub mod Ascii
 pub mod Standing
 pub mod Splits

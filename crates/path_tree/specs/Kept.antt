@@ -7,6 +7,8 @@ use Rattle.path_tree.specs.declared.path.Term.TheVariants as term
 use Rattle.path_tree.specs.declared.path.PutError.{PutError}
 use Rattle.path_tree.specs.declared.path.PutError.TheVariants.{TooLarge}
 use Rattle.path_tree.specs.declared.tree.Measure.{Measure}
+use Rattle.path_tree.specs.declared.tree.Items.{Items as Itemed}
+use Rattle.path_tree.specs.View.{list_view}
 
 -- what may stand inside a container
 pub record IsInside (t : Plain) : Type 0 where
@@ -94,3 +96,11 @@ pub record CanWalk (ms : List Term) (v t : Plain) : Type 0 where
 -- new is what the walk gives
 abbrev pub Walks : List Term → Plain → Plain → Plain → Type 0
 Walks ms v old new = (n : ℕ) → walk n ms v old ≡ Ok new
+
+-- what may be added to a list, and the measure of the list with it
+pub record IsAdmitted (l : Itemed) (v : Plain) (m : Measure) : Type 0 where
+  pub inside : IsInside v
+  pub size : m.size ≡ tree_size (list_view l) + tree_size v
+  pub height : m.height ≡ max (tree_height (list_view l)) (tree_height v + 1)
+  pub small : m.size ≤ 1000000
+  pub low : m.height ≤ 100

@@ -11,3 +11,8 @@ pub mod Kept
 pub mod Code
 pub mod Falls
 pub mod Place
+pub mod Refusals
+pub mod Lists
+pub mod Longs
+pub mod Take
+pub mod Same
