@@ -4,8 +4,9 @@ use Rattle.std.specs.Int.{int_bit_and, int_bit_or, int_bit_xor, int_bit_not}
 use Rattle.std.specs.Ordering.{nat_cmp, int_eq, is_lt, is_le, is_gt, is_ge}
 use Rattle.std.specs.Cmp.Lexicographic.{slice_cmp}
 use mir.Syntax.{w64}
+use Rattle.base.specs.declared.limits.TheConstants.{MAX_TEXT_BYTES}
 use Rattle.path_tree.specs.Plain.{Plain, dict, list, text, long, boolean, undef, null}
-use Rattle.path_tree.specs.Longs.{within_64_bits}
+use Rattle.path_tree.specs.Values.{within_64_bits}
 use Rattle.path_tree.specs.declared.operators.UnaryOp.{UnaryOp}
 use Rattle.path_tree.specs.declared.operators.UnaryOp.TheVariants as unary
 use Rattle.path_tree.specs.declared.operators.BinaryOp.{BinaryOp}
@@ -44,7 +45,7 @@ of_longs binary.MoreEqual x y = answers (int_le y x)
 
 -- two texts, compared by their bytes
 abbrev pub of_texts : BinaryOp → List ℕ → List ℕ → Result Plain Refused
-of_texts binary.Add s t = if nat_lt 1000000 (length s + length t) then Err TooLarge else Ok (text (s ++ t))
+of_texts binary.Add s t = if nat_lt MAX_TEXT_BYTES (length s + length t) then Err TooLarge else Ok (text (s ++ t))
 of_texts binary.Equal s t = answers (bytes_eq s t)
 of_texts binary.NotEqual s t = answers (not (bytes_eq s t))
 of_texts binary.Less s t = answers (is_lt (slice_cmp nat_cmp s t))

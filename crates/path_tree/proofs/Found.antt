@@ -6,6 +6,7 @@ use Rattle.std.specs.Ordering.{nat_cmp, match_ordering, ordering_reverse}
 use Rattle.std.specs.Cmp.Lexicographic.{slice_cmp, nat_list_cmp_total}
 use Rattle.std.specs.declared.cmp.Ordering.{Ordering}
 use Rattle.std.specs.declared.cmp.Ordering.TheVariants.{Less, Equal, Greater}
+use Rattle.base.specs.declared.limits.TheConstants.{MAX_TREE_HEIGHT, MAX_TREE_SIZE}
 use Rattle.path_tree.specs.Plain.{Plain, dict, list, text, long, boolean, undef, null, Items, no_items, item, Fields, no_fields, field, tree_size, tree_height}
 use Rattle.path_tree.specs.Find.{child, find_field, get, item_at}
 use Rattle.path_tree.specs.Put.{chain, over, put, put_field, put_item, walk, within_height, within_size}
@@ -155,7 +156,7 @@ walk_put (term.Index i ∷ ms) v undef u n e = at_nothing ms v (walk_put ms v) n
 walk_put (term.Index i ∷ ms) v null u n e = at_nothing ms v (walk_put ms v) n u (term.Index i) null refl refl e
 
 put_walks : (r : Result Plain PutError) (u : Plain) → within_height (within_size r) ≡ Ok u → r ≡ Ok u
-put_walks (Ok t) u h = by_size (nat_lt 1000000 (tree_size t)) h
+put_walks (Ok t) u h = by_size (nat_lt MAX_TREE_SIZE (tree_size t)) h
   where
     by_height : (high : Bool) → (if high then Err TooHigh else Ok t) ≡ Ok u → the_ok t ≡ Ok u
     by_height true e = cc
@@ -163,7 +164,7 @@ put_walks (Ok t) u h = by_size (nat_lt 1000000 (tree_size t)) h
 
     by_size : (large : Bool) → within_height (if large then Err TooLarge else Ok t) ≡ Ok u → the_ok t ≡ Ok u
     by_size true e = cc
-    by_size false e = by_height (nat_lt 100 (tree_height t)) e
+    by_size false e = by_height (nat_lt MAX_TREE_HEIGHT (tree_height t)) e
 put_walks (Err e) u h = cc
 
 -- what was put stands at its path

@@ -7,7 +7,7 @@ use Rattle.std.proofs.lemmas.Bool.Decides.{nat_tests}
 use Rattle.path_tree.specs.Plain.{Plain, dict, list, text, long, boolean, undef, null, Items, no_items, item, tree_size, items_size, tree_height, items_height, IsTree, IsWhole, AreItems}
 use Rattle.path_tree.specs.Kept.{IsAdmitted, IsInside}
 use Rattle.path_tree.specs.View.{IsList, items_of, list_view}
-use Rattle.base.specs.declared.limits.TheConstants.{MAX_TREE_SIZE, MAX_TREE_HEIGHT}
+use Rattle.base.specs.declared.limits.TheConstants.{MAX_TREE_HEIGHT, MAX_TREE_SIZE}
 use Rattle.path_tree.specs.declared.tree.Items.{Items as Itemed}
 use Rattle.path_tree.specs.declared.tree.Measure.{Measure}
 use Rattle.path_tree.specs.Lists.{is_null, is_too_large, within_limits, list_of, items_in, pushed, pushed_front}
@@ -57,18 +57,18 @@ module _ (ts : List Plain) where
   pub listed_null : list_any is_null ts ≡ true → list_of ts ≡ Err BadArgument
   listed_null h = rw h refl
 
-  pub listed_large : list_any is_null ts ≡ false → 1000000 < tree_size (list (items_of ts)) → list_of ts ≡ Err TooLarge
-  listed_large none large = rw (none, is_past 1000000 (tree_size (list (items_of ts))) large) refl
+  pub listed_large : list_any is_null ts ≡ false → MAX_TREE_SIZE < tree_size (list (items_of ts)) → list_of ts ≡ Err TooLarge
+  listed_large none large = rw (none, is_past MAX_TREE_SIZE (tree_size (list (items_of ts))) large) refl
 
-  pub listed_high : list_any is_null ts ≡ false → 100 < tree_height (list (items_of ts)) → list_of ts ≡ Err TooLarge
-  listed_high none high = by_size (nat_lt 1000000 (tree_size (list (items_of ts)))) refl
+  pub listed_high : list_any is_null ts ≡ false → MAX_TREE_HEIGHT < tree_height (list (items_of ts)) → list_of ts ≡ Err TooLarge
+  listed_high none high = by_size (nat_lt MAX_TREE_SIZE (tree_size (list (items_of ts)))) refl
     where
-      by_size : (large : Bool) → nat_lt 1000000 (tree_size (list (items_of ts))) ≡ large → list_of ts ≡ Err TooLarge
+      by_size : (large : Bool) → nat_lt MAX_TREE_SIZE (tree_size (list (items_of ts))) ≡ large → list_of ts ≡ Err TooLarge
       by_size true is = rw (none, is) refl
-      by_size false is = rw (none, is, is_past 100 (tree_height (list (items_of ts))) high) refl
+      by_size false is = rw (none, is, is_past MAX_TREE_HEIGHT (tree_height (list (items_of ts))) high) refl
 
-  pub listed_fits : list_any is_null ts ≡ false → tree_size (list (items_of ts)) ≤ 1000000 → tree_height (list (items_of ts)) ≤ 100 → list_of ts ≡ Ok (list (items_of ts))
-  listed_fits none small low = rw (none, is_within 1000000 (tree_size (list (items_of ts))) small, is_within 100 (tree_height (list (items_of ts))) low) refl
+  pub listed_fits : list_any is_null ts ≡ false → tree_size (list (items_of ts)) ≤ MAX_TREE_SIZE → tree_height (list (items_of ts)) ≤ MAX_TREE_HEIGHT → list_of ts ≡ Ok (list (items_of ts))
+  listed_fits none small low = rw (none, is_within MAX_TREE_SIZE (tree_size (list (items_of ts))) small, is_within MAX_TREE_HEIGHT (tree_height (list (items_of ts))) low) refl
 
 pub ruleset listed = (listed_null, listed_large, listed_high, listed_fits)
 
@@ -109,13 +109,13 @@ module _ (ts : List Plain) (i : ℕ) (v : Plain) where
     more_items : AreItems (items_of (insert ts i v))
     more_items = inserted_items ts i v inside a
 
-    pub more_large : 1000000 < tree_size (list (items_of ts)) + tree_size v → list_of (insert ts i v) ≡ Err TooLarge
+    pub more_large : MAX_TREE_SIZE < tree_size (list (items_of ts)) + tree_size v → list_of (insert ts i v) ≡ Err TooLarge
     more_large h = listed_large (insert ts i v) (nulls_none (insert ts i v) more_items) (omega (arith, h, inserted_size ts i v))
 
-    pub more_high : 100 < max (tree_height (list (items_of ts))) (tree_height v + 1) → list_of (insert ts i v) ≡ Err TooLarge
+    pub more_high : MAX_TREE_HEIGHT < max (tree_height (list (items_of ts))) (tree_height v + 1) → list_of (insert ts i v) ≡ Err TooLarge
     more_high h = listed_high (insert ts i v) (nulls_none (insert ts i v) more_items) (omega (arith, h, inserted_height ts i v))
 
-    pub more_fits : tree_size (list (items_of ts)) + tree_size v ≤ 1000000 → max (tree_height (list (items_of ts))) (tree_height v + 1) ≤ 100 → list_of (insert ts i v) ≡ Ok (list (items_of (insert ts i v)))
+    pub more_fits : tree_size (list (items_of ts)) + tree_size v ≤ MAX_TREE_SIZE → max (tree_height (list (items_of ts))) (tree_height v + 1) ≤ MAX_TREE_HEIGHT → list_of (insert ts i v) ≡ Ok (list (items_of (insert ts i v)))
     more_fits small low = listed_fits (insert ts i v) (nulls_none (insert ts i v) more_items) (omega (arith, small, inserted_size ts i v)) (omega (arith, low, inserted_height ts i v))
 
 pub gives_same : {A : Type 0} (f : A → Plain) (r : Result A Refused) {given other : Result Plain Refused} → given ≡ other → Gives f refusal r given → Gives f refusal r other

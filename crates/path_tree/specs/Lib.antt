@@ -13,6 +13,6 @@ pub mod Falls
 pub mod Place
 pub mod Refusals
 pub mod Lists
-pub mod Longs
+pub mod Values
 pub mod Take
 pub mod Same

@@ -8,8 +8,9 @@ ghost use Rattle.path_tree.specs.Lists.{is_null, list_of, pushed, pushed_front};
 ghost use Rattle.path_tree.specs.Plain.{IsTree, tree_height, tree_size};
 ghost use Rattle.path_tree.specs.Plain as plain;
 ghost use Rattle.path_tree.specs.Put.{put};
-ghost use Rattle.path_tree.specs.Refusals.{refusal};
+ghost use Rattle.path_tree.specs.Refusals.{put_refusal, refusal};
 ghost use Rattle.path_tree.specs.Remove.{remove};
+ghost use Rattle.path_tree.specs.Same.{same_tree};
 ghost use Rattle.path_tree.specs.Take.{IsTaken};
 ghost use Rattle.path_tree.specs.declared.path.Term.TheVariants as term;
 ghost use Rattle.path_tree.specs.declared.refused.Refused.TheVariants as refused;
@@ -26,6 +27,7 @@ use crate::kind::Kind;
 use crate::path::{PutError, Term};
 use crate::refused::Refused;
 use base::Text;
+use base::limits::MAX_TEXT_BYTES;
 use std::alloc::{AllocError, Global};
 use std::marker::Model;
 use std::rc::Rc;
@@ -107,11 +109,11 @@ impl Tree {
     /// A text. `TooLarge` exactly where it has over 1,000,000 bytes.
     pub fn text(alloc: Global, content: &str) -> Result<Tree, Refused>
         ensures value { IfOk result (λ t. t ≡ plain.text content.now) }
-        ensures ok { OnOk result (length content.now ≤ 1000000) }
-        ensures large { IsErrOf result Refused.TooLarge ↔ (1000000 < length content.now) }
+        ensures ok { OnOk result (length content.now ≤ MAX_TEXT_BYTES) }
+        ensures large { IsErrOf result Refused.TooLarge ↔ (MAX_TEXT_BYTES < length content.now) }
         ensures others { IfErr result (λ e. e ≢ Refused.TooLarge → e ≡ Refused.Memory) }
     {
-        if content.len() > 1_000_000 {
+        if content.len() > MAX_TEXT_BYTES {
             return Err(Refused::TooLarge);
         }
         let text = Text::new(alloc, content)?;
@@ -123,11 +125,11 @@ impl Tree {
     /// The same of a text in memory, which the tree shares.
     pub fn shared_text(content: &Text) -> Result<Tree, Refused>
         ensures value { IfOk result (λ t. t ≡ plain.text content.now) }
-        ensures ok { OnOk result (length content.now ≤ 1000000) }
-        ensures large { IsErrOf result Refused.TooLarge ↔ (1000000 < length content.now) }
+        ensures ok { OnOk result (length content.now ≤ MAX_TEXT_BYTES) }
+        ensures large { IsErrOf result Refused.TooLarge ↔ (MAX_TEXT_BYTES < length content.now) }
         ensures others { IfErr result (λ e. e ≢ Refused.TooLarge → e ≡ Refused.Memory) }
     {
-        if content.as_str().len() > 1_000_000 {
+        if content.as_str().len() > MAX_TEXT_BYTES {
             return Err(Refused::TooLarge);
         }
         Ok(Tree {
@@ -422,8 +424,7 @@ impl Tree {
     /// `TooHigh`. A tree that is null counts as undef. On every refusal the tree is as before.
     pub fn put(&mut self, alloc: Global, terms: &[Term], value: Tree) -> Result<(), PutError>
         requires { value ≢ plain.null }
-        ensures ok { OnOk result (put terms.now value self.old ≡ Ok self.new) }
-        ensures refused { IfErr result (λ e. e ≢ PutError.Memory → put terms.now value self.old ≡ Err e) }
+        ensures gives { Gives (λ _. self.new) put_refusal result (put terms.now value self.old) }
         ensures before { OnErr result (self.new ≡ self.old) }
     {
         self.admit(terms, &value)?;
@@ -484,9 +485,16 @@ impl Tree {
     }
 
     /// Whether the two trees are equal.
-    #[cycle(same)]
     pub fn same(&self, other: &Tree) -> bool
         ensures same { IsTrue result ↔ (self.now ≡ other.now) }
+        ensures test { result ≡ same_tree self.now other.now }
+    {
+        self.equals(other)
+    }
+
+    #[cycle(same)]
+    fn equals(&self, other: &Tree) -> bool
+        ensures { IsTrue result ↔ (self.now ≡ other.now) }
     {
         if self.size() != other.size() || self.height() != other.height() {
             return false;
