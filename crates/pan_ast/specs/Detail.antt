@@ -21,3 +21,7 @@ first_chars n text = take (chars_len n text) text
 -- a fault keeps the first characters of its detail
 abbrev pub fault_with : Code → Place → List ℕ → Fault
 fault_with code place text = record { code = code; place = place; detail = first_chars MAX_DETAIL_CHARACTERS text }
+
+-- a fault without a detail
+abbrev pub fault_at : Code → Place → Fault
+fault_at code place = record { code = code; place = place; detail = [] }

@@ -1,6 +1,6 @@
 ghost use Rattle.std.specs.Prelude.{◌≡◌, ◌≤◌, ◌<◌, ◌+◌, ◌++◌, ◌∷◌, [], ℕ, IfOk, OnOk, IsTrue, length, take, decimal, IsCharBoundary};
 ghost use Rattle.pan_ast.specs.Codes.{code_number, code_text};
-ghost use Rattle.pan_ast.specs.Detail.{is_continuation, chars_len, first_chars, fault_with};
+ghost use Rattle.pan_ast.specs.Detail.{is_continuation, chars_len, first_chars, fault_at, fault_with};
 ghost use Rattle.pan_ast.specs.Printed.{hex_digit, printed_byte, printed, place_text, detail_text, line_of};
 
 use crate::place::Place;
@@ -224,6 +224,17 @@ impl Fault {
             code,
             place,
             detail,
+        })
+    }
+
+    /// A fault without a detail.
+    pub fn at(alloc: Global, code: Code, place: Place) -> Result<Fault, AllocError>
+        ensures { IfOk result (λ f. f ≡ fault_at code place) }
+    {
+        Ok(Fault {
+            code,
+            place,
+            detail: Text::new(alloc, "")?,
         })
     }
 

@@ -9,12 +9,14 @@ use Rattle.pan_ast.specs.declared.token.TokenKind.TheVariants as kinds
 use Rattle.pan_ast.specs.declared.fault.Code.{Code}
 use Rattle.pan_ast.specs.declared.fault.Code.TheVariants.{NotUtf8}
 use Rattle.pan_ast.specs.declared.fault.Fault.{Fault}
-use Rattle.pan_lexer.specs.Answers.{Gives, OnFault, OnError}
+use Rattle.base.specs.Answers.{Gives}
+use Rattle.pan_ast.specs.Failures.{fault_of}
+use Rattle.pan_lexer.specs.Views.{tokens_seen}
 use Rattle.pan_lexer.specs.Fronts.{front, Fits}
 use Rattle.pan_lexer.specs.Lexed.{lexed, taken, before, advance, place_after, is_naming, mode_after, token, fault, origin}
 use Rattle.pan_lexer.specs.Faulty.{IsBad, no_brace, open_annotation, bad_int, open_single, open_double, bad_escape, bad_document, other_character, IsFaulty, bad_here, behind_skipped, behind_written, behind_int, behind_text, behind_document, Faulty}
-use Rattle.pan_lexer.specs.declared.lexing.LexError.{LexError}
-use Rattle.pan_lexer.specs.declared.lexing.LexError.TheVariants as errors
+use Rattle.pan_ast.specs.declared.failure.Failure.{Failure}
+use Rattle.pan_ast.specs.declared.failure.Failure.TheVariants as failures
 use Rattle.pan_lexer.specs.declared.parts.At.{At}
 use Rattle.pan_lexer.specs.declared.parts.Mode.{Mode}
 use Rattle.pan_lexer.specs.declared.parts.Mode.TheVariants.{Before}
@@ -65,11 +67,11 @@ lexed_faulty file (b ∷ bs) zero m p f h e = faulty_at file m p b bs f (front (
     less : (j : ℕ) → j ≡ suc j - 1
     less j = omega arith
 
-error_faulty : (file bytes : List ℕ) (e : LexError) → IsUtf8 bytes → Gives (Err e) (lexed file 0 Before origin bytes) → OnError (Faulty file bytes) e
-error_faulty file bytes errors.Memory u g = tt
-error_faulty file bytes (errors.Fault f) u g = inl (u, lexed_faulty file bytes 0 Before origin f (omega arith) g)
+error_faulty : (file bytes : List ℕ) (e : Failure) → IsUtf8 bytes → Gives tokens_seen fault_of (Err e) (lexed file 0 Before origin bytes) → IfSome (fault_of e) (Faulty file bytes)
+error_faulty file bytes failures.Memory u g = tt
+error_faulty file bytes (failures.Fault f) u g = inl (u, lexed_faulty file bytes 0 Before origin f (omega arith) g)
 
-pub gives_faulty : (file bytes : List ℕ) (result : Result (List Token) LexError) → IsUtf8 bytes → Gives result (lexed file 0 Before origin bytes) → OnFault (Faulty file bytes) result
+pub gives_faulty : (file bytes : List ℕ) (result : Result (List Token) Failure) → IsUtf8 bytes → Gives tokens_seen fault_of result (lexed file 0 Before origin bytes) → IfErr result (λ e. IfSome (fault_of e) (Faulty file bytes))
 gives_faulty file bytes (Ok ts) u g = tt
 gives_faulty file bytes (Err e) u g = error_faulty file bytes e u g
 
@@ -114,8 +116,8 @@ faulty_lexed file m p bs f (behind_document {v = v} {n = n} {k = j} h r) =
 pub no_up_to : (bytes : List ℕ) (n : ℕ) → IsValidUpTo bytes n → IsUtf8 bytes → ⊥
 no_up_to bytes n v u = v.longest (length bytes) v.short (subst IsUtf8 (sym (take-length bytes)) u)
 
-pub faulty_gives : (file bytes : List ℕ) (result : Result (List Token) LexError) (f : Fault) → IsUtf8 bytes → Gives result (lexed file 0 Before origin bytes) → Faulty file bytes f → Gives result (Err f)
-faulty_gives file bytes result f u g (inl h) = subst (Gives result) (faulty_lexed file Before origin bytes f h.1) g
+pub faulty_gives : (file bytes : List ℕ) (result : Result (List Token) Failure) (f : Fault) → IsUtf8 bytes → Gives tokens_seen fault_of result (lexed file 0 Before origin bytes) → Faulty file bytes f → Gives tokens_seen fault_of result (Err f)
+faulty_gives file bytes result f u g (inl h) = subst (Gives tokens_seen fault_of result) (faulty_lexed file Before origin bytes f h.1) g
 faulty_gives file bytes result f u g (inr h) = absurd (no_up_to bytes h.0 h.1 u)
 
 -- where the bytes are not UTF-8

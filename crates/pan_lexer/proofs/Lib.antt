@@ -10,6 +10,10 @@ pub mod Docs
 pub mod Ended
 pub mod Exclude
 pub mod Faults
+pub mod Few
+pub mod Files
+pub mod FaultCodes
+pub mod FirstToken
 pub mod FirstWord
 pub mod Found
 pub mod Laws
