@@ -7,7 +7,9 @@ use std::alloc::{AllocError, AllocFailed};
 /// Why a call has no value to answer: the template has a fault, or it was out of memory.
 #[derive(Drop)]
 pub enum Failure {
+    /// The first fault of the template.
     Fault(Fault),
+    /// It was out of memory.
     Memory,
 }
 

@@ -85,7 +85,8 @@ pub fn make_name(place: &Place, name: &Text) -> Result<Node, AllocError>
 /// `name(argument, argument, ..)`
 #[tactic(auto, using(crate::proofs::Forms::nodes, crate::proofs::Pointers::nodes))]
 pub fn make_call(place: &Place, name: &Text, arguments: Vec<Item>) -> Result<Node, AllocError>
-    ensures seen { IfOk result (λ y. node_seen y ≡ Call place.now name.now (items_seen arguments.items)) }
+    ensures seen { IfOk result (λ y. node_seen y ≡ Call place.now name.now
+        (items_seen arguments.items)) }
     ensures pointers { IfOk result (λ y. left_pointers y ≡ 1 + items_pointers arguments.items) }
 {
     Ok(Node {
@@ -126,8 +127,10 @@ pub fn make_unary(
 /// A left operand with its first step.
 #[tactic(auto, using(crate::proofs::Spines::started, crate::proofs::Pointers::started_left))]
 fn start_spine(alloc: Global, left: Node, step: Step) -> Result<Node, AllocError>
-    ensures seen { IfOk result (λ y. node_seen y ≡ stepped (node_place (node_seen left)) (node_seen left) (step_seen step)) }
-    ensures pointers { IfOk result (λ y. left_pointers y ≡ max (node_pointers left) (step_pointers step)) }
+    ensures seen { IfOk result (λ y. node_seen y ≡ stepped (node_place (node_seen left))
+        (node_seen left) (step_seen step)) }
+    ensures pointers { IfOk result (λ y. left_pointers y ≡ max (node_pointers left)
+        (step_pointers step)) }
 {
     Ok(Node {
         place: left.place.share()?,
@@ -142,8 +145,10 @@ fn start_spine(alloc: Global, left: Node, step: Step) -> Result<Node, AllocError
 /// A left operand with one step more. A spine takes it at its end, so that no chain nests.
 #[tactic(auto, using(crate::proofs::Spines::grown, crate::proofs::Pointers::grown_left, crate::proofs::Pointers::plain_left))]
 fn with_step(alloc: Global, left: Node, step: Step) -> Result<Node, AllocError>
-    ensures seen { IfOk result (λ y. node_seen y ≡ stepped (node_place (node_seen left)) (node_seen left) (step_seen step)) }
-    ensures pointers { IfOk result (λ y. left_pointers y ≡ max (left_pointers left) (step_pointers step)) }
+    ensures seen { IfOk result (λ y. node_seen y ≡ stepped (node_place (node_seen left))
+        (node_seen left) (step_seen step)) }
+    ensures pointers { IfOk result (λ y. left_pointers y ≡ max (left_pointers left)
+        (step_pointers step)) }
 {
     let Node { place, form } = left;
     match form {
@@ -161,8 +166,10 @@ fn with_step(alloc: Global, left: Node, step: Step) -> Result<Node, AllocError>
 /// `left[item]`, with the place of its left operand.
 #[tactic(auto, using(crate::proofs::Forms::seen_step_index, crate::proofs::Pointers::index_step))]
 pub fn make_index(alloc: Global, left: Node, item: Item) -> Result<Node, AllocError>
-    ensures seen { IfOk result (λ y. node_seen y ≡ Index (node_place (node_seen left)) (node_seen left) (item_seen item)) }
-    ensures pointers { IfOk result (λ y. left_pointers y ≡ max (left_pointers left) (item_pointers item)) }
+    ensures seen { IfOk result (λ y. node_seen y ≡ Index (node_place (node_seen left))
+        (node_seen left) (item_seen item)) }
+    ensures pointers { IfOk result (λ y. left_pointers y ≡ max (left_pointers left)
+        (item_pointers item)) }
 {
     with_step(alloc, left, Step::Index(item))
 }
@@ -175,8 +182,10 @@ pub fn make_binary(
     left: Node,
     right: Node,
 ) -> Result<Node, AllocError>
-    ensures seen { IfOk result (λ y. node_seen y ≡ Binary (node_place (node_seen left)) operator (node_seen left) (node_seen right)) }
-    ensures pointers { IfOk result (λ y. left_pointers y ≡ max (left_pointers left) (node_pointers right)) }
+    ensures seen { IfOk result (λ y. node_seen y ≡ Binary (node_place (node_seen left)) operator
+        (node_seen left) (node_seen right)) }
+    ensures pointers { IfOk result (λ y. left_pointers y ≡ max (left_pointers left)
+        (node_pointers right)) }
 {
     with_step(alloc, left, Step::Binary(operator, right))
 }
@@ -184,8 +193,10 @@ pub fn make_binary(
 /// `left && right`, with the place of the left one.
 #[tactic(auto, using(crate::proofs::Forms::seen_step_and, crate::proofs::Pointers::and_step))]
 pub fn make_and(alloc: Global, left: Node, right: Node) -> Result<Node, AllocError>
-    ensures seen { IfOk result (λ y. node_seen y ≡ plain.And (node_place (node_seen left)) (node_seen left) (node_seen right)) }
-    ensures pointers { IfOk result (λ y. left_pointers y ≡ max (left_pointers left) (node_pointers right)) }
+    ensures seen { IfOk result (λ y. node_seen y ≡ plain.And (node_place (node_seen left))
+        (node_seen left) (node_seen right)) }
+    ensures pointers { IfOk result (λ y. left_pointers y ≡ max (left_pointers left)
+        (node_pointers right)) }
 {
     with_step(alloc, left, Step::And(right))
 }
@@ -193,8 +204,10 @@ pub fn make_and(alloc: Global, left: Node, right: Node) -> Result<Node, AllocErr
 /// `left || right`, with the place of the left one.
 #[tactic(auto, using(crate::proofs::Forms::seen_step_or, crate::proofs::Pointers::or_step))]
 pub fn make_or(alloc: Global, left: Node, right: Node) -> Result<Node, AllocError>
-    ensures seen { IfOk result (λ y. node_seen y ≡ plain.Or (node_place (node_seen left)) (node_seen left) (node_seen right)) }
-    ensures pointers { IfOk result (λ y. left_pointers y ≡ max (left_pointers left) (node_pointers right)) }
+    ensures seen { IfOk result (λ y. node_seen y ≡ plain.Or (node_place (node_seen left))
+        (node_seen left) (node_seen right)) }
+    ensures pointers { IfOk result (λ y. left_pointers y ≡ max (left_pointers left)
+        (node_pointers right)) }
 {
     with_step(alloc, left, Step::Or(right))
 }
@@ -214,8 +227,10 @@ pub fn make_block(place: &Place, items: Vec<Item>) -> Result<Item, AllocError>
 /// `if (condition) then`
 #[tactic(auto, using(crate::proofs::Forms::items, crate::proofs::Pointers::items))]
 pub fn make_if(place: &Place, condition: Box<Item>, then: Box<Item>) -> Result<Item, AllocError>
-    ensures seen { IfOk result (λ y. item_seen y ≡ choice place.now (item_seen condition.value) (item_seen then.value) None) }
-    ensures pointers { IfOk result (λ y. item_pointers y ≡ 1 + max (item_pointers condition.value) (item_pointers then.value)) }
+    ensures seen { IfOk result (λ y. item_seen y ≡ choice place.now (item_seen condition.value)
+        (item_seen then.value) None) }
+    ensures pointers { IfOk result (λ y. item_pointers y ≡ 1 + max (item_pointers condition.value)
+        (item_pointers then.value)) }
 {
     Ok(Item {
         place: place.share()?,
@@ -231,8 +246,10 @@ pub fn make_if_else(
     then: Box<Item>,
     otherwise: Box<Item>,
 ) -> Result<Item, AllocError>
-    ensures seen { IfOk result (λ y. item_seen y ≡ choice place.now (item_seen condition.value) (item_seen then.value) (Some (item_seen otherwise.value))) }
-    ensures pointers { IfOk result (λ y. item_pointers y ≡ 1 + max (item_pointers condition.value) (max (item_pointers then.value) (item_pointers otherwise.value))) }
+    ensures seen { IfOk result (λ y. item_seen y ≡ choice place.now (item_seen condition.value)
+        (item_seen then.value) (Some (item_seen otherwise.value))) }
+    ensures pointers { IfOk result (λ y. item_pointers y ≡ 1 + max (item_pointers condition.value)
+        (max (item_pointers then.value) (item_pointers otherwise.value))) }
 {
     Ok(Item {
         place: place.share()?,
@@ -243,8 +260,10 @@ pub fn make_if_else(
 /// `while (condition) body`
 #[tactic(auto, using(crate::proofs::Forms::items, crate::proofs::Pointers::items))]
 pub fn make_while(place: &Place, condition: Box<Item>, body: Box<Item>) -> Result<Item, AllocError>
-    ensures seen { IfOk result (λ y. item_seen y ≡ While place.now (item_seen condition.value) (item_seen body.value)) }
-    ensures pointers { IfOk result (λ y. item_pointers y ≡ 1 + max (item_pointers condition.value) (item_pointers body.value)) }
+    ensures seen { IfOk result (λ y. item_seen y ≡ While place.now (item_seen condition.value)
+        (item_seen body.value)) }
+    ensures pointers { IfOk result (λ y. item_pointers y ≡ 1 + max (item_pointers condition.value)
+        (item_pointers body.value)) }
 {
     Ok(Item {
         place: place.share()?,
@@ -261,8 +280,11 @@ pub fn make_for(
     step: Box<Item>,
     body: Box<Item>,
 ) -> Result<Item, AllocError>
-    ensures seen { IfOk result (λ y. item_seen y ≡ For place.now (item_seen first.value) (item_seen condition.value) (item_seen step.value) (item_seen body.value)) }
-    ensures pointers { IfOk result (λ y. item_pointers y ≡ 1 + max (max (item_pointers first.value) (item_pointers condition.value)) (max (item_pointers step.value) (item_pointers body.value))) }
+    ensures seen { IfOk result (λ y. item_seen y ≡ For place.now (item_seen first.value)
+        (item_seen condition.value) (item_seen step.value) (item_seen body.value)) }
+    ensures pointers { IfOk result (λ y. item_pointers y ≡ 1 + max
+        (max (item_pointers first.value) (item_pointers condition.value))
+        (max (item_pointers step.value) (item_pointers body.value))) }
 {
     Ok(Item {
         place: place.share()?,
@@ -279,8 +301,10 @@ pub fn make_foreach(
     items: Box<Item>,
     body: Box<Item>,
 ) -> Result<Item, AllocError>
-    ensures seen { IfOk result (λ y. item_seen y ≡ Foreach place.now key.now value.now (item_seen items.value) (item_seen body.value)) }
-    ensures pointers { IfOk result (λ y. item_pointers y ≡ 1 + max (item_pointers items.value) (item_pointers body.value)) }
+    ensures seen { IfOk result (λ y. item_seen y ≡ Foreach place.now key.now value.now
+        (item_seen items.value) (item_seen body.value)) }
+    ensures pointers { IfOk result (λ y. item_pointers y ≡ 1 + max (item_pointers items.value)
+        (item_pointers body.value)) }
 {
     Ok(Item {
         place: place.share()?,
@@ -295,7 +319,8 @@ pub fn make_reference(
     name: &Text,
     indexes: Vec<Item>,
 ) -> Result<Reference, AllocError>
-    ensures seen { IfOk result (λ y. reference_seen y ≡ Refer place.now name.now (items_seen indexes.items)) }
+    ensures seen { IfOk result (λ y. reference_seen y ≡ Refer place.now name.now
+        (items_seen indexes.items)) }
     ensures pointers { IfOk result (λ y. reference_pointers y ≡ 1 + items_pointers indexes.items) }
 {
     Ok(Reference {
@@ -308,8 +333,10 @@ pub fn make_reference(
 /// `reference = item`
 #[tactic(auto, using(crate::proofs::Forms::items, crate::proofs::Pointers::items))]
 pub fn make_assign(place: &Place, reference: Reference, item: Box<Item>) -> Result<Item, AllocError>
-    ensures seen { IfOk result (λ y. item_seen y ≡ Assign place.now (reference_seen reference) (item_seen item.value)) }
-    ensures pointers { IfOk result (λ y. item_pointers y ≡ max (reference_pointers reference) (1 + item_pointers item.value)) }
+    ensures seen { IfOk result (λ y. item_seen y ≡ Assign place.now (reference_seen reference)
+        (item_seen item.value)) }
+    ensures pointers { IfOk result (λ y. item_pointers y ≡ max (reference_pointers reference)
+        (1 + item_pointers item.value)) }
 {
     Ok(Item {
         place: place.share()?,
@@ -320,7 +347,8 @@ pub fn make_assign(place: &Place, reference: Reference, item: Box<Item>) -> Resu
 /// A chain of operators as an item.
 #[tactic(auto, using(crate::proofs::Forms::items, crate::proofs::Places::place_seen, crate::proofs::Pointers::items))]
 pub fn make_plain(node: Node) -> Result<Item, AllocError>
-    ensures seen { IfOk result (λ y. item_seen y ≡ Plain (node_place (node_seen node)) (node_seen node)) }
+    ensures seen { IfOk result (λ y. item_seen y ≡ Plain (node_place (node_seen node))
+        (node_seen node)) }
     ensures pointers { IfOk result (λ y. item_pointers y ≡ node_pointers node) }
 {
     Ok(Item {

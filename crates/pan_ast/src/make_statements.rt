@@ -15,7 +15,8 @@ use std::rc::Rc;
 
 /// A statement with the place of its first token.
 pub fn make_statement(place: &Place, form: StatementForm) -> Result<Statement, AllocError>
-    ensures seen { IfOk result (λ s. statement_seen s ≡ record { place = place.now; form = form_seen form }) }
+    ensures seen { IfOk result (λ s. statement_seen s ≡ record
+        { place = place.now; form = form_seen form }) }
     ensures pointers { IfOk result (λ s. statement_pointers s ≡ form_pointers form) }
 {
     Ok(Statement {
@@ -31,7 +32,8 @@ pub fn assign_statement(
     conditional: bool,
     item: Item,
 ) -> Result<StatementForm, AllocError>
-    ensures seen { IfOk result (λ f. form_seen f ≡ plain.Assign last path.now conditional (item_seen item)) }
+    ensures seen { IfOk result (λ f. form_seen f ≡ plain.Assign last path.now conditional
+        (item_seen item)) }
     ensures pointers { IfOk result (λ f. form_pointers f ≡ item_pointers item) }
 {
     Ok(StatementForm::Assign {
@@ -49,7 +51,8 @@ pub fn variable_statement(
     conditional: bool,
     item: Item,
 ) -> Result<StatementForm, AllocError>
-    ensures seen { IfOk result (λ f. form_seen f ≡ plain.Variable last name.now conditional (item_seen item)) }
+    ensures seen { IfOk result (λ f. form_seen f ≡ plain.Variable last name.now conditional
+        (item_seen item)) }
     ensures pointers { IfOk result (λ f. form_pointers f ≡ item_pointers item) }
 {
     Ok(StatementForm::Variable {

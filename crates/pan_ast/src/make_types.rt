@@ -71,8 +71,10 @@ pub fn make_full(
     default: Option<Item>,
     with: Option<Item>,
 ) -> Result<FullType, AllocError>
-    ensures seen { IfOk result (λ f. full_seen f ≡ Full (type_seen form) (option_seen default) (option_seen with)) }
-    ensures pointers { IfOk result (λ f. full_pointers f ≡ max (type_pointers form) (max (option_pointers default) (test_pointers with))) }
+    ensures seen { IfOk result (λ f. full_seen f ≡ Full (type_seen form) (option_seen default)
+        (option_seen with)) }
+    ensures pointers { IfOk result (λ f. full_pointers f ≡ max (type_pointers form)
+        (max (option_pointers default) (test_pointers with))) }
 {
     let with = match with {
         None => None,

@@ -14,7 +14,7 @@ use Rattle.pan_lexer.specs.declared.parts.At.{At}
 use Rattle.pan_lexer.specs.declared.parts.Mode.{Mode}
 use Rattle.pan_lexer.specs.declared.parts.Mode.TheVariants.{Before}
 use Rattle.pan_lexer.proofs.Cuts.{fits}
-use Rattle.pan_lexer.proofs.Laws.{fronts, read_spelled}
+use Rattle.pan_lexer.proofs.BothWays.{fronts, read_spelled}
 
 -- a here-document has at least the two bytes of its `<<`
 two_at_least : {naming : Bool} {bs v : List ℕ} {n k : ℕ} → IsFront naming bs (Document v n k) → 2 ≤ n

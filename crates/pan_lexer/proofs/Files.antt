@@ -1,10 +1,10 @@
 -- The definition of a file's tokens is what the two relations say.
-use Rattle.std.proofs.Common.{◌≡◌, ◌≢◌, ◌↔◌, Bool, true, false, cond, eqb, ℕ, zero, suc, ◌+◌, ◌≤◌, ◌<◌, List, length, take, drop, refl, sym, ap, subst, ◌∙◌, arith, ◌⊎◌, inl, inr}
+use Rattle.std.proofs.Common.{◌≡◌, ◌≢◌, ◌↔◌, Bool, true, false, cond, eqb, leb, ℕ, zero, suc, ◌+◌, ◌≤◌, ◌<◌, List, [], length, take, drop, refl, sym, ap, subst, ◌∙◌, arith, ◌⊎◌, inl, inr}
 use Rattle.std.specs.Prelude.{Result, Ok, Err}
 use Rattle.std.specs.Str.{IsUtf8, IsValidUpTo, is_utf8}
 use Rattle.std.specs.Str.Lossy.{utf8_valid_len, valid_len_up_to}
-use Rattle.std.proofs.lemmas.Bool.{eqb-true, eqb-false}
-use Rattle.std.proofs.lemmas.Str.{IsUtf8-from_is_utf8, is_utf8-from_IsUtf8, utf8_valid_len_le}
+use Rattle.std.proofs.lemmas.Bool.{eqb-true, eqb-false, leb-true, leb-false}
+use Rattle.std.proofs.lemmas.Str.{IsUtf8-from_ascii, IsUtf8-from_is_utf8, is_utf8-from_IsUtf8, utf8_valid_len_le}
 use Rattle.std.proofs.lemmas.List.{take_all}
 use Rattle.pan_ast.specs.declared.fault.Code.TheVariants.{NotUtf8}
 use Rattle.pan_ast.specs.declared.fault.Fault.{Fault}
@@ -14,32 +14,44 @@ use Rattle.pan_lexer.specs.Lexed.{lexed, lexed_file, fault, place_after, origin}
 use Rattle.pan_lexer.specs.Spelled.{Spelled}
 use Rattle.pan_lexer.specs.declared.parts.Mode.TheVariants.{Before}
 use Rattle.pan_lexer.proofs.Faults.{lexed_faulty, faulty_lexed, no_up_to, not_utf8}
-use Rattle.pan_lexer.proofs.Laws.{read_spelled, spelled_read}
+use Rattle.pan_lexer.proofs.BothWays.{read_spelled, spelled_read}
 use Rattle.pan_lexer.proofs.Steps.{lexed_utf8}
 
 -- the longest front that is UTF-8 is the greatest length at which one is
-front_valid : (bytes : List ℕ) (n : ℕ) → IsUtf8 (take (valid_len_up_to bytes n) bytes)
-front_valid bytes zero = IsUtf8-from_is_utf8 (take 0 bytes) refl
-front_valid bytes (suc n) = by (is_utf8 (take (suc n) bytes)) refl where
-  by : (t : Bool) → is_utf8 (take (suc n) bytes) ≡ t → IsUtf8 (take (cond t (suc n) (valid_len_up_to bytes n)) bytes)
-  by true e = IsUtf8-from_is_utf8 (take (suc n) bytes) e
-  by false e = front_valid bytes n
+valid_by : (bytes : List ℕ) (n : ℕ) (t : Bool) → is_utf8 (take (suc n) bytes) ≡ t → IsUtf8 (take (valid_len_up_to bytes n) bytes) → IsUtf8 (take (cond t (suc n) (valid_len_up_to bytes n)) bytes)
+valid_by bytes n true e h = IsUtf8-from_is_utf8 (take (suc n) bytes) e
+valid_by bytes n false e h = h
 
-front_longest : (bytes : List ℕ) (n m : ℕ) → valid_len_up_to bytes n < m → m ≤ n → IsUtf8 (take m bytes) → ⊥
-front_longest bytes zero m low high u = absurd (omega (arith, low, high))
-front_longest bytes (suc n) m low high u = by (is_utf8 (take (suc n) bytes)) refl low where
-  by : (t : Bool) → is_utf8 (take (suc n) bytes) ≡ t → cond t (suc n) (valid_len_up_to bytes n) < m → ⊥
-  by true e low = absurd (omega (arith, low, high))
-  by false e low = last (eqb m (suc n)) refl where
-    last : (s : Bool) → eqb m (suc n) ≡ s → ⊥
-    last true same = let k = is_utf8-from_IsUtf8 (take m bytes) u in let j : is_utf8 (take (suc n) bytes) ≡ true = subst (λ (i : ℕ). is_utf8 (take i bytes) ≡ true) (eqb-true m (suc n) same) k in absurd cc
-    last false other = front_longest bytes n m low (omega (arith, high, eqb-false m (suc n) other)) u
+front_valid : (bytes : List ℕ) (n : ℕ) → IsUtf8 (take (valid_len_up_to bytes n) bytes)
+front_valid bytes zero = IsUtf8-from_ascii [] (λ i. omega arith)
+front_valid bytes (suc n) = valid_by bytes n (is_utf8 (take (suc n) bytes)) refl (front_valid bytes n)
+
+-- no length up to n is longer and valid
+abbrev NoLonger : List ℕ → ℕ → ℕ → Type 0
+NoLonger bytes n from = (m : ℕ) → from < m → m ≤ n → IsUtf8 (take m bytes) → ⊥
+
+here_or_before : (bytes : List ℕ) (n m : ℕ) (same : Bool) → eqb m (suc n) ≡ same → is_utf8 (take (suc n) bytes) ≡ false → NoLonger bytes n (valid_len_up_to bytes n) → valid_len_up_to bytes n < m → m ≤ suc n → IsUtf8 (take m bytes) → ⊥
+here_or_before bytes n m true same e h low high u =
+    let k : is_utf8 (take (suc n) bytes) ≡ true = subst (λ (i : ℕ). is_utf8 (take i bytes) ≡ true) (eqb-true m (suc n) same) (is_utf8-from_IsUtf8 (take m bytes) u) in
+    absurd cc
+here_or_before bytes n m false other e h low high u = h m low (omega (arith, high, eqb-false m (suc n) other)) u
+
+longest_by : (bytes : List ℕ) (n : ℕ) (t : Bool) → is_utf8 (take (suc n) bytes) ≡ t → NoLonger bytes n (valid_len_up_to bytes n) → NoLonger bytes (suc n) (cond t (suc n) (valid_len_up_to bytes n))
+longest_by bytes n true e h m low high u = absurd (omega (arith, low, high))
+longest_by bytes n false e h m low high u = here_or_before bytes n m (eqb m (suc n)) refl e h low high u
+
+front_longest : (bytes : List ℕ) (n : ℕ) → NoLonger bytes n (valid_len_up_to bytes n)
+front_longest bytes zero = λ m low high u. absurd (omega (arith, low, high))
+front_longest bytes (suc n) = longest_by bytes n (is_utf8 (take (suc n) bytes)) refl (front_longest bytes n)
 
 -- a longer length than all bytes takes no more than they are
 none_longer : (bytes : List ℕ) (n : ℕ) → valid_len_up_to bytes (length bytes) ≡ n → n < length bytes → (m : ℕ) → n < m → IsUtf8 (take m bytes) → ⊥
 none_longer bytes n e short m above u = by (either m (length bytes)) where
   either : (a b : ℕ) → (a ≤ b) ⊎ (b < a)
-  either a b = omega arith
+  either a b = side (leb a b) refl where
+    side : (t : Bool) → leb a b ≡ t → (a ≤ b) ⊎ (b < a)
+    side true e = inl (leb-true a b e)
+    side false e = inr (leb-false a b e)
 
   by : (m ≤ length bytes) ⊎ (length bytes < m) → ⊥
   by (inl h) = front_longest bytes (length bytes) m (omega (arith, e, above)) h u
@@ -84,7 +96,7 @@ pub faulty_file : (file bytes : List ℕ) (f : Fault) → (lexed_file file bytes
 faulty_file file bytes f = (from (utf8_or_not bytes), back (utf8_or_not bytes)) where
   from : IsUtf8 bytes ⊎ IsValidUpTo bytes (utf8_valid_len bytes) → lexed_file file bytes ≡ Err f → Faulty file bytes f
   from (inl u) e = inl (u, lexed_faulty file bytes 0 Before origin f (omega arith) (sym (lexed_utf8 file bytes u) ∙ e))
-  from (inr v) e = inr (utf8_valid_len bytes, (v, sym (err_inside (fault file NotUtf8 (place_after origin (take (utf8_valid_len bytes) bytes))) f (sym (lexed_bad file bytes v) ∙ e))))
+  from (inr v) e = inr (utf8_valid_len bytes, v, sym (err_inside (fault file NotUtf8 (place_after origin (take (utf8_valid_len bytes) bytes))) f (sym (lexed_bad file bytes v) ∙ e)))
 
   same : (g : Fault) → f ≡ g → ◌≡◌ {A = Result (List Token) Fault} (Err g) (Err f)
   same g e = cc

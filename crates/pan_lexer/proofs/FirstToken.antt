@@ -3,7 +3,7 @@ use Rattle.std.proofs.Common.{◌≡◌, ◌≢◌, Bool, true, false, cond, eqb
 use Rattle.std.specs.Prelude.{Result, Ok, Err, codes, ◌==◌}
 use Rattle.std.specs.List.{prefix_len}
 use Rattle.std.specs.Cmp.Lexicographic.{pointwise}
-use Rattle.std.proofs.lemmas.Bool.{and_both, eqb-true}
+use Rattle.std.proofs.lemmas.Bool.{eqb-true}
 use Rattle.std.proofs.lemmas.List.{take-append-drop}
 use Rattle.pan_ast.specs.Sorts.{sort}
 use Rattle.pan_ast.specs.declared.fault.Fault.{Fault}
@@ -21,8 +21,9 @@ use Rattle.pan_lexer.specs.declared.parts.Mode.{Mode}
 use Rattle.pan_lexer.specs.declared.parts.Mode.TheVariants.{Before}
 use Rattle.pan_lexer.specs.declared.parts.SkipKind.{SkipKind}
 use Rattle.pan_lexer.specs.declared.parts.SkipKind.TheVariants.{Blank, Comment}
+use Rattle.pan_lexer.proofs.CleanLines.{and_both}
 use Rattle.pan_lexer.proofs.Files.{spelled_file}
-use Rattle.pan_lexer.proofs.Laws.{spelled_read}
+use Rattle.pan_lexer.proofs.BothWays.{spelled_read}
 
 -- ---- what is skipped
 

@@ -16,7 +16,7 @@ pub mod FaultCodes
 pub mod FirstToken
 pub mod FirstWord
 pub mod Found
-pub mod Laws
+pub mod BothWays
 pub mod OneKind
 pub mod OneLine
 pub mod Only

@@ -9,7 +9,7 @@ use Rattle.pan_lexer.specs.declared.parts.Mode.TheVariants.{Before}
 use Rattle.pan_lexer.proofs.Ended.{closed}
 use Rattle.pan_lexer.proofs.Faults.{gives_faulty}
 use Rattle.pan_lexer.proofs.Few.{gives_few}
-use Rattle.pan_lexer.proofs.Laws.{gives_spelled}
+use Rattle.pan_lexer.proofs.BothWays.{gives_spelled}
 use Rattle.pan_lexer.proofs.Spans.{lexed_spans, gives_spans}
 use Rattle.pan_lexer.proofs.Steps.{lexed_utf8}
 use Rattle.pan_lexer.proofs.Values.{lexed_sound, gives_sound}
