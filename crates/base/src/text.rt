@@ -9,6 +9,7 @@ ghost use Rattle.base.specs.Parts.{bytes_from_to};
 
 use std::alloc::{AllocError, Global};
 use std::cmp::Ordering;
+use std::convert::AsStr;
 use std::hash::{Hash, Hasher};
 use std::marker::Model;
 use std::rc::RcStr;
@@ -155,6 +156,14 @@ impl Text {
             start,
             end,
         })
+    }
+}
+
+impl AsStr for Text {
+    ghost text = { λ t. t };
+
+    fn as_str(&self) -> &str {
+        Text::as_str(self)
     }
 }
 

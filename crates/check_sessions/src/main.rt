@@ -37,7 +37,7 @@ fn new_case(alloc: Global) -> Case {
 fn text_line(alloc: Global, text: &str) -> Result<Bytes, AllocError> {
     let mut bytes = Vec::from_slice(alloc, text.as_bytes())?;
     bytes.push(b'\n')?;
-    Ok(Bytes::from_vec(bytes))
+    Bytes::from_vec(bytes)
 }
 
 fn file(alloc: Global, case: &mut Case, name: &str, text: &str) -> Result<()> {

@@ -1,24 +1,18 @@
 -- The operators of DML: what each gives of its operands, or why it gives nothing.
-use Rattle.std.specs.Prelude.{ℕ, ℤ, pos, negsuc, ◌+◌, ◌^◌, ◌+ℤ◌, ◌-ℤ◌, ◌*ℤ◌, neg_ℤ, Bool, true, false, not, ◌&&◌, ◌||◌, List, ◌++◌, length, Option, Some, None, Result, Ok, Err, nat_lt, int_lt, int_le, int_div, bytes_eq, if◌then◌else◌}
+use Rattle.std.specs.Prelude.{ℕ, ℤ, pos, negsuc, ◌+◌, ◌+ℤ◌, ◌-ℤ◌, ◌*ℤ◌, neg_ℤ, Bool, true, false, not, ◌&&◌, ◌||◌, List, ◌++◌, length, Option, Some, None, Result, Ok, Err, nat_lt, int_lt, int_le, int_div, bytes_eq, if◌then◌else◌}
 use Rattle.std.specs.Int.{int_bit_and, int_bit_or, int_bit_xor, int_bit_not}
 use Rattle.std.specs.Ordering.{nat_cmp, int_eq, is_lt, is_le, is_gt, is_ge}
 use Rattle.std.specs.Cmp.Lexicographic.{slice_cmp}
 use mir.Syntax.{w64}
+use Rattle.base.specs.declared.limits.TheConstants.{MAX_TEXT_BYTES}
 use Rattle.path_tree.specs.Plain.{Plain, dict, list, text, long, boolean, undef, null}
+use Rattle.path_tree.specs.Values.{within_64_bits}
 use Rattle.path_tree.specs.declared.operators.UnaryOp.{UnaryOp}
 use Rattle.path_tree.specs.declared.operators.UnaryOp.TheVariants as unary
 use Rattle.path_tree.specs.declared.operators.BinaryOp.{BinaryOp}
 use Rattle.path_tree.specs.declared.operators.BinaryOp.TheVariants as binary
 use Rattle.path_tree.specs.declared.refused.Refused.{Refused}
 use Rattle.path_tree.specs.declared.refused.Refused.TheVariants.{TypeClash, Overflow, ZeroDivisor, TooLarge}
-
--- from -2^63 to 2^63 - 1
-abbrev pub is_long : ℤ → Bool
-is_long (pos n) = nat_lt n (2 ^ 63)
-is_long (negsuc n) = nat_lt n (2 ^ 63)
-
-abbrev pub within_64_bits : ℤ → Result Plain Refused
-within_64_bits z = if is_long z then Ok (long z) else Err Overflow
 
 -- a number that was computed within 64 bits, where it can be
 abbrev pub of_number : Option ℤ → Result Plain Refused
@@ -51,7 +45,7 @@ of_longs binary.MoreEqual x y = answers (int_le y x)
 
 -- two texts, compared by their bytes
 abbrev pub of_texts : BinaryOp → List ℕ → List ℕ → Result Plain Refused
-of_texts binary.Add s t = if nat_lt 1000000 (length s + length t) then Err TooLarge else Ok (text (s ++ t))
+of_texts binary.Add s t = if nat_lt MAX_TEXT_BYTES (length s + length t) then Err TooLarge else Ok (text (s ++ t))
 of_texts binary.Equal s t = answers (bytes_eq s t)
 of_texts binary.NotEqual s t = answers (not (bytes_eq s t))
 of_texts binary.Less s t = answers (is_lt (slice_cmp nat_cmp s t))

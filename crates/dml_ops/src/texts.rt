@@ -1,14 +1,16 @@
-ghost use Rattle.std.specs.Prelude.{◌≡◌, ◌≢◌, Err, IfErr, IfOk, Ok};
+ghost use Rattle.std.specs.Prelude.{◌≡◌, ◌≢◌};
+ghost use Rattle.base.specs.Answers.{Gives};
+ghost use Rattle.path_tree.specs.Refusals.{refusal};
 ghost use Rattle.dml_ops.specs.Operators.{of_texts};
 ghost use Rattle.path_tree.specs.declared.operators.BinaryOp.TheVariants as binary;
 
+use base::limits::MAX_TEXT_BYTES;
 use path_tree::{BinaryOp, Refused, Tree};
 use std::alloc::Global;
 
 /// An operator of two texts.
 pub(crate) fn of_texts(alloc: Global, op: BinaryOp, x: &str, y: &str) -> Result<Tree, Refused>
-    ensures ok { IfOk result (λ t. of_texts op x.now y.now ≡ Ok t) }
-    ensures err { IfErr result (λ e. e ≢ Refused.Memory → of_texts op x.now y.now ≡ Err e) }
+    ensures { Gives (λ t. t) refusal result (of_texts op x.now y.now) }
 {
     match op {
         BinaryOp::Add => joined(alloc, x, y),
@@ -17,10 +19,9 @@ pub(crate) fn of_texts(alloc: Global, op: BinaryOp, x: &str, y: &str) -> Result<
 }
 
 fn joined(alloc: Global, x: &str, y: &str) -> Result<Tree, Refused>
-    ensures ok { IfOk result (λ t. of_texts binary.Add x.now y.now ≡ Ok t) }
-    ensures err { IfErr result (λ e. e ≢ Refused.Memory → of_texts binary.Add x.now y.now ≡ Err e) }
+    ensures { Gives (λ t. t) refusal result (of_texts binary.Add x.now y.now) }
 {
-    if x.len() > 1_000_000 || y.len() > 1_000_000 - x.len() {
+    if x.len() > MAX_TEXT_BYTES || y.len() > MAX_TEXT_BYTES - x.len() {
         return Err(Refused::TooLarge);
     }
     let mut text = String::with_capacity(alloc, x.len() + y.len())?;

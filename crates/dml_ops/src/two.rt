@@ -1,4 +1,6 @@
-ghost use Rattle.std.specs.Prelude.{◌≡◌, ◌≢◌, Err, IfErr, IfOk, Ok};
+ghost use Rattle.std.specs.Prelude.{◌≡◌};
+ghost use Rattle.base.specs.Answers.{Gives};
+ghost use Rattle.path_tree.specs.Refusals.{refusal};
 ghost use Rattle.dml_ops.specs.Operators.{binary_of, of_booleans, with_boolean, with_long, with_text};
 
 use crate::longs::of_longs;
@@ -11,8 +13,7 @@ use std::alloc::Global;
 /// bytes. Other operands are `TypeClash`. A number past 64 bits is `Overflow`, a zero divisor
 /// `ZeroDivisor`, and a joined text of over 1,000,000 bytes `TooLarge`.
 pub fn binary(alloc: Global, op: BinaryOp, a: &Tree, b: &Tree) -> Result<Tree, Refused>
-    ensures ok { IfOk result (λ t. binary_of op a.now b.now ≡ Ok t) }
-    ensures err { IfErr result (λ e. e ≢ Refused.Memory → binary_of op a.now b.now ≡ Err e) }
+    ensures { Gives (λ t. t) refusal result (binary_of op a.now b.now) }
 {
     if let Some(x) = a.as_long() {
         return with_long(op, x, b);
@@ -36,8 +37,7 @@ fn with_long(op: BinaryOp, x: i64, b: &Tree) -> Result<Tree, Refused>
 }
 
 fn with_text(alloc: Global, op: BinaryOp, x: &str, b: &Tree) -> Result<Tree, Refused>
-    ensures ok { IfOk result (λ t. with_text op x.now b.now ≡ Ok t) }
-    ensures err { IfErr result (λ e. e ≢ Refused.Memory → with_text op x.now b.now ≡ Err e) }
+    ensures { Gives (λ t. t) refusal result (with_text op x.now b.now) }
 {
     match b.as_text() {
         Some(y) => of_texts(alloc, op, x, y),

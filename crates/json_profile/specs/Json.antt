@@ -6,6 +6,7 @@ use Rattle.json.specs.Json as js
 use Rattle.json.specs.Print.{print}
 use Rattle.json.specs.Tree.{json_tokens}
 use Rattle.path_tree.specs.Plain.{Plain, dict, list, text, long, undef, Items, no_items, item, Fields, no_fields, field}
+use Rattle.base.specs.Characters.{line_feed}
 use Rattle.path_tree.specs.Plain as plain
 
 -- an undef or a null is written as null; no profile holds one
@@ -27,6 +28,10 @@ abbrev mutual
   fields_json no_fields = no_members
   fields_json (field k t fs) = member k (json t) (fields_json fs)
 
--- one line of compact JSON, and a line feed
+-- compact JSON
+abbrev pub json_text_of : Plain → List ℕ
+json_text_of t = print (json_tokens (json t))
+
+-- one line of it, and a line feed
 abbrev pub profile_of : Plain → List ℕ
-profile_of t = print (json_tokens (json t)) ++ 10 ∷ []
+profile_of t = json_text_of t ++ line_feed ∷ []

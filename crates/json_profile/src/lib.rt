@@ -6,4 +6,4 @@
 mod text;
 mod writing;
 
-pub use text::profile_text;
+pub use text::{json_text, profile_text};

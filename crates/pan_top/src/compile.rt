@@ -212,7 +212,7 @@ fn dependencies_of(alloc: Global, file: &str) -> Result<Bytes, AllocError>
     lines.extend_from_slice(b"template ")?;
     lines.extend_from_slice(file.as_bytes())?;
     lines.push(b'\n')?;
-    Ok(Bytes::from_vec(lines))
+    Bytes::from_vec(lines)
 }
 
 /// Compiles the object of this name, whose template is the text of this file.
@@ -223,7 +223,7 @@ pub fn compile(alloc: Global, file: &Text, name: &str, text: &[u8]) -> Result<Ou
 {
     match tree_of(alloc, name, file, text) {
         Ok(tree) => {
-            let profile = Bytes::from_vec(profile_text(alloc, &tree)?);
+            let profile = Bytes::from_vec(profile_text(alloc, &tree)?)?;
             Ok(Outcome::Profile(profile, dependencies_of(alloc, file.as_str())?))
         }
         Err(CompileError::Fault(fault)) => Ok(Outcome::Fault(fault)),

@@ -1,5 +1,6 @@
 -- What a put through one term leaves.
 use Rattle.std.proofs.Common.{◌≡◌, ℕ, ◌+◌, ◌≤◌, List, ◌∷◌, Some, None, Result, Ok, Err, refl, ap, sym, ◌∙◌, arith}
+use Rattle.base.specs.declared.limits.TheConstants.{MAX_TREE_HEIGHT, MAX_TREE_SIZE}
 use Rattle.path_tree.specs.Plain.{Plain, dict, list, Items, Fields, tree_size, tree_height}
 use Rattle.path_tree.specs.Find.{find_field, item_at}
 use Rattle.path_tree.specs.Put.{walk, chain, put_field, put_item, over}
@@ -23,7 +24,7 @@ fits_after ms v t u can walks =
 
 module _ (m : Term) (ms : List Term) (v t : Plain) (f : Plain → Plain) where
   module _ (c : Plain) (h : IsChange f c t) (is : (n : ℕ) → walk n (m ∷ ms) v t ≡ over f (walk (n + 1) ms v c)) where
-    below : (n : ℕ) (r : Result Plain PutError) (u : Plain) → walk n ms v c ≡ r → over f r ≡ Ok u → tree_size u ≤ 1000000 → tree_height u ≤ 100 → CanWalk ms v c
+    below : (n : ℕ) (r : Result Plain PutError) (u : Plain) → walk n ms v c ≡ r → over f r ≡ Ok u → tree_size u ≤ MAX_TREE_SIZE → tree_height u ≤ MAX_TREE_HEIGHT → CanWalk ms v c
     below n (Ok w) u at e small low =
         let same : f w ≡ u = cc in
         record {

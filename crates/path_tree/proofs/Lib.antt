@@ -1,3 +1,9 @@
+pub mod Refusals
+pub mod Counts
+pub mod Growing
+pub mod Found
+pub mod Equality
+pub mod Listing
 pub mod Ascii
 pub mod Standing
 pub mod Splits

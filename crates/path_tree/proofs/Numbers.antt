@@ -2,7 +2,8 @@
 use Rattle.std.proofs.Common.{◌≡◌, ℕ, zero, suc, ◌+◌, ◌*◌, ◌<◌, ◌≤◌, Bool, true, false, List, [], ◌∷◌, length, get_or, ◌&&◌, refl, arith, add-one}
 use Rattle.std.specs.List.{list_all}
 use Rattle.std.proofs.lemmas.Bool.Decides.{nat_tests}
-use Rattle.path_tree.specs.Grammar.{is_digit, is_index}
+use Rattle.base.specs.Ascii.{is_digit}
+use Rattle.path_tree.specs.Grammar.{is_index}
 
 -- more than the number of so many digits
 abbrev pub limit : ℕ → ℕ

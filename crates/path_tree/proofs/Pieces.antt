@@ -1,6 +1,7 @@
 -- The pieces of a path, one after the other.
 use Rattle.std.proofs.Common.{◌≡◌, ℕ, suc, ◌+◌, ◌<◌, ◌≤◌, Bool, true, false, cond, List, [], ◌∷◌, ◌++◌, length, take, drop, ◌==◌, ◌&&◌, not, Option, Some, None, Result, Ok, Err, refl, ap, append_assoc, arith, add-one}
 use Rattle.std.specs.List.{onto_first}
+use Rattle.base.specs.Characters.{slash}
 use Rattle.path_tree.specs.Paths.{pieces, pieces_from, inside_after, term_of, terms_after, terms_at}
 use Rattle.path_tree.specs.Reading.{optional_pieces, piece_length}
 use Rattle.path_tree.specs.declared.path.Term.{Term}
@@ -17,11 +18,11 @@ module _ (c : ℕ) (cs : List ℕ) where
 
 pub cut : (inside : Bool) (text : List ℕ) → piece_length inside text < length text → pieces_from inside text ≡ take (piece_length inside text) text ∷ pieces_from false (drop (piece_length inside text + 1) text)
 cut inside [] h = absurd (omega arith)
-cut inside (c ∷ cs) h = cut_at c cs ((c == 47) && not inside) (piece_length (inside_after inside c) cs) (pieces_from (inside_after inside c) cs) (cut (inside_after inside c) cs) h
+cut inside (c ∷ cs) h = cut_at c cs ((c == slash) && not inside) (piece_length (inside_after inside c) cs) (pieces_from (inside_after inside c) cs) (cut (inside_after inside c) cs) h
 
 pub uncut : (inside : Bool) (text : List ℕ) → length text ≤ piece_length inside text → pieces_from inside text ≡ text ∷ []
 uncut inside [] h = refl
-uncut inside (c ∷ cs) h = uncut_at c cs ((c == 47) && not inside) (piece_length (inside_after inside c) cs) (pieces_from (inside_after inside c) cs) (uncut (inside_after inside c) cs) h
+uncut inside (c ∷ cs) h = uncut_at c cs ((c == slash) && not inside) (piece_length (inside_after inside c) cs) (pieces_from (inside_after inside c) cs) (uncut (inside_after inside c) cs) h
 
 -- terms that were read, and those of the rest
 abbrev pub behind : List Term → Result (List Term) PathError → Result (List Term) PathError

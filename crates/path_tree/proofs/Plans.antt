@@ -2,6 +2,7 @@
 use Rattle.std.proofs.Common.{◌≡◌, ℕ, zero, suc, ◌+◌, ◌-◌, ◌<◌, ◌≤◌, Bool, true, false, nat_lt, cond, List, [], ◌∷◌, length, get_or, drop, Some, None, Result, Ok, Err, refl, ap, sym, ◌∙◌, subst, arith}
 use Rattle.std.proofs.lemmas.Bool.Decides.{nat_tests}
 use Rattle.std.proofs.lemmas.Grind.{common_steps}
+use Rattle.base.specs.declared.limits.TheConstants.{MAX_TREE_SIZE}
 use Rattle.path_tree.specs.Plain.{Plain, dict, list, Items, no_items, Fields, tree_size, tree_height, items_size, items_height}
 use Rattle.path_tree.specs.View.{items_of}
 use Rattle.path_tree.specs.Find.{find_field, item_at, item_count}
@@ -56,8 +57,8 @@ chain_at ms j i m v next within is =
 pub ruleset chain_lemmas = (height_le-size)
 
 -- refusals
-large_is : (r : Result Plain PutError) (u : Plain) → r ≡ Ok u → 1000000 < tree_size u → within_size r ≡ Err TooLarge
-large_is r u is h = rw is (tested (nat_lt 1000000 (tree_size u)) (grind (arith, nat_tests)))
+large_is : (r : Result Plain PutError) (u : Plain) → r ≡ Ok u → MAX_TREE_SIZE < tree_size u → within_size r ≡ Err TooLarge
+large_is r u is h = rw is (tested (nat_lt MAX_TREE_SIZE (tree_size u)) (grind (arith, nat_tests)))
   where
     tested : (b : Bool) → b ≡ true → cond b (Err TooLarge) (Ok u) ≡ Err TooLarge
     tested b e = rw e refl
@@ -70,16 +71,16 @@ within false w e h = cc
 pub refused_over : (f : Plain → Plain) → ((w : Plain) → tree_size w ≤ tree_size (f w)) → (r : Result Plain PutError) (e : PutError) → within_size r ≡ Err e → within_size (over f r) ≡ Err e
 refused_over f larger (Err x) e h = h
 refused_over f larger (Ok w) e h =
-    let t = within (nat_lt 1000000 (tree_size w)) w e h in
+    let t = within (nat_lt MAX_TREE_SIZE (tree_size w)) w e h in
     large_is (Ok (f w)) (f w) refl (lower t.0) ∙ ap Err (sym t.1)
   where
-    lower : nat_lt 1000000 (tree_size w) ≡ true → 1000000 < tree_size (f w)
-    lower is = let over_limit : 1000000 < tree_size w = grind (arith, nat_tests) in omega (arith, larger w)
+    lower : nat_lt MAX_TREE_SIZE (tree_size w) ≡ true → MAX_TREE_SIZE < tree_size (f w)
+    lower is = let over_limit : MAX_TREE_SIZE < tree_size w = grind (arith, nat_tests) in omega (arith, larger w)
 
 module _ (n : ℕ) (m : Term) (ms : List Term) (v t : Plain) (f : Plain → Plain) where
   -- where a child is changed
   module _ (c : Plain) (h : IsChange f c t) (is : walk n (m ∷ ms) v t ≡ over f (walk (n + 1) ms v c)) where
-    pub plan_changed : (below whole : Measure) → HasPlan (n + 1) ms v c below → whole.size + tree_size c ≡ tree_size t + below.size → whole.height ≡ below.height + 1 → whole.size ≤ 1000000 → HasPlan n (m ∷ ms) v t whole
+    pub plan_changed : (below whole : Measure) → HasPlan (n + 1) ms v c below → whole.size + tree_size c ≡ tree_size t + below.size → whole.height ≡ below.height + 1 → whole.size ≤ MAX_TREE_SIZE → HasPlan n (m ∷ ms) v t whole
     plan_changed below whole p size height small = record {
       after = f p.after;
       is = is ∙ ap (over f) p.is;
@@ -93,7 +94,7 @@ module _ (n : ℕ) (m : Term) (ms : List Term) (v t : Plain) (f : Plain → Plai
     pub changed_refused : (e : PutError) → within_size (walk (n + 1) ms v c) ≡ Err e → within_size (walk n (m ∷ ms) v t) ≡ Err e
     changed_refused e refused = ap within_size is ∙ refused_over f (λ w. omega (arith, h.size w, h.smaller)) (walk (n + 1) ms v c) e refused
 
-    pub changed_large : (below : Measure) → HasPlan (n + 1) ms v c below → 1000000 + tree_size c < tree_size t + below.size → within_size (walk n (m ∷ ms) v t) ≡ Err TooLarge
+    pub changed_large : (below : Measure) → HasPlan (n + 1) ms v c below → MAX_TREE_SIZE + tree_size c < tree_size t + below.size → within_size (walk n (m ∷ ms) v t) ≡ Err TooLarge
     changed_large below p over_limit = large_is (walk n (m ∷ ms) v t) (f p.after) (is ∙ ap (over f) p.is) (omega (arith, h.size p.after, p.size))
 
     pub changed_ok : (size before : ℕ) (below r : Result Measure PutError) → size ≡ tree_size t → before ≡ tree_size c → IsPlan (n + 1) ms v c below → IsGrown size before below r → IsPlan n (m ∷ ms) v t r
@@ -104,7 +105,7 @@ module _ (n : ℕ) (m : Term) (ms : List Term) (v t : Plain) (f : Plain → Plai
 
   -- where a child is added
   module _ (k : ℕ) (h : IsAddition f k t) (is : walk n (m ∷ ms) v t ≡ Ok (f (chain ms v))) where
-    pub plan_added : (whole : Measure) → whole.size ≡ tree_size t + k + tree_size (chain ms v) → whole.height ≡ tree_height (chain ms v) + 1 → whole.size ≤ 1000000 → HasPlan n (m ∷ ms) v t whole
+    pub plan_added : (whole : Measure) → whole.size ≡ tree_size t + k + tree_size (chain ms v) → whole.height ≡ tree_height (chain ms v) + 1 → whole.size ≤ MAX_TREE_SIZE → HasPlan n (m ∷ ms) v t whole
     plan_added whole size height small = record {
       after = f (chain ms v);
       is = is;
@@ -115,7 +116,7 @@ module _ (n : ℕ) (m : Term) (ms : List Term) (v t : Plain) (f : Plain → Plai
       flat = omega (arith, h.size (chain ms v), h.height (chain ms v), height_le-size (f (chain ms v)));
     }
 
-    pub added_large : 1000000 < tree_size t + k + tree_size (chain ms v) → within_size (walk n (m ∷ ms) v t) ≡ Err TooLarge
+    pub added_large : MAX_TREE_SIZE < tree_size t + k + tree_size (chain ms v) → within_size (walk n (m ∷ ms) v t) ≡ Err TooLarge
     added_large over_limit = large_is (walk n (m ∷ ms) v t) (f (chain ms v)) is (omega (arith, h.size (chain ms v)))
 
     pub added_ok : (size : ℕ) (made r : Result Measure PutError) → size ≡ tree_size t + k → IsMade ms v made → IsGrown size 0 made r → IsPlan n (m ∷ ms) v t r

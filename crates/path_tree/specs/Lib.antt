@@ -11,3 +11,8 @@ pub mod Kept
 pub mod Code
 pub mod Falls
 pub mod Place
+pub mod Refusals
+pub mod Lists
+pub mod Values
+pub mod Take
+pub mod Same

@@ -1,6 +1,8 @@
 -- What path a text gives, and the text of a path in plain form.
 use Rattle.std.specs.Prelude.{ℕ, ◌+◌, Bool, true, false, List, [], ◌∷◌, ◌++◌, length, take, drop, map, nat_lt, slice_index, ◌==◌, ◌&&◌, ◌||◌, not, if◌then◌else◌, Option, Some, None, option_map, Result, Ok, Err, decimal}
 use Rattle.std.specs.List.{onto_first, join_with_byte}
+use Rattle.base.specs.Characters.{close_brace, colon, open_brace, slash}
+use Rattle.base.specs.declared.limits.TheConstants.{MAX_PATH_BYTES}
 use Rattle.path_tree.specs.Grammar.{is_key, is_name, is_index, number_of}
 use Rattle.path_tree.specs.Escape.{escape}
 use Rattle.path_tree.specs.declared.path.Term.{Term}
@@ -13,12 +15,12 @@ use Rattle.path_tree.specs.declared.path.PathError.TheVariants.{Empty, TooLong, 
 
 -- whether a reader that has passed the byte c stands inside braces
 abbrev pub inside_after : Bool → ℕ → Bool
-inside_after inside c = if c == 123 then true else (if c == 125 then false else inside)
+inside_after inside c = if c == open_brace then true else (if c == close_brace then false else inside)
 
 -- the pieces of a text between the slashes that stand outside of braces
 abbrev pub pieces_from : Bool → List ℕ → List (List ℕ)
 pieces_from inside [] = [] ∷ []
-pieces_from inside (c ∷ cs) = if (c == 47) && not inside then ([] ∷ pieces_from false cs) else onto_first c (pieces_from (inside_after inside c) cs)
+pieces_from inside (c ∷ cs) = if (c == slash) && not inside then ([] ∷ pieces_from false cs) else onto_first c (pieces_from (inside_after inside c) cs)
 
 abbrev pub pieces : List ℕ → List (List ℕ)
 pieces text = pieces_from false text
@@ -31,12 +33,12 @@ first_of a b (c ∷ cs) = if (c == a) || (c == b) then Some 0 else option_map (�
 -- what stands before the first brace, where that closes and stands last
 abbrev pub before_brace : List ℕ → Option ℕ → Option (List ℕ)
 before_brace cs None = None
-before_brace cs (Some i) = if (slice_index cs i == 125) && (i + 1 == length cs) then Some (take i cs) else None
+before_brace cs (Some i) = if (slice_index cs i == close_brace) && (i + 1 == length cs) then Some (take i cs) else None
 
 -- the text between two braces, without braces inside
 abbrev pub in_braces : List ℕ → Option (List ℕ)
 in_braces [] = None
-in_braces (c ∷ cs) = if c == 123 then before_brace cs (first_of 123 125 cs) else None
+in_braces (c ∷ cs) = if c == open_brace then before_brace cs (first_of open_brace close_brace cs) else None
 
 abbrev pub key_term : List ℕ → Option Term
 key_term bytes = if is_key bytes then Some (term.Key bytes) else None
@@ -72,7 +74,7 @@ terms_below place (c ∷ cs) = terms_at place (pieces (c ∷ cs))
 -- an absolute path that begins at this byte of the text
 abbrev pub absolute_at : Anchor → ℕ → List ℕ → Result Path PathError
 absolute_at a place [] = Err (BadTerm place)
-absolute_at a place (c ∷ cs) = if c == 47 then path_with a (terms_below (place + 1) cs) else Err (BadTerm place)
+absolute_at a place (c ∷ cs) = if c == slash then path_with a (terms_below (place + 1) cs) else Err (BadTerm place)
 
 abbrev pub relative : List ℕ → Result Path PathError
 relative text = path_with anchor.Relative (terms_at 0 (pieces text))
@@ -84,15 +86,15 @@ external text i = if is_name (take i text) then absolute_at (anchor.External (ta
 -- external where the first colon or opening brace, at i, is a colon
 abbrev pub relative_or_external : List ℕ → Option ℕ → Result Path PathError
 relative_or_external text None = relative text
-relative_or_external text (Some i) = if slice_index text i == 58 then external text i else relative text
+relative_or_external text (Some i) = if slice_index text i == colon then external text i else relative text
 
 -- the path of a text, or its first fault
 abbrev pub path_of : List ℕ → Result Path PathError
 path_of [] = Err Empty
 path_of (c ∷ cs) =
-    if nat_lt 4096 (length (c ∷ cs)) then Err TooLong
-    else (if c == 47 then absolute_at anchor.Absolute 0 (c ∷ cs)
-    else relative_or_external (c ∷ cs) (first_of 58 123 (c ∷ cs)))
+    if nat_lt MAX_PATH_BYTES (length (c ∷ cs)) then Err TooLong
+    else (if c == slash then absolute_at anchor.Absolute 0 (c ∷ cs)
+    else relative_or_external (c ∷ cs) (first_of colon open_brace (c ∷ cs)))
 
 -- a key as it is, an index in decimal
 abbrev pub term_text : Term → List ℕ
@@ -100,13 +102,13 @@ term_text (term.Key k) = k
 term_text (term.Index i) = decimal i
 
 abbrev pub terms_text : List Term → List ℕ
-terms_text ms = join_with_byte 47 (map term_text ms)
+terms_text ms = join_with_byte slash (map term_text ms)
 
 -- behind / or a name with :/, or as it is
 abbrev pub anchored : Anchor → List ℕ → List ℕ
-anchored anchor.Absolute text = 47 ∷ text
+anchored anchor.Absolute text = slash ∷ text
 anchored anchor.Relative text = text
-anchored (anchor.External name) text = name ++ (58 ∷ 47 ∷ text)
+anchored (anchor.External name) text = name ++ (colon ∷ slash ∷ text)
 
 -- a path in plain form
 abbrev pub path_text : Path → List ℕ

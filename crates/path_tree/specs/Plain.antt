@@ -3,6 +3,7 @@ use Rattle.std.specs.Prelude.{◌≡◌, ◌≢◌, ℕ, ℤ, ◌≤◌, Bool, t
 use Rattle.std.specs.Ordering.{nat_cmp}
 use Rattle.std.specs.declared.cmp.Ordering.TheVariants.{Less}
 use Rattle.std.specs.Cmp.Lexicographic.{slice_cmp}
+use Rattle.base.specs.declared.limits.TheConstants.{MAX_TREE_HEIGHT, MAX_TREE_SIZE}
 use Rattle.path_tree.specs.Grammar.{is_key}
 
 -- A tree, with the items of a list in order and the fields of a dict in byte order of their keys.
@@ -15,14 +16,17 @@ mutual
     boolean : Bool → Plain
     undef : Plain
     null : Plain
+    deriving IsSet as Plain-set
 
   pub data Items : Type 0 where
     no_items : Items
     item : Plain → Items → Items
+    deriving IsSet as Items-set
 
   pub data Fields : Type 0 where
     no_fields : Fields
     field : List ℕ → Plain → Fields → Fields
+    deriving IsSet as Fields-set
 
 -- 1 and the sizes of the items; for a text of n bytes 1 + n / 64
 abbrev mutual
@@ -89,5 +93,5 @@ abbrev mutual
 -- what holds of every tree
 pub record IsTree (t : Plain) : Type 0 where
   pub whole : IsWhole t
-  pub size : tree_size t ≤ 1000000
-  pub height : tree_height t ≤ 100
+  pub size : tree_size t ≤ MAX_TREE_SIZE
+  pub height : tree_height t ≤ MAX_TREE_HEIGHT

@@ -3,6 +3,7 @@ use Rattle.std.specs.Prelude.{ℕ, zero, suc, ◌+◌, List, [], ◌∷◌, Resu
 use Rattle.std.specs.Option.{option_map_or}
 use Rattle.std.specs.Ordering.{nat_cmp, match_ordering}
 use Rattle.std.specs.Cmp.Lexicographic.{slice_cmp}
+use Rattle.base.specs.declared.limits.TheConstants.{MAX_TREE_HEIGHT, MAX_TREE_SIZE}
 use Rattle.path_tree.specs.Plain.{Plain, dict, list, text, long, boolean, undef, null, Items, no_items, item, Fields, no_fields, field, tree_size, tree_height}
 use Rattle.path_tree.specs.Find.{find_field, item_at}
 use Rattle.path_tree.specs.declared.path.Term.{Term}
@@ -58,12 +59,12 @@ walk n (m ∷ ms) v t = walk_step n m (chain (m ∷ ms) v) (chain ms v) (walk (n
 
 -- refused where the tree is too large
 abbrev pub within_size : Result Plain PutError → Result Plain PutError
-within_size (Ok t) = if nat_lt 1000000 (tree_size t) then Err TooLarge else Ok t
+within_size (Ok t) = if nat_lt MAX_TREE_SIZE (tree_size t) then Err TooLarge else Ok t
 within_size (Err e) = Err e
 
 -- refused where the tree is too high
 abbrev pub within_height : Result Plain PutError → Result Plain PutError
-within_height (Ok t) = if nat_lt 100 (tree_height t) then Err TooHigh else Ok t
+within_height (Ok t) = if nat_lt MAX_TREE_HEIGHT (tree_height t) then Err TooHigh else Ok t
 within_height (Err e) = Err e
 
 -- the tree t with v at the path, or the first refusal: of the walk, then of the size, then of the height

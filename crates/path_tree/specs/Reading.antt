@@ -1,15 +1,9 @@
 -- What the functions that read a path or an escaped text answer.
-use Rattle.std.specs.Prelude.{false, ◌≡◌, ◌≢◌, ℕ, ◌+◌, ◌≤◌, Bool, List, length, [], ◌∷◌, ◌==◌, ◌&&◌, not, if◌then◌else◌, Option, Some, None, Result, Ok, Err, IfOk, IfErr}
+use Rattle.std.specs.Prelude.{false, ◌≡◌, ℕ, ◌+◌, ◌≤◌, Bool, List, length, [], ◌∷◌, ◌==◌, ◌&&◌, not, if◌then◌else◌, Option, Some, None}
+use Rattle.base.specs.Characters.{slash}
 use Rattle.base.specs.Parts.{bytes_from_to}
 use Rattle.path_tree.specs.Escape.{is_escape}
 use Rattle.path_tree.specs.Paths.{pieces, inside_after}
-use Rattle.path_tree.specs.declared.path.PathError.{PathError}
-use Rattle.path_tree.specs.declared.path.PathError.TheVariants as error
-
--- the answer is what the definition gives, unless memory ran out
-pub record IsRead {T : Type 0} (r read : Result T PathError) : Type 0 where
-  pub ok : IfOk r (λ x. read ≡ Ok x)
-  pub err : IfErr r (λ e. e ≢ error.Memory → read ≡ Err e)
 
 -- the bytes stand in a whole from this place on
 pub record StandsAt (place : ℕ) (bytes whole : List ℕ) : Type 0 where
@@ -19,7 +13,7 @@ pub record StandsAt (place : ℕ) (bytes whole : List ℕ) : Type 0 where
 -- how many bytes stand before the first slash outside of braces
 abbrev pub piece_length : Bool → List ℕ → ℕ
 piece_length inside [] = 0
-piece_length inside (c ∷ cs) = if (c == 47) && not inside then 0 else (piece_length (inside_after inside c) cs + 1)
+piece_length inside (c ∷ cs) = if (c == slash) && not inside then 0 else (piece_length (inside_after inside c) cs + 1)
 
 abbrev pub optional_pieces : Option (List ℕ) → List (List ℕ)
 optional_pieces None = []

@@ -1,5 +1,6 @@
 -- The tree that each form of node stands for, its children already seen as trees.
 use Rattle.std.specs.Prelude.{◌≡◌, ◌≤◌, List, [], ◌∷◌, length}
+use Rattle.base.specs.declared.limits.TheConstants.{MAX_TEXT_BYTES}
 use Rattle.path_tree.specs.Plain.{Plain, dict, list, text, long, boolean, undef, null, Items, no_items, item, Fields, no_fields, field, tree_size, tree_height, IsTree}
 use Rattle.path_tree.specs.declared.tree.Entry.{Entry}
 use Rattle.path_tree.specs.declared.tree.Dict.{Dict}
@@ -45,7 +46,7 @@ plain_of node.Null = null
 abbrev pub IsNode : Node → Type 0
 IsNode (node.Dict d) = IsDict d.value
 IsNode (node.List l) = IsList l.value
-IsNode (node.Text t) = length t ≤ 1000000
+IsNode (node.Text t) = length t ≤ MAX_TEXT_BYTES
 IsNode (node.Long z) = Unit {0}
 IsNode (node.Boolean b) = Unit {0}
 IsNode node.Undef = Unit {0}

@@ -1,10 +1,11 @@
 ghost use Rattle.std.specs.Prelude.{◌≡◌, ◌<◌, ◌≤◌, ◌++◌, length, true, IfOk, MatchOption, OnOk, string_bytes};
-ghost use Rattle.std.specs.Char.{digit_char};
+ghost use Rattle.std.specs.Char.{digit_char, digit_value};
 ghost use Rattle.std.specs.Str.{IsUtf8};
-ghost use Rattle.path_tree.specs.Escape.{escape, escape_rest, escaped_byte, hex_value, is_hex_digit, unescape, unescape_rest};
+ghost use Rattle.base.specs.Ascii.{is_lower_hexadecimal_digit};
+ghost use Rattle.path_tree.specs.Escape.{escape, escape_rest, escaped_byte, unescape, unescape_rest};
 ghost use Rattle.path_tree.specs.Reading.{begins_escaped};
 
-use crate::key::{is_digit, is_letter};
+use base::ascii::{digit_value, is_digit, is_letter, is_lower_hexadecimal_digit};
 use std::alloc::{AllocError, Global};
 use std::str;
 
@@ -62,9 +63,9 @@ fn hex_digit(value: u8) -> char
     ensures ascii { result < 128 }
 {
     if value < 10 {
-        (48 + value) as char
+        (b'0' + value) as char
     } else {
-        (87 + value) as char
+        (b'a' - 10 + value) as char
     }
 }
 
@@ -112,21 +113,17 @@ fn begins_escaped(key: &[u8]) -> bool
     ensures long { result ≡ true → 3 ≤ length key.now }
 {
     match key {
-        [first, high, low, ..] => *first == b'_' && is_hex_digit(*high) && is_hex_digit(*low),
+        [first, high, low, ..] => *first == b'_'
+            && is_lower_hexadecimal_digit(*high)
+            && is_lower_hexadecimal_digit(*low),
         _ => false,
     }
 }
 
-fn is_hex_digit(c: u8) -> bool
-    ensures { result ≡ is_hex_digit c }
-{
-    is_digit(c) || (97 <= c && c <= 102)
-}
-
 fn hex_value(c: u8) -> u8
-    requires { is_hex_digit c ≡ true }
-    ensures value { result ≡ hex_value c }
+    requires { is_lower_hexadecimal_digit c ≡ true }
+    ensures value { result ≡ digit_value c }
     ensures small { result < 16 }
 {
-    if is_digit(c) { c - 48 } else { c - 87 }
+    digit_value(c)
 }

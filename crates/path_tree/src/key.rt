@@ -1,22 +1,20 @@
-ghost use Rattle.std.specs.Prelude.{◌≡◌, ◌<◌, ◌+◌, ◌==◌, ◌↔◌, true, false, IfOk, OnOk, IsErrOf, length};
-ghost use Rattle.std.specs.Cmp.Lexicographic.{slice_cmp, pointwise};
-ghost use Rattle.std.specs.Cmp.Rules.{comparing};
+ghost use Rattle.std.specs.Prelude.{◌≡◌, ◌≤◌, ◌+◌, ◌↔◌, true, false, IfOk, OnOk, IsErrOf, length};
 ghost use Rattle.std.specs.List.{list_all};
-ghost use Rattle.std.specs.Ordering.{nat_cmp, as_partial_cmp};
 ghost use Rattle.std.specs.Str.{IsUtf8};
-ghost use Rattle.std.proofs.Common.{rules};
-ghost use Rattle.path_tree.specs.Grammar.{is_digit, is_key, is_key_byte, is_letter};
+ghost use Rattle.base.specs.declared.limits.TheConstants.{MAX_PATH_BYTES};
+ghost use Rattle.path_tree.specs.Grammar.{is_key, is_key_byte};
 ghost use Rattle.path_tree.specs.Reading.{StandsAt};
 ghost use Rattle.path_tree.specs.declared.key.KeyError.TheVariants.{Memory};
 
 use base::Text;
-use std::alloc::{AllocError, Global};
-use std::cmp::Ordering;
+use base::ascii::is_letter;
+use base::limits::MAX_KEY_BYTES;
+use std::alloc::{AllocError, AllocFailed, Global};
 use std::marker::Model;
 
 /// A key of a dict: 1 to 1,000 bytes, an ASCII letter or `_`, then letters, digits or any of `_ . + -`.
 /// Contracts see the list of its bytes. Copies share one text in memory.
-#[derive(Debug, Drop)]
+#[derive(Clone, Debug, Drop, PartialEq, Eq, PartialOrd, Ord)]
 pub struct Key {
     text: Text,
 }
@@ -28,6 +26,8 @@ impl Model for Key {
     ghost Value = { List ℕ };
 
     ghost view = { λ k. k.text };
+
+    ghost inverse = { λ k. record { text = k } };
 
     ghost invariant = { λ k. is_key k.text ≡ true };
 }
@@ -49,16 +49,12 @@ impl From<AllocError> for KeyError {
     }
 }
 
-pub(crate) fn is_letter(c: u8) -> bool
-    ensures { result ≡ is_letter c }
-{
-    matches!(c, b'A'..=b'Z' | b'a'..=b'z')
-}
+impl<T: Drop> From<AllocFailed<T>> for KeyError {
+    ghost from_gives = { λ _ e. e ≡ Memory };
 
-pub(crate) fn is_digit(c: u8) -> bool
-    ensures { result ≡ is_digit c }
-{
-    matches!(c, b'0'..=b'9')
+    fn from(_e: AllocFailed<T>) -> KeyError {
+        KeyError::Memory
+    }
 }
 
 pub(crate) fn is_key_byte(c: u8) -> bool
@@ -84,7 +80,7 @@ pub fn is_key(bytes: &[u8]) -> bool
     let [first, rest @ ..] = bytes else {
         return false;
     };
-    (is_letter(*first) || *first == b'_') && are_key_bytes(rest) && rest.len() < 1000
+    (is_letter(*first) || *first == b'_') && are_key_bytes(rest) && bytes.len() <= MAX_KEY_BYTES
 }
 
 impl Key {
@@ -105,7 +101,7 @@ impl Key {
     pub(crate) fn in_text(whole: &Text, start: usize, bytes: &[u8]) -> Result<Key, AllocError>
         requires key { is_key bytes.now ≡ true }
         requires part { StandsAt start bytes.now whole.now }
-        requires short { start + length bytes.now < 6000 }
+        requires short { start + length bytes.now ≤ MAX_PATH_BYTES }
         ensures { IfOk result (λ k. k ≡ bytes.now) }
     {
         let text = whole.slice(start, start + bytes.len())?;
@@ -127,51 +123,5 @@ impl Key {
     {
         let text = self.text.share()?;
         Ok(Key { text })
-    }
-}
-
-impl Clone for Key {
-    ghost is_clone = { λ k copy. copy ≡ k };
-
-    fn clone(&self) -> Result<Key, AllocError> {
-        self.share()
-    }
-}
-
-impl PartialEq for Key {
-    ghost eq = { pointwise ◌==◌ };
-
-    ghost laws = { Prim.search (comparing, rules) };
-
-    fn eq(&self, other: &Key) -> bool {
-        self.as_str() == other.as_str()
-    }
-}
-
-impl Eq for Key {
-    ghost laws = { Prim.search (comparing, rules) };
-}
-
-impl PartialOrd for Key {
-    ghost partial_cmp = { as_partial_cmp (slice_cmp nat_cmp) };
-
-    ghost laws = { Prim.search (comparing, rules) };
-
-    fn partial_cmp(&self, other: &Key) -> Option<Ordering> {
-        Some(self.cmp(other))
-    }
-}
-
-impl Ord for Key {
-    ghost cmp = { slice_cmp nat_cmp };
-
-    ghost total = { Prim.search (comparing, rules) };
-
-    ghost matches_partial_cmp = { Prim.search (comparing, rules) };
-
-    ghost matches_eq = { Prim.search (comparing, rules) };
-
-    fn cmp(&self, other: &Key) -> Ordering {
-        self.as_str().cmp(other.as_str())
     }
 }

@@ -1,10 +1,7 @@
 ghost use Rattle.std.specs.Prelude.{◌≡◌, ◌==◌, ◌↔◌, ◌∷◌, [], true, false, IfOk, OnOk, IsErrOf};
-ghost use Rattle.std.specs.Cmp.Lexicographic.{slice_cmp, pointwise};
-ghost use Rattle.std.specs.Cmp.Rules.{comparing};
 ghost use Rattle.std.specs.List.{list_all, slice_split};
-ghost use Rattle.std.specs.Ordering.{nat_cmp, as_partial_cmp};
 ghost use Rattle.std.specs.Str.{IsUtf8};
-ghost use Rattle.std.proofs.Common.{rules};
+ghost use Rattle.base.specs.Characters.{slash};
 ghost use Rattle.path_tree.specs.Grammar.{is_dots, is_name, is_segment};
 ghost use Rattle.path_tree.specs.Reading.{StandsAt};
 ghost use Rattle.path_tree.specs.declared.name.NameError.TheVariants.{Memory};
@@ -12,13 +9,13 @@ ghost use Rattle.path_tree.specs.declared.name.NameError.TheVariants.{Memory};
 use crate::bytes::first_of;
 use crate::key::are_key_bytes;
 use base::Text;
-use std::alloc::{AllocError, Global};
-use std::cmp::Ordering;
+use base::limits::MAX_NAME_BYTES;
+use std::alloc::{AllocError, AllocFailed, Global};
 use std::marker::Model;
 
 /// A template name: 1 to 200 bytes, segments joined by `/`, each of one or more of `A-Z a-z 0-9 _ . + -`
 /// and none equal to `.` or `..`. Contracts see the list of its bytes. Copies share one text in memory.
-#[derive(Debug, Drop)]
+#[derive(Clone, Debug, Drop, PartialEq, Eq, PartialOrd, Ord)]
 pub struct Name {
     text: Text,
 }
@@ -30,6 +27,8 @@ impl Model for Name {
     ghost Value = { List ℕ };
 
     ghost view = { λ k. k.text };
+
+    ghost inverse = { λ k. record { text = k } };
 
     ghost invariant = { λ k. is_name k.text ≡ true };
 }
@@ -51,6 +50,14 @@ impl From<AllocError> for NameError {
     }
 }
 
+impl<T: Drop> From<AllocFailed<T>> for NameError {
+    ghost from_gives = { λ _ e. e ≡ Memory };
+
+    fn from(_e: AllocFailed<T>) -> NameError {
+        NameError::Memory
+    }
+}
+
 fn is_dots(bytes: &[u8]) -> bool
     ensures { result ≡ is_dots bytes.now }
 {
@@ -68,7 +75,7 @@ fn is_segment(bytes: &[u8]) -> bool
 }
 
 fn are_segments(bytes: &[u8]) -> bool
-    ensures { result ≡ list_all is_segment (slice_split (λ c. c == 47) bytes.now) }
+    ensures { result ≡ list_all is_segment (slice_split (λ c. c == slash) bytes.now) }
 {
     match first_of(b'/', b'/', bytes) {
         None => is_segment(bytes),
@@ -80,7 +87,7 @@ fn are_segments(bytes: &[u8]) -> bool
 pub fn is_name(bytes: &[u8]) -> bool
     ensures { result ≡ is_name bytes.now }
 {
-    bytes.len() <= 200 && are_segments(bytes)
+    bytes.len() <= MAX_NAME_BYTES && are_segments(bytes)
 }
 
 impl Name {
@@ -122,51 +129,5 @@ impl Name {
     {
         let text = self.text.share()?;
         Ok(Name { text })
-    }
-}
-
-impl Clone for Name {
-    ghost is_clone = { λ k copy. copy ≡ k };
-
-    fn clone(&self) -> Result<Name, AllocError> {
-        self.share()
-    }
-}
-
-impl PartialEq for Name {
-    ghost eq = { pointwise ◌==◌ };
-
-    ghost laws = { Prim.search (comparing, rules) };
-
-    fn eq(&self, other: &Name) -> bool {
-        self.as_str() == other.as_str()
-    }
-}
-
-impl Eq for Name {
-    ghost laws = { Prim.search (comparing, rules) };
-}
-
-impl PartialOrd for Name {
-    ghost partial_cmp = { as_partial_cmp (slice_cmp nat_cmp) };
-
-    ghost laws = { Prim.search (comparing, rules) };
-
-    fn partial_cmp(&self, other: &Name) -> Option<Ordering> {
-        Some(self.cmp(other))
-    }
-}
-
-impl Ord for Name {
-    ghost cmp = { slice_cmp nat_cmp };
-
-    ghost total = { Prim.search (comparing, rules) };
-
-    ghost matches_partial_cmp = { Prim.search (comparing, rules) };
-
-    ghost matches_eq = { Prim.search (comparing, rules) };
-
-    fn cmp(&self, other: &Name) -> Ordering {
-        self.as_str().cmp(other.as_str())
     }
 }

@@ -1,16 +1,23 @@
-ghost use Rattle.std.specs.Prelude.{◌≡◌, ◌≢◌, ◌∷◌, ◌++◌, [], ◌↔◌, ◌<◌, ◌+◌, ◌==◌, ◌&&◌, IfOk, IfErr, IfSome, OnOk, if◌then◌else◌, false, true, IsErrOf, MatchResult, MatchOption, Ok, Err, Some, None, is_some, option_map, option_copied, slice_index, length, string_bytes};
+ghost use Rattle.std.specs.Prelude.{◌≡◌, ◌≢◌, ◌∷◌, ◌++◌, [], ◌↔◌, ◌<◌, ◌≤◌, ◌+◌, ◌==◌, ◌&&◌, IfOk, IfErr, IfSome, OnOk, if◌then◌else◌, false, true, IsErrOf, MatchResult, MatchOption, Ok, Err, Some, None, is_some, option_map, option_copied, slice_index, length, string_bytes};
 ghost use Rattle.std.specs.List.{list_all};
-ghost use Rattle.path_tree.specs.Grammar.{is_digit, is_index, is_name, number_of};
+ghost use Rattle.base.specs.Ascii.{is_digit};
+ghost use Rattle.base.specs.Characters.{colon, open_brace};
+ghost use Rattle.base.specs.Answers.{Gives};
+ghost use Rattle.base.specs.declared.limits.TheConstants.{MAX_PATH_BYTES};
+ghost use Rattle.path_tree.specs.Grammar.{is_index, is_name, number_of};
 ghost use Rattle.path_tree.specs.Paths.{first_of, in_braces, key_term, braced_term, term_of, terms_at, terms_below, absolute_at, path_of, path_text, path_with, pieces, relative, relative_or_external, external, terms_text, term_text};
-ghost use Rattle.path_tree.specs.Reading.{IsRead, StandsAt, optional_pieces, piece_length};
+ghost use Rattle.path_tree.specs.Refusals.{path_refusal};
+ghost use Rattle.path_tree.specs.Reading.{StandsAt, optional_pieces, piece_length};
 ghost use Rattle.path_tree.specs.declared.path.PathError.TheVariants.{Memory};
 ghost use Rattle.path_tree.specs.declared.path.PutError.TheVariants as put_error;
 ghost use Rattle.path_tree.specs.declared.path.Anchor.TheVariants as anchor;
 
 use crate::bytes::first_of;
 use crate::escaping::escape_bytes;
-use crate::key::{Key, KeyError, is_digit, is_key};
+use crate::key::{Key, KeyError, is_key};
 use crate::name::{Name, is_name};
+use base::ascii::is_digit;
+use base::limits::MAX_PATH_BYTES;
 use base::{Seq, Text};
 use std::alloc::{AllocError, AllocFailed, Global};
 
@@ -91,6 +98,14 @@ impl From<AllocError> for PutError {
     }
 }
 
+impl<T: Drop> From<AllocFailed<T>> for PutError {
+    ghost from_gives = { λ _ e. e ≡ put_error.Memory };
+
+    fn from(_e: AllocFailed<T>) -> PutError {
+        PutError::Memory
+    }
+}
+
 impl Path {
     /// The path of a text. A path is absolute (`/`, or `/` before each term), relative (terms joined by
     /// `/`), or external: a template name, `:` and an absolute path. It is external exactly where it does
@@ -98,14 +113,13 @@ impl Path {
     /// a leading zero, at most 999,999) or a text in braces, without braces inside, which stands for the
     /// text's escaped key. The path shares the text's memory.
     pub fn parse(alloc: Global, text: &Text) -> Result<Path, PathError>
-        ensures ok { IfOk result (λ p. path_of text.now ≡ Ok p) }
-        ensures err { IfErr result (λ e. e ≢ PathError.Memory → path_of text.now ≡ Err e) }
+        ensures { Gives (λ p. p) path_refusal result (path_of text.now) }
     {
         let bytes = text.as_str().as_bytes();
         let [first, ..] = bytes else {
             return Err(PathError::Empty);
         };
-        if bytes.len() > 4096 {
+        if bytes.len() > MAX_PATH_BYTES {
             return Err(PathError::TooLong);
         }
         if *first == b'/' {
@@ -136,8 +150,8 @@ impl Path {
 
 fn relative_or_external(alloc: Global, whole: &Text, text: &[u8]) -> Result<Path, PathError>
     requires part { StandsAt 0 text.now whole.now }
-    requires short { length text.now < 5000 }
-    ensures { IsRead result (relative_or_external text.now (first_of 58 123 text.now)) }
+    requires short { length text.now ≤ MAX_PATH_BYTES }
+    ensures { Gives (λ x. x) path_refusal result (relative_or_external text.now (first_of colon open_brace text.now)) }
 {
     match first_of(b':', b'{', text) {
         Some(at) if text[at] == b':' => external(alloc, whole, text, at),
@@ -147,8 +161,8 @@ fn relative_or_external(alloc: Global, whole: &Text, text: &[u8]) -> Result<Path
 
 fn relative(alloc: Global, whole: &Text, text: &[u8]) -> Result<Path, PathError>
     requires part { StandsAt 0 text.now whole.now }
-    requires short { length text.now < 5000 }
-    ensures { IsRead result (relative text.now) }
+    requires short { length text.now ≤ MAX_PATH_BYTES }
+    ensures { Gives (λ x. x) path_refusal result (relative text.now) }
 {
     let terms = terms(alloc, whole, 0, text)?;
     Ok(Path {
@@ -160,8 +174,8 @@ fn relative(alloc: Global, whole: &Text, text: &[u8]) -> Result<Path, PathError>
 fn external(alloc: Global, whole: &Text, text: &[u8], colon: usize) -> Result<Path, PathError>
     requires part { StandsAt 0 text.now whole.now }
     requires colon { colon < length text.now }
-    requires short { length text.now < 5000 }
-    ensures { IsRead result (external text.now colon) }
+    requires short { length text.now ≤ MAX_PATH_BYTES }
+    ensures { Gives (λ x. x) path_refusal result (external text.now colon) }
 {
     let Some(name) = name_of(whole, &text[..colon])? else {
         return Err(PathError::BadTerm(0));
@@ -184,8 +198,8 @@ fn absolute(
     text: &[u8],
 ) -> Result<Path, PathError>
     requires part { StandsAt place text.now whole.now }
-    requires short { place + length text.now < 6000 }
-    ensures { IsRead result (absolute_at anchor place text.now) }
+    requires short { place + length text.now ≤ MAX_PATH_BYTES }
+    ensures { Gives (λ x. x) path_refusal result (absolute_at anchor place text.now) }
 {
     let [b'/', rest @ ..] = text else {
         return Err(PathError::BadTerm(place));
@@ -201,8 +215,8 @@ fn terms_below(
     text: &[u8],
 ) -> Result<Seq<Term>, PathError>
     requires part { StandsAt place text.now whole.now }
-    requires short { place + length text.now < 6000 }
-    ensures { IsRead result (terms_below place text.now) }
+    requires short { place + length text.now ≤ MAX_PATH_BYTES }
+    ensures { Gives (λ x. x) path_refusal result (terms_below place text.now) }
 {
     if text.is_empty() {
         Ok(Seq::new(alloc))
@@ -214,8 +228,8 @@ fn terms_below(
 // The terms of a text that begins at this byte of the path's text.
 fn terms(alloc: Global, whole: &Text, place: usize, text: &[u8]) -> Result<Seq<Term>, PathError>
     requires part { StandsAt place text.now whole.now }
-    requires short { place + length text.now < 6000 }
-    ensures { IsRead result (terms_at place (pieces text.now)) }
+    requires short { place + length text.now ≤ MAX_PATH_BYTES }
+    ensures { Gives (λ x. x) path_refusal result (terms_at place (pieces text.now)) }
 {
     let mut terms = Vec::new(alloc);
     let mut place = place;
@@ -268,7 +282,7 @@ fn term_of(
     piece: &[u8],
 ) -> Result<Option<Term>, AllocError>
     requires part { StandsAt place piece.now whole.now }
-    requires short { place + length piece.now < 6000 }
+    requires short { place + length piece.now ≤ MAX_PATH_BYTES }
     ensures { IfOk result (λ t. t ≡ term_of piece.now) }
 {
     if is_key(piece) {

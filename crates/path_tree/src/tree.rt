@@ -1,11 +1,18 @@
 ghost use Rattle.std.specs.Prelude.{◌≡◌, ◌≢◌, ◌↔◌, ◌<◌, ◌≤◌, IfOk, IfErr, IfSome, OnOk, OnErr, IsErrOf, IsTrue, Ok, Err, [], ◌∷◌, length, option_copied, true};
 ghost use Rattle.std.specs.Str.{IsUtf8};
+ghost use Rattle.base.specs.Answers.{Gives};
+ghost use Rattle.base.specs.declared.limits.TheConstants.{MAX_TEXT_BYTES};
 ghost use Rattle.path_tree.specs.Find.{boolean_of, child, child_at, child_count, get, key_at, kind_of, long_of, text_of};
 ghost use Rattle.path_tree.specs.Grammar.{is_key};
+ghost use Rattle.path_tree.specs.Lists.{is_null, list_of, pushed, pushed_front};
 ghost use Rattle.path_tree.specs.Plain.{IsTree, tree_height, tree_size};
 ghost use Rattle.path_tree.specs.Plain as plain;
 ghost use Rattle.path_tree.specs.Put.{put};
+ghost use Rattle.path_tree.specs.Refusals.{put_refusal, refusal};
 ghost use Rattle.path_tree.specs.Remove.{remove};
+ghost use Rattle.path_tree.specs.Same.{same_tree};
+ghost use Rattle.path_tree.specs.Take.{IsTaken};
+ghost use Rattle.path_tree.specs.declared.path.Term.TheVariants as term;
 ghost use Rattle.path_tree.specs.declared.refused.Refused.TheVariants as refused;
 
 mod comparing;
@@ -20,6 +27,7 @@ use crate::kind::Kind;
 use crate::path::{PutError, Term};
 use crate::refused::Refused;
 use base::Text;
+use base::limits::MAX_TEXT_BYTES;
 use std::alloc::{AllocError, Global};
 use std::marker::Model;
 use std::rc::Rc;
@@ -101,11 +109,11 @@ impl Tree {
     /// A text. `TooLarge` exactly where it has over 1,000,000 bytes.
     pub fn text(alloc: Global, content: &str) -> Result<Tree, Refused>
         ensures value { IfOk result (λ t. t ≡ plain.text content.now) }
-        ensures ok { OnOk result (length content.now ≤ 1000000) }
-        ensures large { IsErrOf result Refused.TooLarge ↔ (1000000 < length content.now) }
+        ensures ok { OnOk result (length content.now ≤ MAX_TEXT_BYTES) }
+        ensures large { IsErrOf result Refused.TooLarge ↔ (MAX_TEXT_BYTES < length content.now) }
         ensures others { IfErr result (λ e. e ≢ Refused.TooLarge → e ≡ Refused.Memory) }
     {
-        if content.len() > 1_000_000 {
+        if content.len() > MAX_TEXT_BYTES {
             return Err(Refused::TooLarge);
         }
         let text = Text::new(alloc, content)?;
@@ -117,11 +125,11 @@ impl Tree {
     /// The same of a text in memory, which the tree shares.
     pub fn shared_text(content: &Text) -> Result<Tree, Refused>
         ensures value { IfOk result (λ t. t ≡ plain.text content.now) }
-        ensures ok { OnOk result (length content.now ≤ 1000000) }
-        ensures large { IsErrOf result Refused.TooLarge ↔ (1000000 < length content.now) }
+        ensures ok { OnOk result (length content.now ≤ MAX_TEXT_BYTES) }
+        ensures large { IsErrOf result Refused.TooLarge ↔ (MAX_TEXT_BYTES < length content.now) }
         ensures others { IfErr result (λ e. e ≢ Refused.TooLarge → e ≡ Refused.Memory) }
     {
-        if content.as_str().len() > 1_000_000 {
+        if content.as_str().len() > MAX_TEXT_BYTES {
             return Err(Refused::TooLarge);
         }
         Ok(Tree {
@@ -189,6 +197,14 @@ impl Tree {
         })
     }
 
+    /// The list of these trees. `BadArgument` exactly where one of them is null, and then `TooLarge` exactly
+    /// where the list is larger than 1,000,000 or higher than 100.
+    pub fn list(alloc: Global, items: Vec<Tree>) -> Result<Tree, Refused>
+        ensures { Gives (λ t. t) refusal result (list_of items.items) }
+    {
+        lists::list_of(alloc, items)
+    }
+
     /// What it is at its root.
     pub fn kind(&self) -> Kind
         ensures kind { result ≡ kind_of self.now }
@@ -205,13 +221,33 @@ impl Tree {
         }
     }
 
+    /// Whether it is null.
+    pub fn is_null(&self) -> bool
+        ensures null { result ≡ is_null self.now }
+        ensures tree { IsTree self.now }
+    {
+        matches!(self.kind(), Kind::Null)
+    }
+
     /// The text, where it is one.
     pub fn as_text(&self) -> Option<&str>
         ensures value { option_copied result ≡ text_of self.now }
         ensures utf8 { IfSome result (λ t. IsUtf8 t.now) }
+        ensures short { IfSome result (λ t. length t.now ≤ MAX_TEXT_BYTES) }
     {
         match &self.node {
             Node::Text(text) => Some(text.as_str()),
+            _ => None,
+        }
+    }
+
+    /// The same text as one that can be shared, and whose parts can be.
+    pub fn text_handle(&self) -> Option<&Text>
+        ensures value { option_copied result ≡ text_of self.now }
+        ensures short { IfSome result (λ t. length t.now ≤ MAX_TEXT_BYTES) }
+    {
+        match &self.node {
+            Node::Text(text) => Some(text),
             _ => None,
         }
     }
@@ -253,8 +289,37 @@ impl Tree {
         ensures key { IfSome result (λ k. is_key k.now ≡ true) }
         ensures utf8 { IfSome result (λ k. IsUtf8 k.now) }
     {
+        match self.key_handle(i) {
+            Some(key) => Some(key.as_str()),
+            None => None,
+        }
+    }
+
+    /// The same key as one that can be shared.
+    pub fn key_handle(&self, i: usize) -> Option<&Key>
+        ensures { option_copied result ≡ key_at i self.now }
+    {
         match &self.node {
             Node::Dict(dict) => dicts::key_at(&dict.entries, i),
+            _ => None,
+        }
+    }
+
+    /// What stands at a key of a dict. It takes no memory. `None` exactly where the tree is no dict or has no such
+    /// key. It is smaller than the tree.
+    pub fn field(&self, key: &str) -> Option<&Tree>
+        ensures value { option_copied result ≡ child (term.Key key.now) self.now }
+        ensures smaller { IfSome result (λ t. tree_size t.now < tree_size self.now) }
+    {
+        let field = self.value_of(key)?;
+        Some(field)
+    }
+
+    fn value_of(&self, key: &str) -> Option<&Tree>
+        ensures { option_copied result ≡ child (term.Key key.now) self.now }
+    {
+        match &self.node {
+            Node::Dict(dict) => dicts::find_text(&dict.entries, key),
             _ => None,
         }
     }
@@ -359,8 +424,7 @@ impl Tree {
     /// `TooHigh`. A tree that is null counts as undef. On every refusal the tree is as before.
     pub fn put(&mut self, alloc: Global, terms: &[Term], value: Tree) -> Result<(), PutError>
         requires { value ≢ plain.null }
-        ensures ok { OnOk result (put terms.now value self.old ≡ Ok self.new) }
-        ensures refused { IfErr result (λ e. e ≢ PutError.Memory → put terms.now value self.old ≡ Err e) }
+        ensures gives { Gives (λ _. self.new) put_refusal result (put terms.now value self.old) }
         ensures before { OnErr result (self.new ≡ self.old) }
     {
         self.admit(terms, &value)?;
@@ -380,9 +444,56 @@ impl Tree {
         }
     }
 
+    /// Takes out what stands at a path, and leaves an undef in its place. `None` exactly where a term finds nothing;
+    /// the tree is then as before. A put at the path after it leaves what a put in place of both would, and what is
+    /// changed between them is held by nothing else: so an item of an item is changed without a copy.
+    pub fn take(&mut self, alloc: Global, terms: &[Term]) -> Result<Option<Tree>, AllocError>
+        ensures taken { IfOk result (λ found. IsTaken terms.now self.old found self.new) }
+        ensures before { OnErr result (self.new ≡ self.old) }
+    {
+        let Some(found) = self.get(terms) else {
+            return Ok(None);
+        };
+        let found = found.copy()?;
+        match self.put(alloc, terms, Tree::undef()) {
+            Ok(()) => Ok(Some(found)),
+            Err(_) => Err(AllocError),
+        }
+    }
+
+    /// Adds an item behind the last of a list, in place. `BadArgument` where the tree is no list or the value is
+    /// null, and then `TooLarge` where the list would be larger than 1,000,000 or higher than 100.
+    pub fn push(&mut self, alloc: Global, value: Tree) -> Result<(), Refused>
+        ensures gives { Gives (λ _. self.new) refusal result (pushed value self.old) }
+        ensures before { OnErr result (self.new ≡ self.old) }
+    {
+        match &mut self.node {
+            Node::List(list) => lists::push(alloc, list, value),
+            _ => Err(Refused::BadArgument),
+        }
+    }
+
+    /// Adds an item in front of the first of a list, in place. Refusals as of `push`.
+    pub fn push_front(&mut self, alloc: Global, value: Tree) -> Result<(), Refused>
+        ensures gives { Gives (λ _. self.new) refusal result (pushed_front value self.old) }
+        ensures before { OnErr result (self.new ≡ self.old) }
+    {
+        match &mut self.node {
+            Node::List(list) => lists::push_front(alloc, list, value),
+            _ => Err(Refused::BadArgument),
+        }
+    }
+
     /// Whether the two trees are equal.
-    #[cycle(same)]
     pub fn same(&self, other: &Tree) -> bool
+        ensures same { IsTrue result ↔ (self.now ≡ other.now) }
+        ensures test { result ≡ same_tree self.now other.now }
+    {
+        self.equals(other)
+    }
+
+    #[cycle(same)]
+    fn equals(&self, other: &Tree) -> bool
         ensures { IsTrue result ↔ (self.now ≡ other.now) }
     {
         if self.size() != other.size() || self.height() != other.height() {

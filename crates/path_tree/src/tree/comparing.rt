@@ -52,7 +52,7 @@ fn same_entries(first: &[Entry], second: &[Entry]) -> bool
 fn same_entry(first: &Entry, second: &Entry) -> bool
     ensures { IsTrue result ↔ ((first.now.key ≡ second.now.key) × (first.now.value ≡ second.now.value)) }
 {
-    first.key == second.key && first.value.same(&second.value)
+    first.key == second.key && first.value.equals(&second.value)
 }
 
 #[cycle(same)]
@@ -63,7 +63,7 @@ fn same_items(first: &[Tree], second: &[Tree]) -> bool
         return false;
     }
     for i in 0..first.len() {
-        if !first[i].same(&second[i]) {
+        if !first[i].equals(&second[i]) {
             return false;
         }
     }

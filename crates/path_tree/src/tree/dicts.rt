@@ -23,13 +23,11 @@ pub(super) fn count(entries: &[Entry]) -> usize
 }
 
 #[tactic(auto, using(crate::proofs::Entries::entry_lemmas))]
-pub(super) fn key_at(entries: &[Entry], i: usize) -> Option<&str>
-    ensures value { option_copied result ≡ field_key_at i (fields_of entries.now) }
-    ensures key { IfSome result (λ k. is_key k.now ≡ true) }
-    ensures utf8 { IfSome result (λ k. IsUtf8 k.now) }
+pub(super) fn key_at(entries: &[Entry], i: usize) -> Option<&Key>
+    ensures { option_copied result ≡ field_key_at i (fields_of entries.now) }
 {
     if i < entries.len() {
-        Some(entries[i].key.as_str())
+        Some(&entries[i].key)
     } else {
         None
     }
@@ -46,9 +44,16 @@ pub(super) fn value_at(entries: &[Entry], i: usize) -> Option<&Tree>
     }
 }
 
-// Where the key stands among the entries, or where it would. Keys mostly come in order, so the last entry is
-// looked at first.
+// Where the key stands among the entries, or where it would.
 pub(super) fn place(entries: &[Entry], key: &Key) -> Result<usize, usize>
+    requires { AreFields (fields_of entries.now) }
+    ensures { IsPlace key.now entries.now result }
+{
+    place_of(entries, key.as_str())
+}
+
+// The same of a key's text. Keys mostly come in order, so the last entry is looked at first.
+fn place_of(entries: &[Entry], key: &str) -> Result<usize, usize>
     requires { AreFields (fields_of entries.now) }
     ensures { IsPlace key.now entries.now result }
 {
@@ -56,7 +61,7 @@ pub(super) fn place(entries: &[Entry], key: &Key) -> Result<usize, usize>
     if count == 0 {
         return Err(0);
     }
-    match entries[count - 1].key.cmp(key) {
+    match entries[count - 1].key.as_str().cmp(key) {
         Ordering::Less => Err(count),
         Ordering::Equal => Ok(count - 1),
         Ordering::Greater => searched(entries, key),
@@ -64,14 +69,14 @@ pub(super) fn place(entries: &[Entry], key: &Key) -> Result<usize, usize>
 }
 
 // The same, by halves.
-fn searched(entries: &[Entry], key: &Key) -> Result<usize, usize>
+fn searched(entries: &[Entry], key: &str) -> Result<usize, usize>
     requires { AreFields (fields_of entries.now) }
     ensures { IsPlace key.now entries.now result }
 {
     entries.binary_search_by(
         |entry| -> Ordering
             ensures { result ≡ slice_cmp nat_cmp entry.now.key key.entry.now }
-        { entry.key.cmp(key) },
+        { entry.key.as_str().cmp(key) },
     )
 }
 
@@ -79,7 +84,14 @@ pub(super) fn find<'a>(entries: &'a [Entry], key: &Key) -> Option<&'a Tree>
     requires { AreFields (fields_of entries.now) }
     ensures { option_copied result ≡ find_field key.now (fields_of entries.now) }
 {
-    match place(entries, key) {
+    find_text(entries, key.as_str())
+}
+
+pub(super) fn find_text<'a>(entries: &'a [Entry], key: &str) -> Option<&'a Tree>
+    requires { AreFields (fields_of entries.now) }
+    ensures { option_copied result ≡ find_field key.now (fields_of entries.now) }
+{
+    match place_of(entries, key) {
         Ok(at) => Some(&entries[at].value),
         Err(_) => None,
     }

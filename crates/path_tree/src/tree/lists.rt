@@ -1,11 +1,17 @@
-ghost use Rattle.std.specs.Prelude.{◌≡◌, ◌+◌, ◌≤◌, ◌<◌, ◌^◌, IfOk, OnOk, OnErr, max, option_copied, length};
+ghost use Rattle.std.specs.Prelude.{◌≡◌, ◌+◌, ◌-◌, ◌≤◌, ◌<◌, ◌^◌, ℕ, true, not, IfOk, OnOk, OnErr, Ok, Err, MatchResult, max, min, option_copied, length};
+ghost use Rattle.std.specs.List.{insert, list_any};
+ghost use Rattle.base.specs.Answers.{Gives};
 ghost use Rattle.path_tree.specs.Find.{item_at, item_count};
-ghost use Rattle.path_tree.specs.Kept.{FitsMade, IsInside, IsLessened, IsRemeasured};
-ghost use Rattle.path_tree.specs.Plain.{list, no_items, tree_height, tree_size};
+ghost use Rattle.path_tree.specs.Kept.{FitsMade, IsAdmitted, IsInside, IsLessened, IsRemeasured};
+ghost use Rattle.path_tree.specs.Lists.{is_null, list_of, pushed, pushed_front};
+ghost use Rattle.path_tree.specs.Plain.{AreItems, list, no_items, tree_height, tree_size};
 ghost use Rattle.path_tree.specs.Put.{put_item};
-ghost use Rattle.path_tree.specs.View.{items_of, list_view};
+ghost use Rattle.path_tree.specs.Refusals.{refusal};
+ghost use Rattle.path_tree.specs.View.{IsList, items_of, list_view};
 
 use super::{Items, Measure, Node, Tree};
+use crate::refused::Refused;
+use base::limits::{MAX_TREE_HEIGHT, MAX_TREE_SIZE};
 use std::alloc::{AllocError, Global};
 use std::cmp::max;
 use std::rc::Rc;
@@ -95,6 +101,122 @@ pub(super) fn one_item(alloc: Global, index: usize, value: Tree) -> Result<Tree,
     })
 }
 
+// Whether none of the items is null.
+pub(super) fn are_values(items: &[Tree]) -> bool
+    ensures value { result ≡ not (list_any is_null items.now) }
+    ensures whole { result ≡ true → AreItems (items_of items.now) }
+{
+    for item in items {
+        if item.is_null() {
+            return false;
+        }
+    }
+    true
+}
+
+// The list of these, where none is null and the limits are kept.
+#[tactic(auto, using(crate::proofs::Listing::listed))]
+pub(super) fn list_of(alloc: Global, items: Vec<Tree>) -> Result<Tree, Refused>
+    ensures { Gives (λ t. t) refusal result (list_of items.items) }
+{
+    if !are_values(&items) {
+        return Err(Refused::BadArgument);
+    }
+    let size = size_of(&items);
+    let height = height_of(&items);
+    if size > MAX_TREE_SIZE || height > MAX_TREE_HEIGHT {
+        return Err(Refused::TooLarge);
+    }
+    let list = Items {
+        items,
+        size,
+        height,
+    };
+    Ok(Tree {
+        node: Node::List(Rc::new(alloc, list)?),
+    })
+}
+
+// The measure of a list with a value more, where the value is not null and the limits are kept.
+fn admit(list: &Items, value: &Tree) -> Result<Measure, Refused>
+    requires { IsList list.now }
+    ensures { MatchResult result (IsAdmitted list.now value.now) (λ e. (index : ℕ) → list_of (insert list.now.items.items index value.now) ≡ Err e) }
+{
+    if value.is_null() {
+        return Err(Refused::BadArgument);
+    }
+    let after = Measure {
+        size: list.size + value.size(),
+        height: list.height.max(value.height() + 1),
+    };
+    if after.size > MAX_TREE_SIZE || after.height > MAX_TREE_HEIGHT {
+        return Err(Refused::TooLarge);
+    }
+    Ok(after)
+}
+
+// Adds an item at an index, where none is null and the limits are kept.
+pub(super) fn insert(
+    alloc: Global,
+    list: &mut Rc<Items>,
+    index: usize,
+    value: Tree,
+) -> Result<(), Refused>
+    requires kept { IsList list.old.value }
+    requires within { index ≤ length list.old.value.items.items }
+    ensures gives { Gives (λ _. list_view list.new.value) refusal result (list_of (insert list.old.value.items.items index value)) }
+    ensures before { OnErr result (list_view list.new.value ≡ list_view list.old.value) }
+    ensures kept { IsList list.new.value }
+{
+    let after = admit(list, &value)?;
+    own(alloc, list)?;
+    let Some(list) = Rc::get_mut(list) else {
+        return Err(Refused::Memory);
+    };
+    insert_admitted(list, index, value, after)?;
+    Ok(())
+}
+
+// Adds an item behind the last.
+pub(super) fn push(alloc: Global, list: &mut Rc<Items>, value: Tree) -> Result<(), Refused>
+    requires kept { IsList list.old.value }
+    ensures gives { Gives (λ _. list_view list.new.value) refusal result (pushed value (list_view list.old.value)) }
+    ensures before { OnErr result (list_view list.new.value ≡ list_view list.old.value) }
+    ensures kept { IsList list.new.value }
+{
+    let end = list.items.len();
+    insert(alloc, list, end, value)
+}
+
+// In front of the first.
+pub(super) fn push_front(alloc: Global, list: &mut Rc<Items>, value: Tree) -> Result<(), Refused>
+    requires kept { IsList list.old.value }
+    ensures gives { Gives (λ _. list_view list.new.value) refusal result (pushed_front value (list_view list.old.value)) }
+    ensures before { OnErr result (list_view list.new.value ≡ list_view list.old.value) }
+    ensures kept { IsList list.new.value }
+{
+    insert(alloc, list, 0, value)
+}
+
+fn insert_admitted(
+    list: &mut Items,
+    index: usize,
+    value: Tree,
+    after: Measure,
+) -> Result<(), AllocError>
+    requires kept { IsList list.old }
+    requires within { index ≤ length list.old.items.items }
+    requires admitted { IsAdmitted list.old value after }
+    ensures ok { OnOk result (list_of (insert list.old.items.items index value) ≡ Ok (list_view list.new)) }
+    ensures before { OnErr result (list_view list.new ≡ list_view list.old) }
+    ensures kept { IsList list.new }
+{
+    list.items.insert(index, value)?;
+    list.size = after.size;
+    list.height = after.height;
+    Ok(())
+}
+
 // Keeps the size and the height where an item of one measure has become one of another.
 pub(super) fn measure_change(list: &mut Items, before: Measure, after: Measure)
     requires measured { IsRemeasured (list_view list.old) list.old.size list.old.height before after }
@@ -123,6 +245,17 @@ pub(super) fn measure_loss(list: &mut Items, gone: Measure)
     if gone.height + 1 == list.height {
         list.height = height_of(&list.items);
     }
+}
+
+// Or 2^64 - 1, where it is larger.
+fn size_of(items: &[Tree]) -> u64
+    ensures { result ≡ min (tree_size (list (items_of items.now))) (2 ^ 64 - 1) }
+{
+    let mut size = 1u64;
+    for item in items {
+        size = size.saturating_add(item.size());
+    }
+    size
 }
 
 fn height_of(items: &[Tree]) -> u64

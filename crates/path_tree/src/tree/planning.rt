@@ -1,4 +1,5 @@
 ghost use Rattle.std.specs.Prelude.{◌≡◌, ◌+◌, ◌<◌, ◌≤◌, ◌^◌, ◌∷◌, Err, IfOk, MatchResult, length};
+ghost use Rattle.base.specs.declared.limits.TheConstants.{MAX_TREE_HEIGHT, MAX_TREE_SIZE};
 ghost use Rattle.path_tree.specs.Kept.{CanWalk, Fits, IsGrown, IsMade, IsPlan, wrapped_size};
 ghost use Rattle.path_tree.specs.Plain.{AreFields, dict, list, tree_height, tree_size};
 ghost use Rattle.path_tree.specs.Put.{put};
@@ -8,6 +9,7 @@ ghost use Rattle.path_tree.specs.declared.path.Term.TheVariants as term;
 use super::{Entry, Measure, Node, Tree, dicts, lists};
 use crate::key::Key;
 use crate::path::{PutError, Term};
+use base::limits::{MAX_TREE_HEIGHT, MAX_TREE_SIZE};
 use std::cmp::max;
 
 impl Tree {
@@ -16,7 +18,7 @@ impl Tree {
         ensures { MatchResult result (λ _. CanWalk terms.now value.now self.now) (λ e. put terms.now value.now self.now ≡ Err e) }
     {
         let plan = self.plan(0, terms, value)?;
-        if max(self.height(), plan.height) > 100 {
+        if max(self.height(), plan.height) > MAX_TREE_HEIGHT {
             return Err(PutError::TooHigh);
         }
         Ok(())
@@ -25,8 +27,8 @@ impl Tree {
     pub(super) fn measure(&self) -> Measure
         ensures size { result.size ≡ tree_size self.now }
         ensures height { result.height ≡ tree_height self.now }
-        ensures small { result.size ≤ 1000000 }
-        ensures flat { result.height ≤ 100 }
+        ensures small { result.size ≤ MAX_TREE_SIZE }
+        ensures flat { result.height ≤ MAX_TREE_HEIGHT }
     {
         Measure {
             size: self.size(),
@@ -130,7 +132,7 @@ fn grown(size: u64, before: u64, below: Result<Measure, PutError>) -> Result<Mea
         Err(refused) => Err(refused),
         Ok(below) => {
             let size = size - before + below.size;
-            if size > 1_000_000 {
+            if size > MAX_TREE_SIZE {
                 return Err(PutError::TooLarge);
             }
             Ok(Measure {
@@ -151,7 +153,7 @@ fn plan_made(terms: &[Term], value: &Tree) -> Result<Measure, PutError>
     while 0 < i {
         i -= 1;
         made = wrapped(&terms[i], made);
-        if made.size > 1_000_000 {
+        if made.size > MAX_TREE_SIZE {
             return Err(PutError::TooLarge);
         }
     }
@@ -160,8 +162,8 @@ fn plan_made(terms: &[Term], value: &Tree) -> Result<Measure, PutError>
 
 // The measure of what a term makes around a tree.
 fn wrapped(term: &Term, below: Measure) -> Measure
-    requires size { below.size ≤ 1000000 }
-    requires height { below.height ≤ 1000000 }
+    requires size { below.size ≤ MAX_TREE_SIZE }
+    requires height { below.height ≤ MAX_TREE_SIZE }
     ensures size { result.size ≡ wrapped_size term.now below.size }
     ensures height { result.height ≡ below.height + 1 }
 {

@@ -15,7 +15,7 @@ comparing::same_entries-same_entry-requires t c =
     let h : tree_size c.index-first-i.result.value ≤ fields_size (fields_of c.args.first.now) = entry_below c.args.first.now c.loop-i.i c.index-first-i.result (omega arith) c.index-first-i.is in
     (search rules, tt)
 
-pub comparing::same_items-same-requires : goal.comparing::same_items-same-requires
-comparing::same_items-same-requires t c =
+pub comparing::same_items-equals-requires : goal.comparing::same_items-equals-requires
+comparing::same_items-equals-requires t c =
     let h : tree_size c.index-first-i.result ≤ items_size (items_of c.args.first.now) = item_below c.args.first.now c.loop-i.i c.index-first-i.result (omega arith) c.index-first-i.is in
     (search rules, tt)

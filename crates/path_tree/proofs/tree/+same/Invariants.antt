@@ -3,8 +3,8 @@ use Rattle.path_tree.specs.Plain.{tree_size, fields_size, items_size}
 use Rattle.path_tree.specs.View.{plain_of, fields_of, items_of}
 use Rattle.path_tree.proofs.tree.+same.Given as goal
 
-abbrev pub decreases-Tree::same : goal.decreases-Tree::same
-decreases-Tree::same l = 4 * tree_size l.self.now + 1
+abbrev pub decreases-Tree::equals : goal.decreases-Tree::equals
+decreases-Tree::equals l = 4 * tree_size l.self.now + 1
 
 abbrev pub decreases-comparing::same_node : goal.decreases-comparing::same_node
 decreases-comparing::same_node l = 4 * tree_size (plain_of l.first.now)

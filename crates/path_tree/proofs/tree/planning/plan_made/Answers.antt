@@ -4,8 +4,8 @@ use Rattle.path_tree.proofs.Sizes.{height_le-size}
 use Rattle.path_tree.proofs.Plans.{chain_at, chain_part, wrapped_eq}
 use Rattle.path_tree.proofs.tree.planning.plan_made.Goals as goal
 
-pub returns-then-made-gt1000000 : goal.returns-then-made-gt1000000
-returns-then-made-gt1000000 c =
+pub returns-then-made-gt-MAX_TREE_SIZE : goal.returns-then-made-gt-MAX_TREE_SIZE
+returns-then-made-gt-MAX_TREE_SIZE c =
     let h = chain_at c.args.terms.now (c.loop-i.i - 1) c.loop-i.i c.index-terms-i.result c.args.value.now (omega arith) (omega arith) c.index-terms-i.is in
     record { is = refl; large = omega (arith, h.size, wrapped_eq c.index-terms-i.result c.loop-i.invariant.size, c.wrapped-made.ensures.size, chain_part (c.loop-i.i - 1) c.args.terms.now c.args.value.now) }
 
