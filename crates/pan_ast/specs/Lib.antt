@@ -1,6 +1,9 @@
+-- What a stranger has to believe: the fault codes and the printed line of a fault; what a token is to the grammar;
+-- the plain syntax that a template has, and which one a tree in memory spells; how far such a tree reaches.
 pub mod Codes
 pub mod Detail
 pub mod Printed
+pub mod Failures
 pub mod Tokens
 pub mod Sorts
 pub mod Syntax
@@ -9,4 +12,4 @@ pub mod Templates
 pub mod Seen
 pub mod TypesSeen
 pub mod TemplatesSeen
-pub mod TreeDepths
+pub mod Pointers

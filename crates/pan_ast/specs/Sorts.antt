@@ -3,7 +3,7 @@ use Rattle.std.specs.Prelude.{◌≡◌, ℕ, Bool, ◌&&◌, ◌==◌, not, if�
 use Rattle.std.specs.List.{list_any}
 use Rattle.std.specs.Cmp.Lexicographic.{pointwise}
 use Rattle.pan_ast.specs.declared.sort.Sort.{Sort}
-use Rattle.pan_ast.specs.declared.sort.Sort.TheVariants.{Int, Text, Name, End, If, Else, While, For, Foreach, True, False, Undef, Null, With, Extensible, Include, Choice, Object, Structure, Unique, Declaration, Template, Final, Variable, Function, «Type», Bind, Valid, Prefix, Word, OpenBrace, CloseBrace, Open, Close, OpenBracket, CloseBracket, Semicolon, Comma, Colon, Question, ConditionalAssign, Assign, Equal, Differs, Less, AtMost, Greater, AtLeast, Plus, Minus, Star, Slash, Percent, Not, Flip, And, Ands, Bar, Bars, Caret, Range, NoSign}
+use Rattle.pan_ast.specs.declared.sort.Sort.TheVariants.{Int, Text, Name, End, If, Else, While, For, Foreach, True, False, Undef, Null, With, Extensible, Include, Choice, Object, Structure, Unique, Declaration, Template, Final, Variable, Function, «Type», Bind, Valid, Prefix, Word, OpenBrace, CloseBrace, Open, Close, OpenBracket, CloseBracket, Semicolon, Comma, Colon, Question, ConditionalAssign, Assign, Equal, NotEqual, Less, LessEqual, More, MoreEqual, Plus, Minus, Star, Slash, Percent, Not, Flip, BitAnd, And, BitOr, Or, BitXor, Range, NoSign}
 use Rattle.pan_ast.specs.declared.token.TokenKind.{TokenKind}
 use Rattle.pan_ast.specs.declared.token.TokenKind.TheVariants as kinds
 use Rattle.pan_ast.specs.declared.token.Token.{Token}
@@ -25,10 +25,10 @@ signs =
     (codes "{", OpenBrace) ∷ (codes "}", CloseBrace) ∷ (codes "(", Open) ∷ (codes ")", Close)
     ∷ (codes "[", OpenBracket) ∷ (codes "]", CloseBracket) ∷ (codes ";", Semicolon) ∷ (codes ",", Comma)
     ∷ (codes ":", Colon) ∷ (codes "?", Question) ∷ (codes "?=", ConditionalAssign) ∷ (codes "=", Assign)
-    ∷ (codes "==", Equal) ∷ (codes "!=", Differs) ∷ (codes "<", Less) ∷ (codes "<=", AtMost)
-    ∷ (codes ">", Greater) ∷ (codes ">=", AtLeast) ∷ (codes "+", Plus) ∷ (codes "-", Minus) ∷ (codes "*", Star)
-    ∷ (codes "/", Slash) ∷ (codes "%", Percent) ∷ (codes "!", Not) ∷ (codes "~", Flip) ∷ (codes "&", And)
-    ∷ (codes "&&", Ands) ∷ (codes "|", Bar) ∷ (codes "||", Bars) ∷ (codes "^", Caret) ∷ (codes "..", Range) ∷ []
+    ∷ (codes "==", Equal) ∷ (codes "!=", NotEqual) ∷ (codes "<", Less) ∷ (codes "<=", LessEqual)
+    ∷ (codes ">", More) ∷ (codes ">=", MoreEqual) ∷ (codes "+", Plus) ∷ (codes "-", Minus) ∷ (codes "*", Star)
+    ∷ (codes "/", Slash) ∷ (codes "%", Percent) ∷ (codes "!", Not) ∷ (codes "~", Flip) ∷ (codes "&", BitAnd)
+    ∷ (codes "&&", And) ∷ (codes "|", BitOr) ∷ (codes "||", Or) ∷ (codes "^", BitXor) ∷ (codes "..", Range) ∷ []
 
 -- the sort of a text in a table, and `other` where the table has no such text
 abbrev pub look_up : Sort → List ℕ → List (List ℕ × Sort) → Sort
@@ -96,11 +96,11 @@ code Question = 39
 code ConditionalAssign = 40
 code Assign = 41
 code Equal = 42
-code Differs = 43
+code NotEqual = 43
 code Less = 44
-code AtMost = 45
-code Greater = 46
-code AtLeast = 47
+code LessEqual = 45
+code More = 46
+code MoreEqual = 47
 code Plus = 48
 code Minus = 49
 code Star = 50
@@ -108,11 +108,11 @@ code Slash = 51
 code Percent = 52
 code Not = 53
 code Flip = 54
-code And = 55
-code Ands = 56
-code Bar = 57
-code Bars = 58
-code Caret = 59
+code BitAnd = 55
+code And = 56
+code BitOr = 57
+code Or = 58
+code BitXor = 59
 code Range = 60
 code NoSign = 61
 

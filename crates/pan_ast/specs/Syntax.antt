@@ -16,9 +16,11 @@ mutual
     Foreach : Place → List ℕ → List ℕ → Item → Item → Item
     Assign : Place → Reference → Item → Item
     Plain : Place → Node → Item
+    deriving IsSet as Item-set
 
   pub data Reference : Type 0 where
     Refer : Place → List ℕ → Items → Reference
+    deriving IsSet as Reference-set
 
   pub data Node : Type 0 where
     Long : Place → ℤ → Node
@@ -34,10 +36,12 @@ mutual
     Binary : Place → BinaryOp → Node → Node → Node
     And : Place → Node → Node → Node
     Or : Place → Node → Node → Node
+    deriving IsSet as Node-set
 
   pub data Items : Type 0 where
     none : Items
     more : Item → Items → Items
+    deriving IsSet as Items-set
 
 abbrev pub items_of : List Item → Items
 items_of [] = none

@@ -15,10 +15,12 @@ pub data StatementForm : Type 0 where
   Valid : List ℕ → Item → StatementForm
   Include : Item → StatementForm
   Prefix : List ℕ → StatementForm
+  deriving IsSet as StatementForm-set
 
 pub record Statement : Type 0 where
   pub place : Place
   pub form : StatementForm
+  deriving IsSet as Statement-set
 
 pub record Template : Type 0 where
   pub kind : TemplateKind
@@ -26,3 +28,4 @@ pub record Template : Type 0 where
   pub name_place : Place
   pub place : Place
   pub statements : List Statement
+  deriving IsSet as Template-set

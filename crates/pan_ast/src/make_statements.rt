@@ -1,8 +1,9 @@
-ghost use Rattle.std.specs.Prelude.{◌≡◌, IfOk};
+ghost use Rattle.std.specs.Prelude.{◌≡◌, ◌+◌, IfOk};
 ghost use Rattle.pan_ast.specs.Seen.{item_seen};
 ghost use Rattle.pan_ast.specs.TypesSeen.{full_seen};
 ghost use Rattle.pan_ast.specs.Templates as plain;
 ghost use Rattle.pan_ast.specs.TemplatesSeen.{form_seen, statement_seen};
+ghost use Rattle.pan_ast.specs.Pointers.{form_pointers, full_pointers, item_pointers, statement_pointers};
 
 use crate::place::Place;
 use crate::syntax::Item;
@@ -14,7 +15,9 @@ use std::rc::Rc;
 
 /// A statement with the place of its first token.
 pub fn make_statement(place: &Place, form: StatementForm) -> Result<Statement, AllocError>
-    ensures { IfOk result (λ s. statement_seen s ≡ record { place = place.now; form = form_seen form }) }
+    ensures seen { IfOk result (λ s. statement_seen s ≡ record
+        { place = place.now; form = form_seen form }) }
+    ensures pointers { IfOk result (λ s. statement_pointers s ≡ form_pointers form) }
 {
     Ok(Statement {
         place: place.share()?,
@@ -29,7 +32,9 @@ pub fn assign_statement(
     conditional: bool,
     item: Item,
 ) -> Result<StatementForm, AllocError>
-    ensures { IfOk result (λ f. form_seen f ≡ plain.Assign last path.now conditional (item_seen item)) }
+    ensures seen { IfOk result (λ f. form_seen f ≡ plain.Assign last path.now conditional
+        (item_seen item)) }
+    ensures pointers { IfOk result (λ f. form_pointers f ≡ item_pointers item) }
 {
     Ok(StatementForm::Assign {
         last,
@@ -46,7 +51,9 @@ pub fn variable_statement(
     conditional: bool,
     item: Item,
 ) -> Result<StatementForm, AllocError>
-    ensures { IfOk result (λ f. form_seen f ≡ plain.Variable last name.now conditional (item_seen item)) }
+    ensures seen { IfOk result (λ f. form_seen f ≡ plain.Variable last name.now conditional
+        (item_seen item)) }
+    ensures pointers { IfOk result (λ f. form_pointers f ≡ item_pointers item) }
 {
     Ok(StatementForm::Variable {
         last,
@@ -62,7 +69,8 @@ pub fn function_statement(
     name: &Text,
     body: Item,
 ) -> Result<StatementForm, AllocError>
-    ensures { IfOk result (λ f. form_seen f ≡ plain.Function name.now (item_seen body)) }
+    ensures seen { IfOk result (λ f. form_seen f ≡ plain.Function name.now (item_seen body)) }
+    ensures pointers { IfOk result (λ f. form_pointers f ≡ 1 + item_pointers body) }
 {
     Ok(StatementForm::Function {
         name: name.share()?,
@@ -76,7 +84,8 @@ pub fn type_statement(
     name: &Text,
     full: FullType,
 ) -> Result<StatementForm, AllocError>
-    ensures { IfOk result (λ f. form_seen f ≡ plain.Define name.now (full_seen full)) }
+    ensures seen { IfOk result (λ f. form_seen f ≡ plain.Define name.now (full_seen full)) }
+    ensures pointers { IfOk result (λ f. form_pointers f ≡ 1 + full_pointers full) }
 {
     Ok(StatementForm::Define {
         name: name.share()?,
@@ -90,7 +99,8 @@ pub fn bind_statement(
     path: &Text,
     full: FullType,
 ) -> Result<StatementForm, AllocError>
-    ensures { IfOk result (λ f. form_seen f ≡ plain.Bind path.now (full_seen full)) }
+    ensures seen { IfOk result (λ f. form_seen f ≡ plain.Bind path.now (full_seen full)) }
+    ensures pointers { IfOk result (λ f. form_pointers f ≡ 1 + full_pointers full) }
 {
     Ok(StatementForm::Bind {
         path: path.share()?,
@@ -100,7 +110,8 @@ pub fn bind_statement(
 
 /// `valid "path" = item;`
 pub fn valid_statement(alloc: Global, path: &Text, body: Item) -> Result<StatementForm, AllocError>
-    ensures { IfOk result (λ f. form_seen f ≡ plain.Valid path.now (item_seen body)) }
+    ensures seen { IfOk result (λ f. form_seen f ≡ plain.Valid path.now (item_seen body)) }
+    ensures pointers { IfOk result (λ f. form_pointers f ≡ 1 + item_pointers body) }
 {
     Ok(StatementForm::Valid {
         path: path.share()?,
@@ -110,14 +121,16 @@ pub fn valid_statement(alloc: Global, path: &Text, body: Item) -> Result<Stateme
 
 /// `include item;`
 pub fn include_statement(item: Item) -> StatementForm
-    ensures { form_seen result ≡ plain.Include (item_seen item) }
+    ensures seen { form_seen result ≡ plain.Include (item_seen item) }
+    ensures pointers { form_pointers result ≡ item_pointers item }
 {
     StatementForm::Include { item }
 }
 
 /// `prefix "path";`
 pub fn prefix_statement(path: &Text) -> Result<StatementForm, AllocError>
-    ensures { IfOk result (λ f. form_seen f ≡ plain.Prefix path.now) }
+    ensures seen { IfOk result (λ f. form_seen f ≡ plain.Prefix path.now) }
+    ensures pointers { IfOk result (λ f. form_pointers f ≡ 0) }
 {
     Ok(StatementForm::Prefix {
         path: path.share()?,

@@ -1,4 +1,4 @@
-ghost use Rattle.std.specs.Prelude.{◌≡◌, ◌∷◌, ◌≤◌, ◌<◌, [], length};
+ghost use Rattle.std.specs.Prelude.{◌≡◌, ◌∷◌, ◌≤◌, ◌<◌, ◌↔◌, [], length, true};
 ghost use Rattle.pan_ast.specs.Sorts.{at, code, is_one_of, is_plain, is_type_name, is_word, look_up, quoted, signs, sort_of, type_words, words};
 ghost use Rattle.pan_ast.specs.declared.sort.Sort.TheVariants.{Word, NoSign};
 
@@ -65,15 +65,15 @@ pub enum Sort {
     /// `==`
     Equal,
     /// `!=`
-    Differs,
+    NotEqual,
     /// `<`
     Less,
     /// `<=`
-    AtMost,
+    LessEqual,
     /// `>`
-    Greater,
+    More,
     /// `>=`
-    AtLeast,
+    MoreEqual,
     /// `+`
     Plus,
     /// `-`
@@ -89,15 +89,15 @@ pub enum Sort {
     /// `~`
     Flip,
     /// `&`
-    And,
+    BitAnd,
     /// `&&`
-    Ands,
+    And,
     /// `|`
-    Bar,
+    BitOr,
     /// `||`
-    Bars,
+    Or,
     /// `^`
-    Caret,
+    BitXor,
     /// `..`
     Range,
     /// No sign of the language; no token of the lexer is one.
@@ -112,8 +112,10 @@ impl Sort {
     }
 
     /// Whether the two sorts are the same.
+    #[tactic(auto, using(crate::proofs::SortTests::same_sort))]
     pub fn is(self, other: Sort) -> bool
-        ensures { result ≡ at self other }
+        ensures test { result ≡ at self other }
+        ensures same { (result ≡ true) ↔ (self ≡ other) }
     {
         self.code() == other.code()
     }
@@ -251,7 +253,7 @@ fn single_sign(byte: u8) -> Sort
         b'?' => Sort::Question,
         b'=' => Sort::Assign,
         b'<' => Sort::Less,
-        b'>' => Sort::Greater,
+        b'>' => Sort::More,
         b'+' => Sort::Plus,
         b'-' => Sort::Minus,
         b'*' => Sort::Star,
@@ -259,9 +261,9 @@ fn single_sign(byte: u8) -> Sort
         b'%' => Sort::Percent,
         b'!' => Sort::Not,
         b'~' => Sort::Flip,
-        b'&' => Sort::And,
-        b'|' => Sort::Bar,
-        b'^' => Sort::Caret,
+        b'&' => Sort::BitAnd,
+        b'|' => Sort::BitOr,
+        b'^' => Sort::BitXor,
         _ => Sort::NoSign,
     }
 }
@@ -272,9 +274,9 @@ fn with_equals(first: u8) -> Sort
     match first {
         b'?' => Sort::ConditionalAssign,
         b'=' => Sort::Equal,
-        b'!' => Sort::Differs,
-        b'<' => Sort::AtMost,
-        b'>' => Sort::AtLeast,
+        b'!' => Sort::NotEqual,
+        b'<' => Sort::LessEqual,
+        b'>' => Sort::MoreEqual,
         _ => Sort::NoSign,
     }
 }
@@ -284,8 +286,8 @@ fn double_sign(first: u8, second: u8) -> Sort
 {
     match second {
         b'=' => with_equals(first),
-        b'&' if first == b'&' => Sort::Ands,
-        b'|' if first == b'|' => Sort::Bars,
+        b'&' if first == b'&' => Sort::And,
+        b'|' if first == b'|' => Sort::Or,
         b'.' if first == b'.' => Sort::Range,
         _ => Sort::NoSign,
     }

@@ -10,6 +10,7 @@ pub struct Item {
     pub form: ItemForm,
 }
 
+/// What an item is.
 #[derive(Drop)]
 #[cycle(syntax)]
 pub enum ItemForm {
@@ -46,13 +47,19 @@ pub struct Node {
     pub form: Form,
 }
 
+/// What a node is.
 #[derive(Drop)]
 #[cycle(syntax)]
 pub enum Form {
+    /// A whole number.
     Long(i64),
+    /// A text, by its value.
     Text(Text),
+    /// `true` or `false`
     Boolean(bool),
+    /// `undef`
     Undef,
+    /// `null`
     Null,
     /// A name that is read.
     Name(Text),
@@ -73,6 +80,7 @@ pub enum Form {
 pub enum Step {
     /// `[item]`
     Index(Item),
+    /// An operator whose right side is always evaluated, and that side.
     Binary(BinaryOp, Node),
     /// `&& node`
     And(Node),

@@ -32,7 +32,7 @@ pub struct Statement {
     pub form: StatementForm,
 }
 
-/// `last` says that `final` stands before the statement, `conditional` that it has `?=` in place of `=`. A path is
+/// What a statement is. `last` says that `final` stands before the statement, `conditional` that it has `?=` in place of `=`. A path is
 /// the value of its text.
 #[derive(Drop)]
 pub enum StatementForm {

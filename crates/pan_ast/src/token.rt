@@ -45,8 +45,16 @@ impl Model for Token {
 }
 
 impl Token {
+    /// A token of these parts.
     pub fn new(kind: TokenKind, start: usize, end: usize, place: Place, value: Text) -> Token
-        ensures { result ≡ record { kind = kind; start = start; end = end; place = place; value = value } }
+        ensures { result ≡ record {
+          kind = kind;
+          start = start;
+          end = end;
+          place = place;
+          value =
+              value;
+        } }
     {
         let sort = sort_of(kind, value.as_str());
         Token {
@@ -59,6 +67,7 @@ impl Token {
         }
     }
 
+    /// What kind of token it is.
     pub fn kind(&self) -> TokenKind
         ensures { result ≡ self.now.kind }
     {
@@ -79,12 +88,14 @@ impl Token {
         self.end
     }
 
+    /// The place of its first byte.
     pub fn place(&self) -> &Place
         ensures { result.now ≡ self.now.place }
     {
         &self.place
     }
 
+    /// Its value.
     pub fn value(&self) -> &Text
         ensures { result.now ≡ self.now.value }
     {

@@ -21,6 +21,7 @@ pub struct TypeForm {
     pub suffixes: Vec<Suffix>,
 }
 
+/// A type without its suffixes, default and test.
 #[derive(Drop)]
 #[cycle(types)]
 pub enum Head {
@@ -36,6 +37,7 @@ pub enum Head {
     Choice(Vec<Text>),
 }
 
+/// What stands behind the head of a type.
 #[derive(Drop)]
 pub enum Suffix {
     /// `[bounds]` or `[]`
@@ -54,6 +56,7 @@ pub struct Bounds {
     pub high: Option<i64>,
 }
 
+/// The fields of a record, in the order of the text.
 #[derive(Drop)]
 #[cycle(types)]
 pub struct RecordForm {
@@ -61,6 +64,7 @@ pub struct RecordForm {
     pub fields: Vec<Field>,
 }
 
+/// What stands between the braces of a record.
 #[derive(Drop)]
 #[cycle(types)]
 pub enum Field {

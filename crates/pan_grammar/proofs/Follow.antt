@@ -32,16 +32,16 @@ level-item_end sorts.Percent e = absurd cc
 level-item_end sorts.Plus e = absurd cc
 level-item_end sorts.Minus e = absurd cc
 level-item_end sorts.Less e = absurd cc
-level-item_end sorts.AtMost e = absurd cc
-level-item_end sorts.Greater e = absurd cc
-level-item_end sorts.AtLeast e = absurd cc
+level-item_end sorts.LessEqual e = absurd cc
+level-item_end sorts.More e = absurd cc
+level-item_end sorts.MoreEqual e = absurd cc
 level-item_end sorts.Equal e = absurd cc
-level-item_end sorts.Differs e = absurd cc
+level-item_end sorts.NotEqual e = absurd cc
+level-item_end sorts.BitAnd e = absurd cc
+level-item_end sorts.BitXor e = absurd cc
+level-item_end sorts.BitOr e = absurd cc
 level-item_end sorts.And e = absurd cc
-level-item_end sorts.Caret e = absurd cc
-level-item_end sorts.Bar e = absurd cc
-level-item_end sorts.Ands e = absurd cc
-level-item_end sorts.Bars e = absurd cc
+level-item_end sorts.Or e = absurd cc
 level-item_end _ e = refl
 
 pub divider_ends : (k : Divider) → item_end (divider k) ≡ true

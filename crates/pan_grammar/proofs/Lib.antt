@@ -12,4 +12,3 @@ pub mod Mays
 pub mod Runs
 pub mod Exact
 pub mod Ends
-pub mod TreesShallow

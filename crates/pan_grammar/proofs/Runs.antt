@@ -1,5 +1,6 @@
 -- Whole runs.
 use Rattle.std.proofs.Common.{◌≡◌, ℕ, suc, ◌≤◌, ◌<◌, length, Bool, true, false, [], ◌∷◌, ◌++◌, Option, Some, None, Ok, Err, refl, sym, ap, subst, append_assoc, inl, inr, arith}
+use Rattle.base.specs.declared.limits.TheConstants.{MAX_NESTING}
 use Rattle.pan_ast.specs.declared.token.Token.{Token}
 use Rattle.pan_ast.specs.Templates.{Template}
 use Rattle.pan_grammar.specs.Grammar.{Tokens}
@@ -16,18 +17,18 @@ use Rattle.pan_grammar.proofs.Filled.{filled}
 use Rattle.pan_grammar.proofs.Ended.{only_done}
 use Rattle.pan_grammar.proofs.Mays.{step_may, may_within, may_deepest}
 
-pub over_true : (d : ℕ) → over d ≡ true → 100 < d
+pub over_true : (d : ℕ) → over d ≡ true → MAX_NESTING < d
 over_true d h = search arith
 
-pub over_false : (d : ℕ) → over d ≡ false → d ≤ 100
+pub over_false : (d : ℕ) → over d ≡ false → d ≤ MAX_NESTING
 over_false d h = search arith
 
 end_sound : (May : ℕ → Tokens → Type 0) (σ : State) (z : Template) → at_end σ ≡ Ok z → Completes May σ [] z
 end_sound May (Done i) z e = (refl, cc)
 end_sound May _ z e = absurd cc
 
--- a whole reading meets the grammar, wherever constructs of depth up to 100 may stand
-run_sound : (May : ℕ → Tokens → Type 0) → ((d : ℕ) (at : Tokens) → d ≤ 100 → May d at) → (ts : Tokens) (σ : State) (z : Template) → run ts σ ≡ Ok z → Completes May σ ts z
+-- a whole reading meets the grammar, wherever constructs of depth up to the limit may stand
+run_sound : (May : ℕ → Tokens → Type 0) → ((d : ℕ) (at : Tokens) → d ≤ MAX_NESTING → May d at) → (ts : Tokens) (σ : State) (z : Template) → run ts σ ≡ Ok z → Completes May σ ts z
 run_sound May within [] σ z e = end_sound May σ z e
 run_sound May within (t ∷ ts) σ z e = by (λ y k. run_sound May within ts y z k) (step σ t) refl (over (opens σ t)) refl e where
   by : ((y : State) → run ts y ≡ Ok z → Completes May y ts z) → (o : Option State) → step σ t ≡ o → (b : Bool) → over (opens σ t) ≡ b → and_run o b (run ts) (t ∷ ts) ≡ Ok z → Completes May σ (t ∷ ts) z

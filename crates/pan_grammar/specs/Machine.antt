@@ -1,5 +1,6 @@
 -- Reading token by token: where a token leads.
 use Rattle.std.specs.Prelude.{ℕ, zero, suc, ℤ, neg_ℤ, Bool, true, false, ◌&&◌, nat_lt, List, [], ◌∷◌, ◌++◌, Option, Some, None, Result, Ok, Err, if◌then◌else◌}
+use Rattle.base.specs.declared.limits.TheConstants.{MAX_NESTING}
 use Rattle.path_tree.specs.Grammar.{is_key}
 use Rattle.pan_ast.specs.declared.sort.Sort.{Sort}
 use Rattle.pan_ast.specs.declared.sort.Sort.TheVariants as sorts
@@ -302,7 +303,7 @@ at_end _ = Err (Bad [])
 
 -- whether a construct over the limit begins
 abbrev pub over : ℕ → Bool
-over d = nat_lt 100 d
+over d = nat_lt MAX_NESTING d
 
 abbrev pub run : Tokens → State → Result Template Stop
 run [] s = at_end s

@@ -10,9 +10,13 @@ pub mod Docs
 pub mod Ended
 pub mod Exclude
 pub mod Faults
+pub mod Few
+pub mod Files
+pub mod FaultCodes
+pub mod FirstToken
 pub mod FirstWord
 pub mod Found
-pub mod Laws
+pub mod BothWays
 pub mod OneKind
 pub mod OneLine
 pub mod Only

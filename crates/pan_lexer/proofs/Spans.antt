@@ -4,11 +4,13 @@ use Rattle.std.specs.Prelude.{Result, Ok, Err, IfOk, ◌&&◌, nat_le}
 use Rattle.pan_ast.specs.declared.token.Token.{Token}
 use Rattle.pan_ast.specs.declared.token.TokenKind.TheVariants as kinds
 use Rattle.pan_ast.specs.declared.fault.Fault.{Fault}
-use Rattle.pan_lexer.specs.Answers.{Gives}
+use Rattle.base.specs.Answers.{Gives}
+use Rattle.pan_ast.specs.Failures.{fault_of}
+use Rattle.pan_lexer.specs.Views.{tokens_seen}
 use Rattle.pan_lexer.specs.Fronts.{front, Fits}
 use Rattle.pan_lexer.specs.Lexed.{lexed, taken, before, advance, place_after, is_naming, mode_after, token}
 use Rattle.pan_lexer.specs.Tokens.{AreInOrder}
-use Rattle.pan_lexer.specs.declared.lexing.LexError.{LexError}
+use Rattle.pan_ast.specs.declared.failure.Failure.{Failure}
 use Rattle.pan_lexer.specs.declared.parts.At.{At}
 use Rattle.pan_lexer.specs.declared.parts.Mode.{Mode}
 use Rattle.pan_lexer.specs.Parts.{Front, Skip, Written, Int, Text, Document, Bad}
@@ -75,6 +77,6 @@ lexed_spans file len (b ∷ bs) zero m p h e = spans_earlier (p.start + 0) p.sta
           let at : (advance p b).start + j ≡ p.start + suc j = omega (arith, advance_start p b) in
           subst (λ (i : ℕ). AreSpans i len (lexed file (suc j - 1) m' (advance p b) bs)) at (subst (λ (i : ℕ). AreSpans ((advance p b).start + j) len (lexed file i m' (advance p b) bs)) less (f j m' (omega (arith, le, e))))
 
-pub gives_spans : (len : ℕ) (result : Result (List Token) LexError) (read : Result (List Token) Fault) → Gives result read → AreSpans 0 len read → IfOk result (AreInOrder 0 len)
+pub gives_spans : (len : ℕ) (result : Result (List Token) Failure) (read : Result (List Token) Fault) → Gives tokens_seen fault_of result read → AreSpans 0 len read → IfOk result (AreInOrder 0 len)
 gives_spans len (Ok ts) read e h = subst (AreSpans 0 len) e h
 gives_spans len (Err e) read g h = tt

@@ -13,8 +13,10 @@ use Rattle.pan_lexer.specs.Bytes.{is_blank, is_name_byte, is_word_start, is_word
 use Rattle.pan_lexer.specs.Fronts.{annotation_body, digits_value, small, ended_int, is_double, plain_int, hex_int, octal_int, int, single, after_single, double, escape, escaped, escape_of, hex_pair, taken_as, encoded, with_front, text_of, document_of, document_from, document_lines, document, sign_len, sign, front}
 use Rattle.pan_lexer.specs.Lexed.{advance, place_after, is_naming, mode_after, token, before, taken, lexed}
 use Rattle.pan_lexer.specs.Tokens.{EndsOnce, IsValue, AreValues}
-use Rattle.pan_lexer.specs.Answers.{Gives}
-use Rattle.pan_lexer.specs.declared.lexing.LexError.{LexError}
+use Rattle.base.specs.Answers.{Gives}
+use Rattle.pan_ast.specs.Failures.{fault_of}
+use Rattle.pan_lexer.specs.Views.{tokens_seen}
+use Rattle.pan_ast.specs.declared.failure.Failure.{Failure}
 use Rattle.pan_lexer.specs.declared.parts.At.{At}
 use Rattle.pan_lexer.specs.declared.parts.Mode.{Mode}
 use Rattle.pan_lexer.specs.Parts.{Front, Skip, Written, Int, Text, Document, Bad, Quoted, Closed, Open, BadAt}
@@ -222,6 +224,6 @@ lexed_sound file len [] n m p le = (inl (refl, refl), values_more len (token fil
 lexed_sound file len (b ∷ bs) (suc n) m p le = lexed_sound file len bs n m (advance p b) (omega (arith, le))
 lexed_sound file len (b ∷ bs) zero m p le = taken_sound file len m p (b ∷ bs) (front (is_naming m) (b ∷ bs)) (λ n m'. lexed file n m' (advance p b) bs) (omega arith) le (front_short len (is_naming m) (b ∷ bs) le) (λ n m'. lexed_sound file len bs n m' (advance p b) (omega (arith, le)))
 
-pub gives_sound : (len : ℕ) (result : Result (List Token) LexError) (read : Result (List Token) Fault) → Gives result read → IsSound len read → IfOk result EndsOnce × IfOk result (AreValues len)
+pub gives_sound : (len : ℕ) (result : Result (List Token) Failure) (read : Result (List Token) Fault) → Gives tokens_seen fault_of result read → IsSound len read → IfOk result EndsOnce × IfOk result (AreValues len)
 gives_sound len (Ok ts) read e h = (subst (IsSound len) e h)
 gives_sound len (Err e) read g h = (tt, tt)

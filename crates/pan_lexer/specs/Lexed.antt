@@ -2,6 +2,7 @@
 use Rattle.std.specs.Prelude.{ℕ, zero, suc, ◌+◌, ◌-◌, Bool, true, false, ◌&&◌, ◌==◌, nat_le, if◌then◌else◌, List, [], ◌∷◌, ◌++◌, Result, Ok, Err, fold, take, length, codes, decimal}
 use Rattle.std.specs.Cmp.Lexicographic.{pointwise}
 use Rattle.std.specs.Str.Lossy.{utf8_valid_len}
+use Rattle.pan_ast.specs.Detail.{fault_at}
 use Rattle.pan_ast.specs.declared.place.Place.{Place}
 use Rattle.pan_ast.specs.declared.fault.Code.{Code}
 use Rattle.pan_ast.specs.declared.fault.Code.TheVariants.{NotUtf8}
@@ -55,7 +56,7 @@ token file kind p n value = record { kind = kind; start = p.start; end = p.start
 
 -- a fault, without a detail
 abbrev pub fault : List ℕ → Code → At → Fault
-fault file code p = record { code = code; place = place_in file p; detail = [] }
+fault file code p = fault_at code (place_in file p)
 
 abbrev pub before : List Token → Result (List Token) Fault → Result (List Token) Fault
 before front (Ok ts) = Ok (front ++ ts)

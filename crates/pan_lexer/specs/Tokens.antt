@@ -1,5 +1,7 @@
 -- What a reader of a file's tokens builds on.
 use Rattle.std.specs.Prelude.{◌≡◌, ◌≢◌, ◌≤◌, ◌<◌, ◌^◌, ◌⊎◌, ℕ, List, [], ◌∷◌, length, decimal, All}
+use Rattle.pan_ast.specs.Sorts.{sort}
+use Rattle.pan_ast.specs.declared.sort.Sort.{Sort}
 use Rattle.pan_ast.specs.declared.token.Token.{Token}
 use Rattle.pan_ast.specs.declared.token.TokenKind.{TokenKind}
 use Rattle.pan_ast.specs.declared.token.TokenKind.TheVariants.{Word, Name, Int, Text, Sign, End}
@@ -26,3 +28,8 @@ AreValues len tokens = All (λ t. IsValue len t.kind t.value) tokens
 abbrev pub AreInOrder : ℕ → ℕ → List Token → Type 0
 AreInOrder from len [] = from ≤ len
 AreInOrder from len (t ∷ ts) = (from ≤ t.start) × ((t.start ≤ t.end) × AreInOrder t.end len ts)
+
+-- there is a first token, and it is of the sort
+abbrev pub StartsWith : Sort → List Token → Type 0
+StartsWith s [] = ⊥
+StartsWith s (t ∷ ts) = sort t ≡ s

@@ -1,48 +1,30 @@
-ghost use Rattle.std.specs.Prelude.{◌≡◌, ◌≤◌, ◌<◌, ◌+◌, ◌^◌, length, IfOk, List, IsUtf8};
+ghost use Rattle.std.specs.Prelude.{◌≡◌, ◌≤◌, ◌<◌, ◌+◌, ◌^◌, length, IfOk, IfErr, IfSome, List, Ok, Err, IsUtf8};
 ghost use Rattle.std.specs.List.{list_all};
 ghost use Rattle.pan_ast.specs.Sorts.{EndsInEnd};
 ghost use Rattle.pan_lexer.specs.Lexed.{place_after, is_naming, is_template, mode_after, lexed, lexed_file, origin};
 ghost use Rattle.pan_lexer.specs.Bytes.{is_printed};
 ghost use Rattle.pan_lexer.specs.Lines.{IsOneLine};
-ghost use Rattle.pan_lexer.specs.Answers.{Gives, OnFault};
+ghost use Rattle.base.specs.Answers.{Gives};
+ghost use Rattle.base.specs.declared.limits.TheConstants.{MAX_FILE_BYTES};
+ghost use Rattle.pan_ast.specs.Failures.{fault_of};
+ghost use Rattle.pan_lexer.specs.Views.{tokens_seen};
 ghost use Rattle.pan_lexer.specs.Faulty.{Faulty};
 ghost use Rattle.pan_lexer.specs.Spelled.{Spelled};
 ghost use Rattle.pan_lexer.specs.Tokens.{EndsOnce, AreValues, AreInOrder};
-ghost use Rattle.pan_lexer.specs.declared.lexing.LexError.TheVariants.{Memory};
 
 use crate::bytes::{behind, front_of, is_printed};
 use crate::fronts::front;
 use crate::parts::{At, Front, Mode};
 use crate::tokens::{as_text, fault, int_token, text_token, token, written_token};
 use base::{Seq, Text};
-use pan_ast::{Code, Fault, Token, TokenKind};
-use std::alloc::{AllocError, AllocFailed, Global};
+use pan_ast::{Code, Failure, Token, TokenKind};
+use std::alloc::Global;
 
 /// How many bytes a token of usual text takes at least, with what is skipped before it.
 const USUAL_BYTES: usize = 8;
 
-/// Why a file has no tokens: its first fault, or want of memory.
-#[derive(Drop)]
-pub enum LexError {
-    Fault(Fault),
-    Memory,
-}
-
-impl From<AllocError> for LexError {
-    ghost from_gives = { λ _ e. e ≡ Memory };
-
-    fn from(_e: AllocError) -> LexError {
-        LexError::Memory
-    }
-}
-
-impl From<AllocFailed<Token>> for LexError {
-    ghost from_gives = { λ _ e. e ≡ Memory };
-
-    fn from(_e: AllocFailed<Token>) -> LexError {
-        LexError::Memory
-    }
-}
+/// Why a file has no tokens: its first fault, or it was out of memory.
+pub type LexError = Failure;
 
 /// The first byte of a file.
 fn origin() -> At
@@ -68,7 +50,7 @@ fn passed_lines(at: At, bytes: &[u8]) -> At
     let mut line = at.line;
     let mut column = at.column;
     for b in bytes {
-        if *b == 10 {
+        if *b == b'\n' {
             line += 1;
             column = 1;
         } else if *b < 128 || *b > 191 {
@@ -166,7 +148,7 @@ fn mode_after(mode: Mode, kind: TokenKind, word: &[u8]) -> Mode
 fn tokens_of(alloc: Global, bytes: &[u8], file: &Text) -> Result<Seq<Token>, LexError>
     requires length { length bytes.now < 2 ^ 31 }
     requires text { IsUtf8 bytes.now }
-    ensures { Gives result (lexed file.now 0 Mode.Before origin bytes.now) }
+    ensures { Gives tokens_seen fault_of result (lexed file.now 0 Mode.Before origin bytes.now) }
 {
     let whole = Text::new(alloc, as_text(bytes))?;
     let mut tokens = Vec::with_capacity(alloc, bytes.len() / USUAL_BYTES)?;
@@ -203,7 +185,7 @@ fn tokens_of(alloc: Global, bytes: &[u8], file: &Text) -> Result<Seq<Token>, Lex
             }
             Front::Bad(code, d) => {
                 let at = passed(at, front_of(rest, d));
-                return Err(LexError::Fault(fault(alloc, file, code, at)?));
+                return Err(Failure::Fault(fault(alloc, file, code, at)?));
             }
         }
     }
@@ -211,27 +193,26 @@ fn tokens_of(alloc: Global, bytes: &[u8], file: &Text) -> Result<Seq<Token>, Lex
     Ok(Seq::from_vec(tokens))
 }
 
-/// The tokens of a file of at most 1,000,000 bytes, or its fault: the first that reading from the left meets,
-/// F02 before all others. `file` is the file's name, for the places.
+/// The tokens of a file of at most [MAX_FILE_BYTES] bytes, or its fault: the first that reading from the left
+/// meets, F02 before all others. `file` is the file's name, for the places.
 ///
-/// Tokens come in order, and the last is an End.
+/// Tokens come in order, the last is an End, and there are not more than bytes but for the End.
 pub fn lex(alloc: Global, bytes: &[u8], file: &Text) -> Result<Seq<Token>, LexError>
-    requires { length bytes.now ≤ 1000000 }
-    ensures exact { Gives result (lexed_file file.now bytes.now) }
+    requires { length bytes.now ≤ MAX_FILE_BYTES }
+    ensures exact { Gives tokens_seen fault_of result (lexed_file file.now bytes.now) }
     ensures spelled { IfOk result (Spelled file.now bytes.now) }
-    ensures only { (ts : List Token) → Spelled file.now bytes.now ts → Gives result (Ok ts) }
-    ensures faulty { OnFault (Faulty file.now bytes.now) result }
-    ensures first { (f : Fault) → Faulty file.now bytes.now f → Gives result (Err f) }
+    ensures faulty { IfErr result (λ e. IfSome (fault_of e) (Faulty file.now bytes.now)) }
     ensures ended { IfOk result EndsOnce }
     ensures closed { IfOk result EndsInEnd }
     ensures values { IfOk result (AreValues (length bytes.now)) }
     ensures order { IfOk result (AreInOrder 0 (length bytes.now)) }
+    ensures few { IfOk result (λ tokens. length tokens ≤ length bytes.now + 1) }
 {
     match std::str::from_utf8(bytes) {
         Ok(_) => tokens_of(alloc, bytes, file),
         Err(e) => {
             let at = passed(origin(), front_of(bytes, e.valid_up_to()));
-            Err(LexError::Fault(fault(alloc, file, Code::NotUtf8, at)?))
+            Err(Failure::Fault(fault(alloc, file, Code::NotUtf8, at)?))
         }
     }
 }

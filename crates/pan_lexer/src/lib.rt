@@ -8,13 +8,14 @@
 //! In reading order: `parts` (what the parts hand on to each other), `bytes` (kinds of bytes and runs of them),
 //! `annotations`, `numbers`, `texts` and `documents` (the longer pieces), `fronts` (what stands at the front of
 //! a text), `tokens` (a token or a fault with its place), `lexing` (the tokens of a file), `objects` (whether a file is
-//! an object template).
+//! an object template), `laws` (that the definitions agree for all files).
 #![tactic(auto)]
 
 mod annotations;
 mod bytes;
 mod documents;
 mod fronts;
+mod laws;
 mod lexing;
 mod numbers;
 mod objects;
@@ -22,5 +23,6 @@ mod parts;
 mod texts;
 mod tokens;
 
+pub use laws::{lexed_files, object_files};
 pub use lexing::{LexError, lex};
 pub use objects::is_object;

@@ -1,5 +1,6 @@
 -- Steps of the parser's functions, as equations of whole readings.
 use Rattle.std.proofs.Common.{map, ◌≡◌, ◌≢◌, ◌≤◌, ◌+◌, ◌-◌, ℕ, zero, suc, Bool, true, false, cond, List, [], ◌∷◌, ◌++◌, Option, Some, None, Result, Ok, Err, refl, sym, ap, subst, ◌∙◌, arith}
+use Rattle.base.specs.declared.limits.TheConstants.{MAX_NESTING}
 use Rattle.std.proofs.lemmas.Bool.{eqb-true}
 use Rattle.std.proofs.lemmas.List.{map_push}
 use Rattle.path_tree.specs.declared.operators.UnaryOp.{UnaryOp}
@@ -28,7 +29,7 @@ use Rattle.pan_parser.specs.Answers.{ends_chains, Fails, Goes, IsAt, NotAt, IsOp
 pub one_more : (a d : ℕ) → a ≡ d → suc a ≡ d + 1
 one_more a d h = omega arith
 
-pub below : (a d : ℕ) → a ≡ d → d ≤ 100 → d ≢ 100 → over (suc a) ≡ false
+pub below : (a d : ℕ) → a ≡ d → d ≤ MAX_NESTING → d ≢ MAX_NESTING → over (suc a) ≡ false
 below a d h le ne = grind arith
 
 pub line_above : (l : ℕ) → 1 ≤ l → l ≡ suc (l - 1)

@@ -1,5 +1,6 @@
 -- Steps of the functions that read types, as equations of whole readings.
 use Rattle.std.proofs.Common.{◌≢◌, ◌<◌, ◌+◌, suc, arith, ◌≡◌, ℕ, ℤ, Bool, true, false, List, [], ◌∷◌, ◌++◌, Option, Some, None, refl, sym, subst, ◌∙◌}
+use Rattle.base.specs.declared.limits.TheConstants.{MAX_NESTING}
 use Rattle.std.proofs.lemmas.Bool.{or_parts}
 use Rattle.pan_ast.specs.declared.place.Place.{Place}
 use Rattle.pan_ast.specs.declared.sort.Sort.{Sort}
@@ -66,7 +67,7 @@ no_suffix (t ∷ ts) h ss s e =
 
 -- ---- heads
 
-pub below_twice : (a d : ℕ) → a ≡ d → d < 100 → d ≢ 99 → over (suc (suc a)) ≡ false
+pub below_twice : (a d : ℕ) → a ≡ d → d < MAX_NESTING → d + 1 ≢ MAX_NESTING → over (suc (suc a)) ≡ false
 below_twice a d h le ne = grind arith
 
 pub two_more : (a d : ℕ) → a ≡ d → suc (suc a) ≡ d + 2

@@ -10,7 +10,7 @@ ghost use Rattle.pan_parser.specs.Answers.{Goes, NoSuffix, suffixed};
 
 use crate::stopped::Stopped;
 use crate::tables::long;
-use crate::tokens::{cut, expect, next_is};
+use crate::tokens::{Expected, cut, expect, next_is};
 use pan_ast::make_types::make_bounds;
 use pan_ast::{Bounds, Place, Sort, Suffix, Token};
 use std::alloc::{AllocError, Global};
@@ -28,10 +28,10 @@ fn signed(tokens: &[Token]) -> Result<(i64, &[Token]), Stopped<'_>>
     ensures shorter { IfOk result (λ r. length r.1.now < length tokens.now) }
 {
     let Some(after) = next_is(Sort::Minus, tokens) else {
-        let (number, rest) = expect(Sort::Int, tokens)?;
+        let (number, rest) = expect(Expected::Sort(Sort::Int), tokens)?;
         return Ok((long(number), rest));
     };
-    let (number, rest) = expect(Sort::Int, after)?;
+    let (number, rest) = expect(Expected::Sort(Sort::Int), after)?;
     Ok((negative(number), rest))
 }
 
@@ -48,7 +48,7 @@ pub(crate) fn bounds(sign: Sort, tokens: &[Token]) -> Result<(Bounds, &[Token]),
         return after_low(sign, first.place(), low, rest);
     };
     let (high, rest) = signed(after)?;
-    let (_, rest) = expect(sign, rest)?;
+    let (_, rest) = expect(Expected::Sort(sign), rest)?;
     Ok((make_bounds(first.place(), None, Some(high))?, rest))
 }
 
@@ -85,7 +85,7 @@ fn after_range<'a>(
         return Ok((make_bounds(place, Some(low), None)?, after));
     }
     let (high, rest) = signed(tokens)?;
-    let (_, rest) = expect(sign, rest)?;
+    let (_, rest) = expect(Expected::Sort(sign), rest)?;
     Ok((make_bounds(place, Some(low), Some(high))?, rest))
 }
 

@@ -1,4 +1,7 @@
 ghost use Rattle.std.specs.Prelude.{◌≡◌, ◌<◌, ◌≤◌, [], ◌∷◌, ℕ, suc, false, IfOk, IfSome, length, map};
+ghost use Rattle.base.specs.declared.limits.TheConstants.{MAX_NESTING};
+ghost use Rattle.pan_ast.specs.Pointers.{item_pointers, items_pointers};
+ghost use Rattle.pan_parser.specs.Room.{Within};
 ghost use Rattle.pan_ast.specs.declared.token.Token.{Token};
 ghost use Rattle.pan_ast.specs.Seen.{item_seen};
 ghost use Rattle.pan_ast.specs.declared.sort.Sort.TheVariants.{OpenBracket};
@@ -12,7 +15,8 @@ ghost use Rattle.pan_parser.specs.Answers.{Fails, Goes, NotAt, indexed};
 use crate::chains::{arguments, chain_item, indexes, reference_indexes, unary};
 use crate::stopped::Stopped;
 use crate::tables::{ends_chains, indexed_name, literal, starts_item};
-use crate::tokens::{cut, expect, expect_word, next_is};
+use crate::tokens::{Expected, cut, expect, next_is};
+use base::limits::MAX_NESTING;
 use pan_ast::make_items::{
     make_assign, make_block, make_call, make_for, make_foreach, make_if, make_if_else, make_plain,
     make_reference, make_while,
@@ -20,9 +24,9 @@ use pan_ast::make_items::{
 use pan_ast::{Item, Place, Sort, Token};
 use std::alloc::{AllocError, Global};
 
-/// The fault where an item is wanted that 100 constructs would hold.
+/// The fault where an item is wanted that as many constructs would hold as may.
 fn at_limit(tokens: &[Token]) -> Stopped<'_>
-    ensures { (s : ItemStack) → holders s ≡ 100 → Fails result (run tokens.now (NeedItem s)) }
+    ensures { (s : ItemStack) → holders s ≡ MAX_NESTING → Fails result (run tokens.now (NeedItem s)) }
 {
     let Some((first, _)) = cut(tokens) else {
         return Stopped::Bad(tokens);
@@ -36,8 +40,10 @@ fn at_limit(tokens: &[Token]) -> Stopped<'_>
 
 /// The item that a literal alone is: with no index and no operator behind it. Most items are such, and this saves them
 /// the way through all lines of chains.
+#[tactic(auto, using(pan_ast::proofs::Pointers::node_below))]
 fn lone_literal(first: &Token, rest: &[Token]) -> Result<Option<Item>, AllocError>
-    ensures { IfOk result (λ o. IfSome o (λ y. (s : ItemStack) → over (suc (holders s)) ≡ false → run (first.now ∷ rest.now) (NeedItem s) ≡ run rest.now (HasItem (item_seen y) s))) }
+    ensures read { IfOk result (λ o. IfSome o (λ y. (s : ItemStack) → over (suc (holders s)) ≡ false → run (first.now ∷ rest.now) (NeedItem s) ≡ run rest.now (HasItem (item_seen y) s))) }
+    ensures pointers { IfOk result (λ o. IfSome o (λ y. item_pointers y ≤ 1)) }
 {
     let None = next_is(Sort::OpenBracket, rest) else {
         return Ok(None);
@@ -55,14 +61,15 @@ fn lone_literal(first: &Token, rest: &[Token]) -> Result<Option<Item>, AllocErro
 #[cycle(items)]
 pub(crate) fn item(
     alloc: Global,
-    depth: u8,
+    depth: usize,
     tokens: &[Token],
 ) -> Result<(Item, &[Token]), Stopped<'_>>
-    requires { depth ≤ 100 }
+    requires { depth ≤ MAX_NESTING }
     ensures read { (s : ItemStack) → holders s ≡ depth → Goes result (λ r. run r.1.now (HasItem (item_seen r.0) s)) (run tokens.now (NeedItem s)) }
     ensures shorter { IfOk result (λ r. length r.1.now < length tokens.now) }
+    ensures pointers { IfOk result (λ r. Within 0 depth (item_pointers r.0)) }
 {
-    if depth == 100 {
+    if depth == MAX_NESTING {
         return Err(at_limit(tokens));
     }
     let Some((first, rest)) = cut(tokens) else {
@@ -91,16 +98,18 @@ pub(crate) fn item(
 }
 
 /// After `{`: the items through `}`.
+#[tactic(auto, using(pan_ast::proofs::Pointers::items_push))]
 #[cycle(items)]
 pub(crate) fn block_items<'a>(
     alloc: Global,
-    depth: u8,
+    depth: usize,
     place: &Place,
     tokens: &'a [Token],
 ) -> Result<(Vec<Item>, &'a [Token]), Stopped<'a>>
-    requires { depth ≤ 100 }
+    requires { depth ≤ MAX_NESTING }
     ensures read { (s : ItemStack) → suc (holders s) ≡ depth → Goes result (λ r. run r.1.now (HasItem (block place.now (map item_seen r.0.items)) s)) (run tokens.now (BlockOpen place.now [] s)) }
     ensures shorter { IfOk result (λ r. length r.1.now < length tokens.now) }
+    ensures pointers { IfOk result (λ r. Within 0 depth (items_pointers r.0.items)) }
 {
     let mut items = Vec::new(alloc);
     let mut rest = tokens;
@@ -111,7 +120,7 @@ pub(crate) fn block_items<'a>(
         let (next, more) = item(alloc, depth, rest)?;
         items.push(next)?;
         let Some(after) = next_is(Sort::Semicolon, more) else {
-            let (_, rest) = expect(Sort::CloseBrace, more)?;
+            let (_, rest) = expect(Expected::Sort(Sort::CloseBrace), more)?;
             return Ok((items, rest));
         };
         rest = after;
@@ -122,12 +131,13 @@ pub(crate) fn block_items<'a>(
 #[cycle(items)]
 fn boxed_item(
     alloc: Global,
-    depth: u8,
+    depth: usize,
     tokens: &[Token],
 ) -> Result<(Box<Item>, &[Token]), Stopped<'_>>
-    requires { depth ≤ 100 }
+    requires { depth ≤ MAX_NESTING }
     ensures read { (s : ItemStack) → holders s ≡ depth → Goes result (λ r. run r.1.now (HasItem (item_seen r.0.value) s)) (run tokens.now (NeedItem s)) }
     ensures shorter { IfOk result (λ r. length r.1.now < length tokens.now) }
+    ensures pointers { IfOk result (λ r. Within 0 depth (item_pointers r.0.value)) }
 {
     let (next, rest) = item(alloc, depth, tokens)?;
     Ok((Box::new(alloc, next)?, rest))
@@ -137,16 +147,17 @@ fn boxed_item(
 #[cycle(items)]
 fn item_before(
     alloc: Global,
-    depth: u8,
+    depth: usize,
     sign: Sort,
     tokens: &[Token],
 ) -> Result<(Box<Item>, &[Token]), Stopped<'_>>
-    requires { depth ≤ 100 }
+    requires { depth ≤ MAX_NESTING }
     ensures read { (k : Divider) (next : Seen → Parts) (s : ItemStack) → divider k ≡ sign → suc (holders s) ≡ depth → Goes result (λ r. run r.1.now (NeedItem (InParts (next (item_seen r.0.value)) s))) (run tokens.now (NeedItem (InParts (Further k next) s))) }
     ensures shorter { IfOk result (λ r. length r.1.now < length tokens.now) }
+    ensures pointers { IfOk result (λ r. Within 0 depth (item_pointers r.0.value)) }
 {
     let (next, rest) = boxed_item(alloc, depth, tokens)?;
-    let (_, rest) = expect(sign, rest)?;
+    let (_, rest) = expect(Expected::Sort(sign), rest)?;
     Ok((next, rest))
 }
 
@@ -154,15 +165,16 @@ fn item_before(
 #[cycle(items)]
 fn if_item<'a>(
     alloc: Global,
-    depth: u8,
+    depth: usize,
     place: &Place,
     tokens: &'a [Token],
 ) -> Result<(Item, &'a [Token]), Stopped<'a>>
-    requires { depth ≤ 100 }
+    requires { depth ≤ MAX_NESTING }
     ensures read { (s : ItemStack) → suc (holders s) ≡ depth → Goes result (λ r. run r.1.now (HasItem (item_seen r.0) s)) (run tokens.now (if_read place.now s)) }
     ensures shorter { IfOk result (λ r. length r.1.now < length tokens.now) }
+    ensures pointers { IfOk result (λ r. Within 11 depth (item_pointers r.0)) }
 {
-    let (_, rest) = expect(Sort::Open, tokens)?;
+    let (_, rest) = expect(Expected::Sort(Sort::Open), tokens)?;
     let (condition, rest) = item_before(alloc, depth, Sort::Close, rest)?;
     let (then, rest) = boxed_item(alloc, depth, rest)?;
     let Some(after) = next_is(Sort::Else, rest) else {
@@ -176,15 +188,16 @@ fn if_item<'a>(
 #[cycle(items)]
 fn while_item<'a>(
     alloc: Global,
-    depth: u8,
+    depth: usize,
     place: &Place,
     tokens: &'a [Token],
 ) -> Result<(Item, &'a [Token]), Stopped<'a>>
-    requires { depth ≤ 100 }
+    requires { depth ≤ MAX_NESTING }
     ensures read { (s : ItemStack) → suc (holders s) ≡ depth → Goes result (λ r. run r.1.now (HasItem (item_seen r.0) s)) (run tokens.now (while_read place.now s)) }
     ensures shorter { IfOk result (λ r. length r.1.now < length tokens.now) }
+    ensures pointers { IfOk result (λ r. Within 11 depth (item_pointers r.0)) }
 {
-    let (_, rest) = expect(Sort::Open, tokens)?;
+    let (_, rest) = expect(Expected::Sort(Sort::Open), tokens)?;
     let (condition, rest) = item_before(alloc, depth, Sort::Close, rest)?;
     let (body, rest) = boxed_item(alloc, depth, rest)?;
     Ok((make_while(place, condition, body)?, rest))
@@ -194,15 +207,16 @@ fn while_item<'a>(
 #[cycle(items)]
 fn for_item<'a>(
     alloc: Global,
-    depth: u8,
+    depth: usize,
     place: &Place,
     tokens: &'a [Token],
 ) -> Result<(Item, &'a [Token]), Stopped<'a>>
-    requires { depth ≤ 100 }
+    requires { depth ≤ MAX_NESTING }
     ensures read { (s : ItemStack) → suc (holders s) ≡ depth → Goes result (λ r. run r.1.now (HasItem (item_seen r.0) s)) (run tokens.now (for_read place.now s)) }
     ensures shorter { IfOk result (λ r. length r.1.now < length tokens.now) }
+    ensures pointers { IfOk result (λ r. Within 11 depth (item_pointers r.0)) }
 {
-    let (_, rest) = expect(Sort::Open, tokens)?;
+    let (_, rest) = expect(Expected::Sort(Sort::Open), tokens)?;
     let (first, rest) = item_before(alloc, depth, Sort::Semicolon, rest)?;
     let (condition, rest) = item_before(alloc, depth, Sort::Semicolon, rest)?;
     let (step, rest) = item_before(alloc, depth, Sort::Close, rest)?;
@@ -215,11 +229,11 @@ fn foreach_words(tokens: &[Token]) -> Result<(&Token, &Token, &[Token]), Stopped
     ensures read { (next : Token → Token → State) → Goes result (λ r. run r.2.now (next r.0.now r.1.now)) (run tokens.now (Takes AnOpen (λ o. Takes AWord (λ k. Takes ASemicolon (λ s1. Takes AWord (λ v. Takes ASemicolon (λ s2. next k v))))))) }
     ensures shorter { IfOk result (λ r. length r.2.now < length tokens.now) }
 {
-    let (_, rest) = expect(Sort::Open, tokens)?;
-    let (key, rest) = expect_word(rest)?;
-    let (_, rest) = expect(Sort::Semicolon, rest)?;
-    let (value, rest) = expect_word(rest)?;
-    let (_, rest) = expect(Sort::Semicolon, rest)?;
+    let (_, rest) = expect(Expected::Sort(Sort::Open), tokens)?;
+    let (key, rest) = expect(Expected::Word, rest)?;
+    let (_, rest) = expect(Expected::Sort(Sort::Semicolon), rest)?;
+    let (value, rest) = expect(Expected::Word, rest)?;
+    let (_, rest) = expect(Expected::Sort(Sort::Semicolon), rest)?;
     Ok((key, value, rest))
 }
 
@@ -227,13 +241,14 @@ fn foreach_words(tokens: &[Token]) -> Result<(&Token, &Token, &[Token]), Stopped
 #[cycle(items)]
 fn foreach_item<'a>(
     alloc: Global,
-    depth: u8,
+    depth: usize,
     place: &Place,
     tokens: &'a [Token],
 ) -> Result<(Item, &'a [Token]), Stopped<'a>>
-    requires { depth ≤ 100 }
+    requires { depth ≤ MAX_NESTING }
     ensures read { (s : ItemStack) → suc (holders s) ≡ depth → Goes result (λ r. run r.1.now (HasItem (item_seen r.0) s)) (run tokens.now (foreach_read place.now s)) }
     ensures shorter { IfOk result (λ r. length r.1.now < length tokens.now) }
+    ensures pointers { IfOk result (λ r. Within 11 depth (item_pointers r.0)) }
 {
     let (key, value, rest) = foreach_words(tokens)?;
     let (items, rest) = item_before(alloc, depth, Sort::Close, rest)?;
@@ -248,13 +263,14 @@ fn foreach_item<'a>(
 #[cycle(items)]
 fn word_item<'a>(
     alloc: Global,
-    depth: u8,
+    depth: usize,
     word: &Token,
     tokens: &'a [Token],
 ) -> Result<(Item, &'a [Token]), Stopped<'a>>
-    requires { depth ≤ 100 }
+    requires { depth ≤ MAX_NESTING }
     ensures read { (s : ItemStack) → suc (holders s) ≡ depth → Goes result (λ r. run r.1.now (HasItem (item_seen r.0) s)) (run tokens.now (ItemWord word.now s)) }
     ensures shorter { IfOk result (λ r. length r.1.now ≤ length tokens.now) }
+    ensures pointers { IfOk result (λ r. Within 11 depth (item_pointers r.0)) }
 {
     let Some(after) = next_is(Sort::Open, tokens) else {
         let (items, rest) = reference_indexes(alloc, depth, word, tokens)?;
@@ -270,15 +286,17 @@ fn word_item<'a>(
 #[cycle(items)]
 fn reference_item<'a>(
     alloc: Global,
-    depth: u8,
+    depth: usize,
     word: &Token,
     items: Vec<Item>,
     tokens: &'a [Token],
 ) -> Result<(Item, &'a [Token]), Stopped<'a>>
-    requires room { depth ≤ 100 }
+    requires room { depth ≤ MAX_NESTING }
     requires ended { NotAt OpenBracket tokens.now }
+    requires indexes { Within 0 depth (items_pointers items.items) }
     ensures read { (s : ItemStack) → suc (holders s) ≡ depth → Goes result (λ r. run r.1.now (HasItem (item_seen r.0) s)) (run tokens.now (HasReference word.now (map item_seen items.items) (indexed (name word.now) (map item_seen items.items)) s)) }
     ensures shorter { IfOk result (λ r. length r.1.now ≤ length tokens.now) }
+    ensures pointers { IfOk result (λ r. Within 11 depth (item_pointers r.0)) }
 {
     let Some(after) = next_is(Sort::Assign, tokens) else {
         let node = indexed_name(alloc, word, items)?;

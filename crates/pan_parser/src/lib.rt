@@ -6,13 +6,15 @@
 //!
 //! In reading order: `stopped` (why a reading ends early), `tokens` (one token), `tables` (which words and signs stand
 //! for what), `items` and `chains` (items, and the operators and operands in them), `bounds` and `types` (types),
-//! `statements`, `errors` and `parsing` (a whole template, and its fault).
+//! `statements`, `errors` and `parsing` (a whole template, and its fault), `laws` (that the definitions agree
+//! for all tokens).
 #![tactic(auto)]
 
 mod bounds;
 mod chains;
 mod errors;
 mod items;
+mod laws;
 mod parsing;
 mod statements;
 mod stopped;
@@ -21,4 +23,5 @@ mod tokens;
 mod types;
 
 pub use errors::ParseError;
+pub use laws::parsed_tokens;
 pub use parsing::parse;

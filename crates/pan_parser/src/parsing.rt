@@ -1,25 +1,27 @@
-ghost use Rattle.std.specs.Prelude.{◌≡◌, ◌≢◌, ◌<◌, ◌&&◌, ◌∷◌, [], Err, IfErr, IfOk, List, Ok, length};
+ghost use Rattle.std.specs.Prelude.{◌≡◌, ◌≢◌, ◌≤◌, ◌+◌, ◌*◌, ◌&&◌, [], Err, IfErr, IfOk, IfSome, Ok};
 ghost use Rattle.pan_ast.specs.declared.token.Token.{Token};
 ghost use Rattle.pan_ast.specs.Sorts.{EndsInEnd, at, sort};
 ghost use Rattle.pan_ast.specs.declared.sort.Sort.TheVariants as sorts;
-ghost use Rattle.pan_ast.specs.declared.fault.Code.TheVariants.{BadSyntax, TooDeep};
-ghost use Rattle.pan_ast.specs.Templates.{Template as Seen};
 ghost use Rattle.pan_ast.specs.TemplatesSeen.{template_seen};
-ghost use Rattle.pan_grammar.specs.Faults.{DeepInLast, IsFirstBad, IsTooDeep, Parses, ParsesWhere};
+ghost use Rattle.pan_grammar.specs.Faults.{DeepInLast, IsFault, Parses, ParsesWhere};
 ghost use Rattle.pan_grammar.specs.Machine.{name_wanted, run};
 ghost use Rattle.pan_grammar.specs.States.{Done, Start, State};
 ghost use Rattle.pan_grammar.specs.Templates.{kind_of};
 ghost use Rattle.path_tree.specs.Grammar.{is_name};
 ghost use Rattle.pan_parser.specs.Answers.{Goes, Wants};
-ghost use Rattle.pan_grammar.specs.Parsed.{fault_at, fault_on, parsed};
-ghost use Rattle.pan_parser.specs.Parsed.{Gives, IsFault, Reads};
-ghost use Rattle.pan_ast.specs.TreeDepths.{template_depth};
+ghost use Rattle.pan_parser.specs.Room.{Within};
+ghost use Rattle.pan_grammar.specs.Parsed.{fault_on, parsed};
+ghost use Rattle.base.specs.Answers.{Gives};
+ghost use Rattle.base.specs.declared.limits.TheConstants.{MAX_NESTING};
+ghost use Rattle.pan_ast.specs.Detail.{fault_at};
+ghost use Rattle.pan_ast.specs.Failures.{fault_of};
+ghost use Rattle.pan_ast.specs.Pointers.{template_pointers};
 
 use crate::errors::ParseError;
 use crate::statements::statements;
 use crate::stopped::Stopped;
-use crate::tokens::{cut, expect};
-use pan_ast::{Code, Fault, Place, Sort, Template, TemplateKind, Token};
+use crate::tokens::{Expected, cut, expect};
+use pan_ast::{Code, Failure, Fault, Place, Sort, Template, TemplateKind, Token};
 use path_tree::{Name, NameError};
 use std::alloc::{AllocError, Global};
 
@@ -61,10 +63,11 @@ fn named_template<'a>(
     place: &Place,
     tokens: &'a [Token],
 ) -> Result<(Template, &'a [Token]), Stopped<'a>>
-    ensures { Goes result (λ r. run r.1.now (Done (template_seen r.0))) (run tokens.now (name_wanted kind place.now)) }
+    ensures read { Goes result (λ r. run r.1.now (Done (template_seen r.0))) (run tokens.now (name_wanted kind place.now)) }
+    ensures pointers { IfOk result (λ r. Within 3 0 (template_pointers r.0)) }
 {
     let (name, token, rest) = expect_name(alloc, tokens)?;
-    let (_, rest) = expect(Sort::Semicolon, rest)?;
+    let (_, rest) = expect(Expected::Sort(Sort::Semicolon), rest)?;
     let (statements, rest) = statements(alloc, rest)?;
     let name_place = token.place().share()?;
     let place = place.share()?;
@@ -82,7 +85,8 @@ fn named_template<'a>(
 
 /// A template, and the tokens after its End.
 fn template(alloc: Global, tokens: &[Token]) -> Result<(Template, &[Token]), Stopped<'_>>
-    ensures { Goes result (λ r. run r.1.now (Done (template_seen r.0))) (run tokens.now Start) }
+    ensures read { Goes result (λ r. run r.1.now (Done (template_seen r.0))) (run tokens.now Start) }
+    ensures pointers { IfOk result (λ r. Within 3 0 (template_pointers r.0)) }
 {
     let Some((first, rest)) = cut(tokens) else {
         return Err(Stopped::Bad(tokens));
@@ -93,13 +97,14 @@ fn template(alloc: Global, tokens: &[Token]) -> Result<(Template, &[Token]), Sto
     let Some(kind) = kind_of(first.sort()) else {
         return Err(Stopped::Bad(tokens));
     };
-    let (_, rest) = expect(Sort::Template, rest)?;
+    let (_, rest) = expect(Expected::Sort(Sort::Template), rest)?;
     named_template(alloc, kind, first.place(), rest)
 }
 
 /// The template that all the tokens are.
 pub(crate) fn read_all(alloc: Global, tokens: &[Token]) -> Result<Template, Stopped<'_>>
-    ensures { Goes result (λ z. Ok (template_seen z)) (run tokens.now Start) }
+    ensures read { Goes result (λ z. Ok (template_seen z)) (run tokens.now Start) }
+    ensures pointers { IfOk result (λ z. Within 3 0 (template_pointers z)) }
 {
     let (whole, rest) = template(alloc, tokens)?;
     match cut(rest) {
@@ -109,43 +114,41 @@ pub(crate) fn read_all(alloc: Global, tokens: &[Token]) -> Result<Template, Stop
 }
 
 fn fault(alloc: Global, code: Code, place: &Place) -> Result<Fault, AllocError>
-    ensures { IfOk result (λ f. f ≡ record { code = code; place = place.now; detail = [] }) }
+    ensures { IfOk result (λ f. f ≡ fault_at code place.now) }
 {
-    Fault::new(alloc, code, place.share()?, "")
+    Fault::at(alloc, code, place.share()?)
 }
 
 /// The fault of a code at the first of the tokens.
-fn fault_on(alloc: Global, code: Code, tokens: &[Token]) -> ParseError
+fn fault_on(alloc: Global, code: Code, tokens: &[Token]) -> Failure
     requires { tokens.now ≢ [] }
-    ensures { Gives (Err result) (fault_on code tokens.now) }
+    ensures { IfSome (fault_of result) (λ f. f ≡ fault_on code tokens.now) }
 {
     let Some((first, _)) = cut(tokens) else {
         unreachable!();
     };
     match fault(alloc, code, first.place()) {
-        Ok(fault) => ParseError::Fault(fault),
-        Err(_) => ParseError::Memory,
+        Ok(fault) => Failure::Fault(fault),
+        Err(_) => Failure::Memory,
     }
 }
 
 /// The template that the tokens of a file spell. The last token has to be an End, as the lexer's is.
 ///
 /// F06 stands at the first token with which no template goes on. F07 stands at the first token of the first construct
-/// that is nested over 100 deep. Where both are in a text, the one that comes first is answered.
+/// that more than [MAX_NESTING] others hold. Where both are in a text, the one that comes first is answered. No way
+/// in the template's memory is longer than the limit of nesting allows, however long the text.
 pub fn parse(alloc: Global, tokens: &[Token]) -> Result<Template, ParseError>
     requires ended { EndsInEnd tokens.now }
-    ensures exact { Reads result (parsed tokens.now) }
+    ensures exact { Gives template_seen fault_of result (parsed tokens.now) }
     ensures found { IfOk result (λ z. Parses tokens.now (template_seen z)) }
-    ensures only { (z : Seen) → Parses tokens.now z → IfOk result (λ y. template_seen y ≡ z) }
     ensures low { IfOk result (λ z. ParsesWhere (DeepInLast 0) tokens.now (template_seen z)) }
-    ensures shallow { IfOk result (λ z. template_depth (template_seen z) < length tokens.now) }
-    ensures fault { IfErr result (λ e. IsFault tokens.now e) }
-    ensures bad { (k : Token) (on : List Token) → IsFirstBad tokens.now (k ∷ on) → Gives result (fault_at BadSyntax k) }
-    ensures deep { (k : Token) (on : List Token) → IsTooDeep tokens.now k on → Gives result (fault_at TooDeep k) }
+    ensures fault { IfErr result (λ e. IfSome (fault_of e) (IsFault tokens.now)) }
+    ensures pointers { IfOk result (λ z. template_pointers z ≤ 11 * MAX_NESTING + 3) }
 {
     match read_all(alloc, tokens) {
         Ok(template) => Ok(template),
-        Err(Stopped::Memory) => Err(ParseError::Memory),
+        Err(Stopped::Memory) => Err(Failure::Memory),
         Err(Stopped::Bad(rest)) => Err(fault_on(alloc, Code::BadSyntax, rest)),
         Err(Stopped::Deep(rest)) => Err(fault_on(alloc, Code::TooDeep, rest)),
     }

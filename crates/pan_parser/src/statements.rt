@@ -1,4 +1,6 @@
 ghost use Rattle.std.specs.Prelude.{◌≡◌, ◌<◌, ◌≤◌, [], ◌∷◌, ◌++◌, Bool, false, IfOk, List, length, map};
+ghost use Rattle.pan_ast.specs.Pointers.{form_pointers, full_pointers, item_pointers, statement_pointers, statements_pointers};
+ghost use Rattle.pan_parser.specs.Room.{Within};
 ghost use Rattle.pan_ast.specs.declared.place.Place.{Place};
 ghost use Rattle.pan_ast.specs.declared.sort.Sort.TheVariants.{End};
 ghost use Rattle.pan_ast.specs.declared.token.Token.{Token};
@@ -16,7 +18,7 @@ ghost use Rattle.pan_parser.specs.Answers.{Goes, NotAt, on_front};
 
 use crate::items::{block_items, item};
 use crate::stopped::Stopped;
-use crate::tokens::{cut, expect, expect_setting, expect_word, next_is};
+use crate::tokens::{Expected, cut, expect, next_is};
 use crate::types::full_type;
 use pan_ast::make_items::{make_block, make_plain, make_text};
 use pan_ast::make_statements::{
@@ -33,9 +35,10 @@ const USUAL_TOKENS: usize = 4;
 fn item_of(alloc: Global, tokens: &[Token]) -> Result<(Item, &[Token]), Stopped<'_>>
     ensures read { (h : Header) (ss : List Shown) (make : Seen → Shown) → Goes result (λ r. run r.1.now (Statements h (ss ++ make (item_seen r.0) ∷ []))) (run tokens.now (item_of h ss make)) }
     ensures shorter { IfOk result (λ r. length r.1.now < length tokens.now) }
+    ensures pointers { IfOk result (λ r. Within 0 0 (item_pointers r.0)) }
 {
     let (next, rest) = item(alloc, 0, tokens)?;
-    let (_, rest) = expect(Sort::Semicolon, rest)?;
+    let (_, rest) = expect(Expected::Sort(Sort::Semicolon), rest)?;
     Ok((next, rest))
 }
 
@@ -43,8 +46,9 @@ fn item_of(alloc: Global, tokens: &[Token]) -> Result<(Item, &[Token]), Stopped<
 fn right_side(alloc: Global, tokens: &[Token]) -> Result<(Item, &[Token]), Stopped<'_>>
     ensures read { (h : Header) (ss : List Shown) (make : Seen → Shown) → Goes result (λ r. run r.1.now (Statements h (ss ++ make (item_seen r.0) ∷ []))) (run tokens.now (Takes AnAssign (λ e. item_of h ss make))) }
     ensures shorter { IfOk result (λ r. length r.1.now < length tokens.now) }
+    ensures pointers { IfOk result (λ r. Within 0 0 (item_pointers r.0)) }
 {
-    let (_, rest) = expect(Sort::Assign, tokens)?;
+    let (_, rest) = expect(Expected::Sort(Sort::Assign), tokens)?;
     item_of(alloc, rest)
 }
 
@@ -52,8 +56,9 @@ fn right_side(alloc: Global, tokens: &[Token]) -> Result<(Item, &[Token]), Stopp
 fn type_of(alloc: Global, tokens: &[Token]) -> Result<(FullType, &[Token]), Stopped<'_>>
     ensures read { (h : Header) (ss : List Shown) (make : SeenType → Shown) → Goes result (λ r. run r.1.now (Statements h (ss ++ make (full_seen r.0) ∷ []))) (run tokens.now (Takes AnAssign (λ e. full_of h ss make))) }
     ensures shorter { IfOk result (λ r. length r.1.now < length tokens.now) }
+    ensures pointers { IfOk result (λ r. Within 1 0 (full_pointers r.0)) }
 {
-    let (_, rest) = expect(Sort::Assign, tokens)?;
+    let (_, rest) = expect(Expected::Sort(Sort::Assign), tokens)?;
     let (full, rest) = full_type(alloc, 0, rest)?;
     let Some(after) = next_is(Sort::Semicolon, rest) else {
         return Err(Stopped::Bad(rest));
@@ -65,8 +70,9 @@ fn type_of(alloc: Global, tokens: &[Token]) -> Result<(FullType, &[Token]), Stop
 fn set_to(alloc: Global, tokens: &[Token]) -> Result<(bool, Item, &[Token]), Stopped<'_>>
     ensures read { (h : Header) (ss : List Shown) (make : Bool → Seen → Shown) → Goes result (λ r. run r.2.now (Statements h (ss ++ make r.0 (item_seen r.1) ∷ []))) (run tokens.now (Takes ASetting (λ a. item_of h ss (make (conditional a))))) }
     ensures shorter { IfOk result (λ r. length r.2.now < length tokens.now) }
+    ensures pointers { IfOk result (λ r. Within 0 0 (item_pointers r.1)) }
 {
-    let (sign, rest) = expect_setting(tokens)?;
+    let (sign, rest) = expect(Expected::Setting, tokens)?;
     let (right, rest) = item_of(alloc, rest)?;
     Ok((Sort::ConditionalAssign.is(sign.sort()), right, rest))
 }
@@ -80,6 +86,7 @@ fn path_form<'a>(
 ) -> Result<(StatementForm, &'a [Token]), Stopped<'a>>
     ensures read { (p : Place) (h : Header) (ss : List Shown) → Goes result (λ r. run r.1.now (Statements h (ss ++ stated p (form_seen r.0) ∷ []))) (run tokens.now (path_read p last h ss path.now)) }
     ensures shorter { IfOk result (λ r. length r.1.now < length tokens.now) }
+    ensures pointers { IfOk result (λ r. Within 2 0 (form_pointers r.0)) }
 {
     let (conditional, right, rest) = set_to(alloc, tokens)?;
     Ok((
@@ -96,8 +103,9 @@ fn variable_form(
 ) -> Result<(StatementForm, &[Token]), Stopped<'_>>
     ensures read { (p : Place) (h : Header) (ss : List Shown) → Goes result (λ r. run r.1.now (Statements h (ss ++ stated p (form_seen r.0) ∷ []))) (run tokens.now (variable_read p last h ss)) }
     ensures shorter { IfOk result (λ r. length r.1.now < length tokens.now) }
+    ensures pointers { IfOk result (λ r. Within 2 0 (form_pointers r.0)) }
 {
-    let (name, rest) = expect_word(tokens)?;
+    let (name, rest) = expect(Expected::Word, tokens)?;
     let (conditional, right, rest) = set_to(alloc, rest)?;
     Ok((
         variable_statement(last, name.value(), conditional, right)?,
@@ -109,8 +117,9 @@ fn variable_form(
 fn function_form(alloc: Global, tokens: &[Token]) -> Result<(StatementForm, &[Token]), Stopped<'_>>
     ensures read { (p : Place) (h : Header) (ss : List Shown) → Goes result (λ r. run r.1.now (Statements h (ss ++ stated p (form_seen r.0) ∷ []))) (run tokens.now (function_read p h ss)) }
     ensures shorter { IfOk result (λ r. length r.1.now < length tokens.now) }
+    ensures pointers { IfOk result (λ r. Within 2 0 (form_pointers r.0)) }
 {
-    let (name, rest) = expect_word(tokens)?;
+    let (name, rest) = expect(Expected::Word, tokens)?;
     let (body, rest) = right_side(alloc, rest)?;
     Ok((function_statement(alloc, name.value(), body)?, rest))
 }
@@ -119,8 +128,9 @@ fn function_form(alloc: Global, tokens: &[Token]) -> Result<(StatementForm, &[To
 fn type_form(alloc: Global, tokens: &[Token]) -> Result<(StatementForm, &[Token]), Stopped<'_>>
     ensures read { (p : Place) (h : Header) (ss : List Shown) → Goes result (λ r. run r.1.now (Statements h (ss ++ stated p (form_seen r.0) ∷ []))) (run tokens.now (type_read p h ss)) }
     ensures shorter { IfOk result (λ r. length r.1.now < length tokens.now) }
+    ensures pointers { IfOk result (λ r. Within 2 0 (form_pointers r.0)) }
 {
-    let (name, rest) = expect_word(tokens)?;
+    let (name, rest) = expect(Expected::Word, tokens)?;
     let (full, rest) = type_of(alloc, rest)?;
     Ok((type_statement(alloc, name.value(), full)?, rest))
 }
@@ -129,8 +139,9 @@ fn type_form(alloc: Global, tokens: &[Token]) -> Result<(StatementForm, &[Token]
 fn bind_form(alloc: Global, tokens: &[Token]) -> Result<(StatementForm, &[Token]), Stopped<'_>>
     ensures read { (p : Place) (h : Header) (ss : List Shown) → Goes result (λ r. run r.1.now (Statements h (ss ++ stated p (form_seen r.0) ∷ []))) (run tokens.now (bind_read p h ss)) }
     ensures shorter { IfOk result (λ r. length r.1.now < length tokens.now) }
+    ensures pointers { IfOk result (λ r. Within 2 0 (form_pointers r.0)) }
 {
-    let (path, rest) = expect(Sort::Text, tokens)?;
+    let (path, rest) = expect(Expected::Sort(Sort::Text), tokens)?;
     let (full, rest) = type_of(alloc, rest)?;
     Ok((bind_statement(alloc, path.value(), full)?, rest))
 }
@@ -139,8 +150,9 @@ fn bind_form(alloc: Global, tokens: &[Token]) -> Result<(StatementForm, &[Token]
 fn valid_form(alloc: Global, tokens: &[Token]) -> Result<(StatementForm, &[Token]), Stopped<'_>>
     ensures read { (p : Place) (h : Header) (ss : List Shown) → Goes result (λ r. run r.1.now (Statements h (ss ++ stated p (form_seen r.0) ∷ []))) (run tokens.now (valid_read p h ss)) }
     ensures shorter { IfOk result (λ r. length r.1.now < length tokens.now) }
+    ensures pointers { IfOk result (λ r. Within 2 0 (form_pointers r.0)) }
 {
-    let (path, rest) = expect(Sort::Text, tokens)?;
+    let (path, rest) = expect(Expected::Sort(Sort::Text), tokens)?;
     let (body, rest) = right_side(alloc, rest)?;
     Ok((valid_statement(alloc, path.value(), body)?, rest))
 }
@@ -149,16 +161,19 @@ fn valid_form(alloc: Global, tokens: &[Token]) -> Result<(StatementForm, &[Token
 fn prefix_form(tokens: &[Token]) -> Result<(StatementForm, &[Token]), Stopped<'_>>
     ensures read { (p : Place) (h : Header) (ss : List Shown) → Goes result (λ r. run r.1.now (Statements h (ss ++ stated p (form_seen r.0) ∷ []))) (run tokens.now (prefix_read p h ss)) }
     ensures shorter { IfOk result (λ r. length r.1.now < length tokens.now) }
+    ensures pointers { IfOk result (λ r. Within 2 0 (form_pointers r.0)) }
 {
-    let (path, rest) = expect(Sort::Text, tokens)?;
-    let (_, rest) = expect(Sort::Semicolon, rest)?;
+    let (path, rest) = expect(Expected::Sort(Sort::Text), tokens)?;
+    let (_, rest) = expect(Expected::Sort(Sort::Semicolon), rest)?;
     Ok((prefix_statement(path.value())?, rest))
 }
 
 /// After `include`.
+#[tactic(auto, using(pan_ast::proofs::Pointers::node_below))]
 fn include_form(alloc: Global, tokens: &[Token]) -> Result<(StatementForm, &[Token]), Stopped<'_>>
     ensures read { (p : Place) (h : Header) (ss : List Shown) → Goes result (λ r. run r.1.now (Statements h (ss ++ stated p (form_seen r.0) ∷ []))) (run tokens.now (IncludeRead p h ss)) }
     ensures shorter { IfOk result (λ r. length r.1.now < length tokens.now) }
+    ensures pointers { IfOk result (λ r. Within 2 0 (form_pointers r.0)) }
 {
     let Some((first, rest)) = cut(tokens) else {
         return Err(Stopped::Bad(tokens));
@@ -166,12 +181,12 @@ fn include_form(alloc: Global, tokens: &[Token]) -> Result<(StatementForm, &[Tok
     match first.sort() {
         Sort::Text => {
             let text = make_plain(make_text(first.place(), first.value())?)?;
-            let (_, rest) = expect(Sort::Semicolon, rest)?;
+            let (_, rest) = expect(Expected::Sort(Sort::Semicolon), rest)?;
             Ok((include_statement(text), rest))
         }
         Sort::OpenBrace => {
             let (items, rest) = block_items(alloc, 1, first.place(), rest)?;
-            let (_, rest) = expect(Sort::Semicolon, rest)?;
+            let (_, rest) = expect(Expected::Sort(Sort::Semicolon), rest)?;
             Ok((include_statement(make_block(first.place(), items)?), rest))
         }
         _ => Err(Stopped::Bad(tokens)),
@@ -186,6 +201,7 @@ fn setting_form(
 ) -> Result<(StatementForm, &[Token]), Stopped<'_>>
     ensures read { (p : Place) (h : Header) (ss : List Shown) → Goes result (λ r. run r.1.now (Statements h (ss ++ stated p (form_seen r.0) ∷ []))) (on_front (setting_at p last h ss) tokens.now) }
     ensures shorter { IfOk result (λ r. length r.1.now < length tokens.now) }
+    ensures pointers { IfOk result (λ r. Within 2 0 (form_pointers r.0)) }
 {
     let Some((first, rest)) = cut(tokens) else {
         return Err(Stopped::Bad(tokens));
@@ -208,6 +224,7 @@ fn form<'a>(
     requires open { at End (sort first.now) ≡ false }
     ensures read { (h : Header) (ss : List Shown) → Goes result (λ r. run r.1.now (Statements h (ss ++ stated first.now.place (form_seen r.0) ∷ []))) (run tokens.now (Statements h ss)) }
     ensures shorter { IfOk result (λ r. length r.1.now < length tokens.now) }
+    ensures pointers { IfOk result (λ r. Within 2 0 (form_pointers r.0)) }
 {
     match first.sort() {
         Sort::Final => setting_form(alloc, true, rest),
@@ -226,6 +243,7 @@ fn statement(alloc: Global, tokens: &[Token]) -> Result<(Statement, &[Token]), S
     requires { NotAt End tokens.now }
     ensures read { (h : Header) (ss : List Shown) → Goes result (λ r. run r.1.now (Statements h (ss ++ statement_seen r.0 ∷ []))) (run tokens.now (Statements h ss)) }
     ensures shorter { IfOk result (λ r. length r.1.now < length tokens.now) }
+    ensures pointers { IfOk result (λ r. Within 2 0 (statement_pointers r.0)) }
 {
     let Some((first, rest)) = cut(tokens) else {
         return Err(Stopped::Bad(tokens));
@@ -235,11 +253,13 @@ fn statement(alloc: Global, tokens: &[Token]) -> Result<(Statement, &[Token]), S
 }
 
 /// The statements of a template, to the End and what stands after it.
+#[tactic(auto, using(pan_ast::proofs::Pointers::statements_push))]
 pub(crate) fn statements(
     alloc: Global,
     tokens: &[Token],
 ) -> Result<(Vec<Statement>, &[Token]), Stopped<'_>>
     ensures read { (h : Header) → Goes result (λ r. run r.1.now (Done (template h (map statement_seen r.0.items)))) (run tokens.now (Statements h [])) }
+    ensures pointers { IfOk result (λ r. Within 2 0 (statements_pointers r.0.items)) }
 {
     let mut statements = Vec::with_capacity(alloc, tokens.len() / USUAL_TOKENS)?;
     let mut rest = tokens;

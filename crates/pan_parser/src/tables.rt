@@ -1,4 +1,5 @@
-ghost use Rattle.std.specs.Prelude.{◌≡◌, ◌<◌, ◌≤◌, ◌∷◌, ◌^◌, ◌-◌, [], IfOk, MatchOption, map, min, pos, option_map};
+ghost use Rattle.std.specs.Prelude.{◌≡◌, ◌<◌, ◌≤◌, ◌∷◌, ◌^◌, ◌-◌, [], IfOk, MatchOption, map, min, pos, option_map, ◌+◌, max, IfSome};
+ghost use Rattle.pan_ast.specs.Pointers.{items_pointers, left_pointers};
 ghost use Rattle.pan_ast.specs.Sorts.{sort};
 ghost use Rattle.pan_ast.specs.Seen.{item_seen, node_seen};
 ghost use Rattle.pan_grammar.specs.Depths.{full_start, item_start};
@@ -43,13 +44,13 @@ fn level(sort: Sort) -> u8
     match sort {
         Sort::Star | Sort::Slash | Sort::Percent => 1,
         Sort::Plus | Sort::Minus => 2,
-        Sort::Less | Sort::AtMost | Sort::Greater | Sort::AtLeast => 3,
-        Sort::Equal | Sort::Differs => 4,
-        Sort::And => 5,
-        Sort::Caret => 6,
-        Sort::Bar => 7,
-        Sort::Ands => 8,
-        Sort::Bars => 9,
+        Sort::Less | Sort::LessEqual | Sort::More | Sort::MoreEqual => 3,
+        Sort::Equal | Sort::NotEqual => 4,
+        Sort::BitAnd => 5,
+        Sort::BitXor => 6,
+        Sort::BitOr => 7,
+        Sort::And => 8,
+        Sort::Or => 9,
         _ => 0,
     }
 }
@@ -65,15 +66,15 @@ fn operator_of(sort: Sort) -> Operator
         Sort::Plus => Operator::Of(BinaryOp::Add),
         Sort::Minus => Operator::Of(BinaryOp::Subtract),
         Sort::Less => Operator::Of(BinaryOp::Less),
-        Sort::AtMost => Operator::Of(BinaryOp::LessEqual),
-        Sort::Greater => Operator::Of(BinaryOp::More),
-        Sort::AtLeast => Operator::Of(BinaryOp::MoreEqual),
+        Sort::LessEqual => Operator::Of(BinaryOp::LessEqual),
+        Sort::More => Operator::Of(BinaryOp::More),
+        Sort::MoreEqual => Operator::Of(BinaryOp::MoreEqual),
         Sort::Equal => Operator::Of(BinaryOp::Equal),
-        Sort::Differs => Operator::Of(BinaryOp::NotEqual),
-        Sort::And => Operator::Of(BinaryOp::BitAnd),
-        Sort::Caret => Operator::Of(BinaryOp::BitXor),
-        Sort::Bar => Operator::Of(BinaryOp::BitOr),
-        Sort::Ands => Operator::Both,
+        Sort::NotEqual => Operator::Of(BinaryOp::NotEqual),
+        Sort::BitAnd => Operator::Of(BinaryOp::BitAnd),
+        Sort::BitXor => Operator::Of(BinaryOp::BitXor),
+        Sort::BitOr => Operator::Of(BinaryOp::BitOr),
+        Sort::And => Operator::Both,
         _ => Operator::Either,
     }
 }
@@ -104,13 +105,15 @@ pub(crate) fn ends_chains(tokens: &[Token]) -> bool
 }
 
 /// Two operands and the operator between them.
+#[tactic(auto, using(pan_ast::proofs::Pointers::node_below))]
 pub(crate) fn join(
     alloc: Global,
     operator: Operator,
     left: Node,
     right: Node,
 ) -> Result<Node, AllocError>
-    ensures { IfOk result (λ y. node_seen y ≡ joined (op_seen operator) (node_seen left) (node_seen right)) }
+    ensures seen { IfOk result (λ y. node_seen y ≡ joined (op_seen operator) (node_seen left) (node_seen right)) }
+    ensures pointers { IfOk result (λ y. left_pointers y ≤ max (left_pointers left) (1 + left_pointers right)) }
 {
     match operator {
         Operator::Of(operator) => make_binary(alloc, operator, left, right),
@@ -142,7 +145,8 @@ pub(crate) fn long(token: &Token) -> i64
 
 /// The literal that a token is, or None.
 pub(crate) fn literal(token: &Token) -> Result<Option<Node>, AllocError>
-    ensures { IfOk result (λ o. option_map node_seen o ≡ literal (sort token.now) token.now) }
+    ensures seen { IfOk result (λ o. option_map node_seen o ≡ literal (sort token.now) token.now) }
+    ensures pointers { IfOk result (λ o. IfSome o (λ n. left_pointers n ≡ 0)) }
 {
     let place = token.place();
     let node = match token.sort() {
@@ -186,7 +190,8 @@ pub(crate) fn indexed_name(
     token: &Token,
     indexes: Vec<Item>,
 ) -> Result<Node, AllocError>
-    ensures { IfOk result (λ y. node_seen y ≡ indexed (name token.now) (map item_seen indexes.items)) }
+    ensures seen { IfOk result (λ y. node_seen y ≡ indexed (name token.now) (map item_seen indexes.items)) }
+    ensures pointers { IfOk result (λ y. left_pointers y ≤ items_pointers indexes.items) }
 {
     let mut node = make_name(token.place(), token.value())?;
     for index in indexes {

@@ -1,11 +1,9 @@
 ghost use Rattle.std.specs.Prelude.{◌≡◌, ◌<◌, ◌∷◌, [], IfOk, MatchOption, length};
 ghost use Rattle.pan_ast.specs.declared.token.Token.{Token};
-ghost use Rattle.pan_ast.specs.Sorts.{at, is_type_name, is_word, sort};
-ghost use Rattle.pan_grammar.specs.Types.{is_mark};
-ghost use Rattle.pan_grammar.specs.Templates.{is_setting};
+ghost use Rattle.pan_ast.specs.Sorts.{sort};
 ghost use Rattle.pan_grammar.specs.Machine.{run};
 ghost use Rattle.pan_grammar.specs.States.{State};
-ghost use Rattle.pan_parser.specs.Answers.{Goes, Wants, NotAt, IsAt};
+ghost use Rattle.pan_parser.specs.Answers.{Goes, Wants, NotAt, IsAt, takes};
 
 use crate::stopped::Stopped;
 use pan_ast::{Sort, Token};
@@ -34,75 +32,45 @@ pub(crate) fn next_is(wanted: Sort, tokens: &[Token]) -> Option<&[Token]>
     }
 }
 
-/// A token of the sort, and the tokens after it.
-pub(crate) fn expect(wanted: Sort, tokens: &[Token]) -> Result<(&Token, &[Token]), Stopped<'_>>
-    ensures read { (s : State) (next : Token → State) → Wants s (λ t. at wanted (sort t)) next → Goes result (λ r. run r.1.now (next r.0.now)) (run tokens.now s) }
-    ensures shorter { IfOk result (λ r. length r.1.now < length tokens.now) }
-{
-    let Some((first, rest)) = cut(tokens) else {
-        return Err(Stopped::Bad(tokens));
-    };
-    if wanted.is(first.sort()) {
-        Ok((first, rest))
-    } else {
-        Err(Stopped::Bad(tokens))
+/// What a token is expected to be.
+#[derive(Clone, Copy)]
+pub enum Expected {
+    /// A token of this sort.
+    Sort(Sort),
+    /// A word.
+    Word,
+    /// A word that may be the name of a type.
+    TypeName,
+    /// `:` or `?`
+    Mark,
+    /// `=` or `?=`
+    Setting,
+}
+
+impl Expected {
+    /// Whether a token of the sort is what is expected.
+    fn takes(self, sort: Sort) -> bool
+        ensures { result ≡ takes self sort }
+    {
+        match self {
+            Expected::Sort(wanted) => wanted.is(sort),
+            Expected::Word => sort.is_word(),
+            Expected::TypeName => sort.is_type_name(),
+            Expected::Mark => Sort::Colon.is(sort) || Sort::Question.is(sort),
+            Expected::Setting => Sort::Assign.is(sort) || Sort::ConditionalAssign.is(sort),
+        }
     }
 }
 
-/// A word, and the tokens after it.
-pub(crate) fn expect_word(tokens: &[Token]) -> Result<(&Token, &[Token]), Stopped<'_>>
-    ensures read { (s : State) (next : Token → State) → Wants s (λ t. is_word (sort t)) next → Goes result (λ r. run r.1.now (next r.0.now)) (run tokens.now s) }
+/// The token that is expected, and the tokens after it.
+pub(crate) fn expect(expected: Expected, tokens: &[Token]) -> Result<(&Token, &[Token]), Stopped<'_>>
+    ensures read { (s : State) (next : Token → State) → Wants s (λ t. takes expected (sort t)) next → Goes result (λ r. run r.1.now (next r.0.now)) (run tokens.now s) }
     ensures shorter { IfOk result (λ r. length r.1.now < length tokens.now) }
 {
     let Some((first, rest)) = cut(tokens) else {
         return Err(Stopped::Bad(tokens));
     };
-    if first.sort().is_word() {
-        Ok((first, rest))
-    } else {
-        Err(Stopped::Bad(tokens))
-    }
-}
-
-/// A word that may be the name of a type, and the tokens after it.
-pub(crate) fn expect_type_name(tokens: &[Token]) -> Result<(&Token, &[Token]), Stopped<'_>>
-    ensures read { (s : State) (next : Token → State) → Wants s (λ t. is_type_name (sort t)) next → Goes result (λ r. run r.1.now (next r.0.now)) (run tokens.now s) }
-    ensures shorter { IfOk result (λ r. length r.1.now < length tokens.now) }
-{
-    let Some((first, rest)) = cut(tokens) else {
-        return Err(Stopped::Bad(tokens));
-    };
-    if first.sort().is_type_name() {
-        Ok((first, rest))
-    } else {
-        Err(Stopped::Bad(tokens))
-    }
-}
-
-/// `:` or `?`, and the tokens after it.
-pub(crate) fn expect_mark(tokens: &[Token]) -> Result<(&Token, &[Token]), Stopped<'_>>
-    ensures read { (s : State) (next : Token → State) → Wants s (λ t. is_mark (sort t)) next → Goes result (λ r. run r.1.now (next r.0.now)) (run tokens.now s) }
-    ensures shorter { IfOk result (λ r. length r.1.now < length tokens.now) }
-{
-    let Some((first, rest)) = cut(tokens) else {
-        return Err(Stopped::Bad(tokens));
-    };
-    if Sort::Colon.is(first.sort()) || Sort::Question.is(first.sort()) {
-        Ok((first, rest))
-    } else {
-        Err(Stopped::Bad(tokens))
-    }
-}
-
-/// `=` or `?=`, and the tokens after it.
-pub(crate) fn expect_setting(tokens: &[Token]) -> Result<(&Token, &[Token]), Stopped<'_>>
-    ensures read { (s : State) (next : Token → State) → Wants s (λ t. is_setting (sort t)) next → Goes result (λ r. run r.1.now (next r.0.now)) (run tokens.now s) }
-    ensures shorter { IfOk result (λ r. length r.1.now < length tokens.now) }
-{
-    let Some((first, rest)) = cut(tokens) else {
-        return Err(Stopped::Bad(tokens));
-    };
-    if Sort::Assign.is(first.sort()) || Sort::ConditionalAssign.is(first.sort()) {
+    if expected.takes(first.sort()) {
         Ok((first, rest))
     } else {
         Err(Stopped::Bad(tokens))

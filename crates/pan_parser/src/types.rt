@@ -1,4 +1,7 @@
 ghost use Rattle.std.specs.Prelude.{◌≡◌, ◌<◌, ◌≤◌, [], ◌∷◌, ◌++◌, suc, Bool, true, false, IfOk, List, MatchOption, Option, length, map};
+ghost use Rattle.base.specs.declared.limits.TheConstants.{MAX_NESTING};
+ghost use Rattle.pan_ast.specs.Pointers.{field_pointers, fields_pointers, full_pointers, head_pointers, option_pointers, test_pointers, type_pointers};
+ghost use Rattle.pan_parser.specs.Room.{Within};
 ghost use Rattle.pan_ast.specs.declared.sort.Sort.TheVariants.{CloseBrace};
 ghost use Rattle.pan_ast.specs.Seen.{option_seen};
 ghost use Rattle.pan_ast.specs.Syntax.{Item as Seen};
@@ -15,8 +18,9 @@ use crate::bounds::{bounds, suffixes};
 use crate::items::item;
 use crate::stopped::Stopped;
 use crate::tables::starts_type;
-use crate::tokens::{cut, expect, expect_mark, expect_type_name, next_is};
+use crate::tokens::{Expected, cut, expect, next_is};
 use base::Text;
+use base::limits::MAX_NESTING;
 use pan_ast::make_types::{
     make_choice, make_field, make_full, make_include, make_named, make_record, make_type,
 };
@@ -41,12 +45,13 @@ fn key_of(alloc: Global, token: &Token) -> Result<Option<Key>, AllocError>
 /// After a type: its default, where `=` follows.
 fn default_of(
     alloc: Global,
-    depth: u8,
+    depth: usize,
     tokens: &[Token],
 ) -> Result<(Option<Item>, &[Token]), Stopped<'_>>
-    requires { depth ≤ 100 }
+    requires { depth ≤ MAX_NESTING }
     ensures read { (f : Formed) (s : FullStack) → full_holders s ≡ depth → Goes result (λ r. on_front (has_default f (option_seen r.0) s) r.1.now) (on_front (has_form f s) tokens.now) }
     ensures shorter { IfOk result (λ r. length r.1.now ≤ length tokens.now) }
+    ensures pointers { IfOk result (λ r. Within 0 depth (option_pointers r.0)) }
 {
     let Some(after) = next_is(Sort::Assign, tokens) else {
         return Ok((None, tokens));
@@ -58,12 +63,13 @@ fn default_of(
 /// After a type and its default: its test, where `with` follows.
 fn test_of(
     alloc: Global,
-    depth: u8,
+    depth: usize,
     tokens: &[Token],
 ) -> Result<(Option<Item>, &[Token]), Stopped<'_>>
-    requires { depth ≤ 100 }
+    requires { depth ≤ MAX_NESTING }
     ensures read { (f : Formed) (e : Option Seen) (s : FullStack) → full_holders s ≡ depth → Goes result (λ r. on_front (has_full s (Full f e (option_seen r.0))) r.1.now) (on_front (has_default f e s) tokens.now) }
     ensures shorter { IfOk result (λ r. length r.1.now ≤ length tokens.now) }
+    ensures pointers { IfOk result (λ r. Within 1 depth (test_pointers r.0)) }
 {
     let Some(after) = next_is(Sort::With, tokens) else {
         return Ok((None, tokens));
@@ -75,13 +81,15 @@ fn test_of(
 /// After a type's head and suffixes.
 fn whole_type(
     alloc: Global,
-    depth: u8,
+    depth: usize,
     form: TypeForm,
     tokens: &[Token],
 ) -> Result<(FullType, &[Token]), Stopped<'_>>
-    requires { depth ≤ 100 }
+    requires room { depth ≤ MAX_NESTING }
+    requires form { Within 1 depth (type_pointers form) }
     ensures read { (s : FullStack) → full_holders s ≡ depth → Goes result (λ r. on_front (has_full s (full_seen r.0)) r.1.now) (on_front (has_form (type_seen form) s) tokens.now) }
     ensures shorter { IfOk result (λ r. length r.1.now ≤ length tokens.now) }
+    ensures pointers { IfOk result (λ r. Within 1 depth (full_pointers r.0)) }
 {
     let (default, rest) = default_of(alloc, depth, tokens)?;
     let (test, rest) = test_of(alloc, depth, rest)?;
@@ -92,9 +100,10 @@ fn whole_type(
 fn choice(alloc: Global, tokens: &[Token]) -> Result<(Head, &[Token]), Stopped<'_>>
     ensures read { (s : FullStack) → Goes result (λ r. run r.1.now (HasHead (head_seen r.0) [] s)) (run tokens.now (choice_read s)) }
     ensures shorter { IfOk result (λ r. length r.1.now < length tokens.now) }
+    ensures pointers { IfOk result (λ r. head_pointers r.0 ≡ 1) }
 {
-    let (_, rest) = expect(Sort::Open, tokens)?;
-    let (first, rest) = expect(Sort::Text, rest)?;
+    let (_, rest) = expect(Expected::Sort(Sort::Open), tokens)?;
+    let (first, rest) = expect(Expected::Sort(Sort::Text), rest)?;
     let mut texts = Vec::new(alloc);
     texts.push(first.value().share()?)?;
     let (texts, rest) = more_texts(texts, rest)?;
@@ -115,7 +124,7 @@ fn more_texts(texts: Vec<Text>, tokens: &[Token]) -> Result<(Vec<Text>, &[Token]
             };
             return Ok((texts, after));
         };
-        let (text, more) = expect(Sort::Text, after)?;
+        let (text, more) = expect(Expected::Sort(Sort::Text), after)?;
         texts.push(text.value().share()?)?;
         rest = more;
     }
@@ -125,6 +134,7 @@ fn more_texts(texts: Vec<Text>, tokens: &[Token]) -> Result<(Vec<Text>, &[Token]
 fn named<'a>(name: &Token, tokens: &'a [Token]) -> Result<(Head, &'a [Token]), Stopped<'a>>
     ensures read { (s : FullStack) → Goes result (λ r. run r.1.now (HasHead (head_seen r.0) [] s)) (run tokens.now (NameRead name.now s)) }
     ensures shorter { IfOk result (λ r. length r.1.now ≤ length tokens.now) }
+    ensures pointers { IfOk result (λ r. head_pointers r.0 ≡ 0) }
 {
     let Some(after) = next_is(Sort::Open, tokens) else {
         return Ok((make_named(name.place(), name.value(), None)?, tokens));
@@ -133,9 +143,9 @@ fn named<'a>(name: &Token, tokens: &'a [Token]) -> Result<(Head, &'a [Token]), S
     Ok((make_named(name.place(), name.value(), Some(bounds))?, rest))
 }
 
-/// The fault where a type is wanted that 100 constructs would hold.
+/// The fault where a type is wanted that as many constructs would hold as may.
 fn at_limit(tokens: &[Token]) -> Stopped<'_>
-    ensures { (s : FullStack) → full_holders s ≡ 100 → Fails result (run tokens.now (NeedFull s)) }
+    ensures { (s : FullStack) → full_holders s ≡ MAX_NESTING → Fails result (run tokens.now (NeedFull s)) }
 {
     let Some((first, _)) = cut(tokens) else {
         return Stopped::Bad(tokens);
@@ -151,14 +161,15 @@ fn at_limit(tokens: &[Token]) -> Stopped<'_>
 #[cycle(types)]
 pub(crate) fn full_type(
     alloc: Global,
-    depth: u8,
+    depth: usize,
     tokens: &[Token],
 ) -> Result<(FullType, &[Token]), Stopped<'_>>
-    requires { depth ≤ 100 }
+    requires { depth ≤ MAX_NESTING }
     ensures read { (s : FullStack) → full_holders s ≡ depth → Goes result (λ r. on_front (has_full s (full_seen r.0)) r.1.now) (run tokens.now (NeedFull s)) }
     ensures shorter { IfOk result (λ r. length r.1.now < length tokens.now) }
+    ensures pointers { IfOk result (λ r. Within 1 depth (full_pointers r.0)) }
 {
-    if depth == 100 {
+    if depth == MAX_NESTING {
         return Err(at_limit(tokens));
     }
     let (head, rest) = head(alloc, depth, tokens)?;
@@ -168,27 +179,28 @@ pub(crate) fn full_type(
 
 /// A type without suffixes. A record is a construct beside its type.
 #[cycle(types)]
-fn head(alloc: Global, depth: u8, tokens: &[Token]) -> Result<(Head, &[Token]), Stopped<'_>>
-    requires { depth < 100 }
+fn head(alloc: Global, depth: usize, tokens: &[Token]) -> Result<(Head, &[Token]), Stopped<'_>>
+    requires { depth < MAX_NESTING }
     ensures read { (s : FullStack) → full_holders s ≡ depth → Goes result (λ r. run r.1.now (HasHead (head_seen r.0) [] s)) (run tokens.now (NeedFull s)) }
     ensures shorter { IfOk result (λ r. length r.1.now < length tokens.now) }
+    ensures pointers { IfOk result (λ r. Within 1 depth (head_pointers r.0)) }
 {
     let Some((first, rest)) = cut(tokens) else {
         return Err(Stopped::Bad(tokens));
     };
     match first.sort() {
         Sort::OpenBrace => {
-            if depth == 99 {
+            if depth + 1 == MAX_NESTING {
                 return Err(Stopped::Deep(tokens));
             }
             let (fields, rest) = fields(alloc, depth + 2, rest)?;
             Ok((make_record(false, fields), rest))
         }
         Sort::Extensible => {
-            if depth == 99 {
+            if depth + 1 == MAX_NESTING {
                 return Err(Stopped::Deep(tokens));
             }
-            let (_, rest) = expect(Sort::OpenBrace, rest)?;
+            let (_, rest) = expect(Expected::Sort(Sort::OpenBrace), rest)?;
             let (fields, rest) = fields(alloc, depth + 2, rest)?;
             Ok((make_record(true, fields), rest))
         }
@@ -203,11 +215,13 @@ fn head(alloc: Global, depth: u8, tokens: &[Token]) -> Result<(Head, &[Token]), 
 }
 
 /// After `{`: the fields through `}`.
+#[tactic(auto, using(pan_ast::proofs::Pointers::fields_push))]
 #[cycle(types)]
-fn fields(alloc: Global, depth: u8, tokens: &[Token]) -> Result<(Vec<Field>, &[Token]), Stopped<'_>>
-    requires { depth ≤ 100 }
+fn fields(alloc: Global, depth: usize, tokens: &[Token]) -> Result<(Vec<Field>, &[Token]), Stopped<'_>>
+    requires { depth ≤ MAX_NESTING }
     ensures read { (e : Bool) (s : FullStack) → suc (suc (full_holders s)) ≡ depth → Goes result (λ r. run r.1.now (HasHead (recorded e (map field_seen r.0.items)) [] s)) (run tokens.now (FieldsOpen e [] s)) }
     ensures shorter { IfOk result (λ r. length r.1.now < length tokens.now) }
+    ensures pointers { IfOk result (λ r. Within 1 depth (fields_pointers r.0.items)) }
 {
     let mut fields = Vec::new(alloc);
     let mut rest = tokens;
@@ -222,17 +236,18 @@ fn fields(alloc: Global, depth: u8, tokens: &[Token]) -> Result<(Vec<Field>, &[T
 }
 
 #[cycle(types)]
-fn field(alloc: Global, depth: u8, tokens: &[Token]) -> Result<(Field, &[Token]), Stopped<'_>>
-    requires room { depth ≤ 100 }
+fn field(alloc: Global, depth: usize, tokens: &[Token]) -> Result<(Field, &[Token]), Stopped<'_>>
+    requires room { depth ≤ MAX_NESTING }
     requires open { NotAt CloseBrace tokens.now }
     ensures read { (e : Bool) (fs : List Shown) (s : FullStack) → suc (suc (full_holders s)) ≡ depth → Goes result (λ r. run r.1.now (FieldsOpen e (fs ++ field_seen r.0 ∷ []) s)) (run tokens.now (FieldsOpen e fs s)) }
     ensures shorter { IfOk result (λ r. length r.1.now < length tokens.now) }
+    ensures pointers { IfOk result (λ r. Within 1 depth (field_pointers r.0)) }
 {
     let Some((first, rest)) = cut(tokens) else {
         return Err(Stopped::Bad(tokens));
     };
     if Sort::Include.is(first.sort()) {
-        let (name, rest) = expect_type_name(rest)?;
+        let (name, rest) = expect(Expected::TypeName, rest)?;
         return Ok((
             make_include(first.place(), name.value(), name.place())?,
             rest,
@@ -241,7 +256,7 @@ fn field(alloc: Global, depth: u8, tokens: &[Token]) -> Result<(Field, &[Token])
     let Some(key) = key_of(alloc, first)? else {
         return Err(Stopped::Bad(tokens));
     };
-    let (mark, rest) = expect_mark(rest)?;
+    let (mark, rest) = expect(Expected::Mark, rest)?;
     let (full, rest) = full_type(alloc, depth, rest)?;
     let required = Sort::Colon.is(mark.sort());
     Ok((make_field(first.place(), key, required, full)?, rest))

@@ -12,6 +12,7 @@ use Rattle.pan_grammar.specs.States.{AtClose, AtSemicolon, Braces, Chained, Clos
 use Rattle.pan_parser.specs.Answers.{indexed, op_seen}
 use Rattle.pan_grammar.proofs.Firsts.{NotQuoted}
 use Rattle.pan_parser.proofs.Turns.{assign_turns, at_operand, at_zero, below, block_goes_on, chain_end, chain_fails, chain_init, chain_next, chain_turns, chained, down_holders, else_turns, fails_along, first_fails, goes_along, in_block, index_turns, item_call, last_argument, last_done, last_of_block, line_above, no_else, one_more, parens_turn, pushed_seen, reference_index, reference_pushed, sign_turns, signed_done}
+use Rattle.pan_ast.proofs.Pointers.{items_push}
 use Rattle.pan_parser.proofs.+items.Goals as goal
 
 pub chains::arguments-returns-in_err-rest-clause-read : goal.chains::arguments-returns-in_err-rest-clause-read
@@ -57,7 +58,7 @@ chains::chain-returns-in_err-left-clause-read t c =
 
 pub chains::chain-loop-operator-init : goal.chains::chain-loop-operator-init
 chains::chain-loop-operator-init t c =
-    (λ k e. chain_init c.args.depth c.args.tokens.now c.in_ok-left.rest.now (λ n. HasNode (node_seen c.args.first) n) (node_seen c.in_ok-left.left) c.args.line k e c.in_ok-left.ensures.read, omega arith, c.in_ok-left.ensures.shorter)
+    (λ k e. chain_init c.args.depth c.args.tokens.now c.in_ok-left.rest.now (λ n. HasNode (node_seen c.args.first) n) (node_seen c.in_ok-left.left) c.args.line k e c.in_ok-left.ensures.read, omega arith, c.in_ok-left.ensures.shorter, omega (arith, c.in_ok-left.ensures.pointers))
 
 pub chains::chain-returns-in_err-right-clause-read : goal.chains::chain-returns-in_err-right-clause-read
 chains::chain-returns-in_err-right-clause-read t c =
@@ -70,9 +71,10 @@ chains::chain-returns-in_err-right-clause-read t c =
 pub chains::chain-loop-operator-preserved : goal.chains::chain-loop-operator-preserved
 chains::chain-loop-operator-preserved t c =
     let l = c.loop-operator in (
-      λ k e. chain_next c.args.depth c.args.tokens.now l.rest.now c.in-Some.after.now c.in_ok-right.more.now (λ n. HasNode (node_seen c.args.first) n) (node_seen l.left) (node_seen c.in_ok-right.right) (node_seen c.in_ok-left-2.left) (op_seen c.in-Some.operator) c.args.line k e (l.invariant.0 k e) c.in-Some.ensures c.in_ok-right.ensures.read c.in_ok-left-2.ensures,
+      λ k e. chain_next c.args.depth c.args.tokens.now l.rest.now c.in-Some.after.now c.in_ok-right.more.now (λ n. HasNode (node_seen c.args.first) n) (node_seen l.left) (node_seen c.in_ok-right.right) (node_seen c.in_ok-left-2.left) (op_seen c.in-Some.operator) c.args.line k e (l.invariant.0 k e) c.in-Some.ensures c.in_ok-right.ensures.read c.in_ok-left-2.ensures.seen,
       l.invariant.1,
       omega (arith, ap length c.in-Some.ensures.1, c.in_ok-right.ensures.shorter, l.invariant.2),
+      omega (arith, c.in_ok-right.ensures.pointers, c.in_ok-left-2.ensures.pointers, l.invariant.1, l.invariant.3),
     )
 
 pub chains::chain-returns-clause-read : goal.chains::chain-returns-clause-read
@@ -87,7 +89,7 @@ chains::chain_item-returns-clause-read t c = λ s h.
     let r = c.in_ok-node in
     r.ensures.read (Chained s) h
     ∙ chained r.rest.now (node_seen r.node) s
-    ∙ ap (λ i. run r.rest.now (HasItem i s)) (sym c.in_ok-make_plain.ensures)
+    ∙ ap (λ i. run r.rest.now (HasItem i s)) (sym c.in_ok-make_plain.ensures.seen)
 
 pub chains::indexes-returns-in_err-rest-clause-read : goal.chains::indexes-returns-in_err-rest-clause-read
 chains::indexes-returns-in_err-rest-clause-read t c = λ n h.
@@ -110,8 +112,9 @@ chains::indexes-loop-after-preserved t c =
           ∙ index_turns l.rest.now c.in-Some.after.now x n c.in-Some.ensures
           ∙ c.in_ok-index.ensures.read (InIndex x n) h
           ∙ c.in_ok-rest.ensures.read (HasItem i (InIndex x n)) (λ t. HasPrimary (index x i) n) (refl, λ t. refl, λ t. refl)
-          ∙ ap (λ v. run c.in_ok-rest.field-0-1.now (HasPrimary v n)) (sym c.in_ok-whole.ensures),
+          ∙ ap (λ v. run c.in_ok-rest.field-0-1.now (HasPrimary v n)) (sym c.in_ok-whole.ensures.seen),
       omega (arith, ap length c.in-Some.ensures.1, c.in_ok-index.ensures.shorter, c.in_ok-rest.ensures.shorter, l.invariant.1),
+      omega (arith, c.in_ok-index.ensures.pointers, c.in_ok-whole.ensures.pointers, l.invariant.2),
     )
 
 pub chains::operand-returns-in_err-first-clause-read : goal.chains::operand-returns-in_err-first-clause-read
@@ -174,6 +177,7 @@ chains::reference_indexes-loop-after-preserved t c =
           ∙ c.in_ok-rest.ensures.read (HasItem i (InReference w is x s)) (λ t. HasReference w (is ++ i ∷ []) (index x i) s) (refl, λ t. refl, λ t. refl)
           ∙ reference_pushed c.in_ok-rest.field-0-1.now w is (map item_seen c.push.new.self.items) i s (pushed_seen _ _ _ c.in_ok-push.ensures.items),
       omega (arith, ap length c.in-Some.ensures.1, c.in_ok-index.ensures.shorter, c.in_ok-rest.ensures.shorter, l.invariant.1),
+      omega (arith, c.in_ok-index.ensures.pointers, items_push _ _ _ c.in_ok-push.ensures.items, l.invariant.2),
     )
 
 pub chains::unary-returns-in_err-node-2-clause-read : goal.chains::unary-returns-in_err-node-2-clause-read
@@ -249,6 +253,7 @@ items::block_items-loop-after-preserved t c =
           ∙ c.in_ok-next.ensures.read (InBlock q is s) h
           ∙ block_goes_on c.in_ok-next.more.now c.in-Some-next_is.after.now q is new i s c.in-Some-next_is.ensures (pushed_seen _ _ _ c.in_ok-push.ensures.items),
       omega (arith, ap length c.in-Some-next_is.ensures.1, c.in_ok-next.ensures.shorter, l.invariant.1),
+      omega (arith, c.in_ok-next.ensures.pointers, items_push _ _ _ c.in_ok-push.ensures.items, l.invariant.2),
     )
 
 pub items::while_item-returns-in_err-rest-clause-read : goal.items::while_item-returns-in_err-rest-clause-read
@@ -284,7 +289,7 @@ items::while_item-returns-clause-read t c = λ s h.
     ∙ c.in_ok-condition.ensures.read AtClose (λ x. Last (λ b. nodes.While q x b)) s refl h
     ∙ c.in_ok-body.ensures.read (InParts (Last (λ b. nodes.While q x b)) s) h
     ∙ last_done r.rest.now (λ b. nodes.While q x b) (item_seen r.body.value) s
-    ∙ ap (λ i. run r.rest.now (HasItem i s)) (sym c.in_ok-make_while.ensures)
+    ∙ ap (λ i. run r.rest.now (HasItem i s)) (sym c.in_ok-make_while.ensures.seen)
 
 pub items::for_item-returns-in_err-rest-clause-read : goal.items::for_item-returns-in_err-rest-clause-read
 items::for_item-returns-in_err-rest-clause-read t c = λ s h.
@@ -349,7 +354,7 @@ items::for_item-returns-clause-read t c = λ s h.
     ∙ c.in_ok-step.ensures.read AtClose (λ m. Last (λ b. nodes.For q a x m b)) s refl h
     ∙ c.in_ok-body.ensures.read (InParts (Last (λ b. nodes.For q a x m b)) s) h
     ∙ last_done r.rest.now (λ b. nodes.For q a x m b) (item_seen r.body.value) s
-    ∙ ap (λ i. run r.rest.now (HasItem i s)) (sym c.in_ok-make_for.ensures)
+    ∙ ap (λ i. run r.rest.now (HasItem i s)) (sym c.in_ok-make_for.ensures.seen)
 
 pub items::foreach_item-returns-in_err-key-clause-read : goal.items::foreach_item-returns-in_err-key-clause-read
 items::foreach_item-returns-in_err-key-clause-read t c = λ s h.
@@ -426,7 +431,7 @@ items::if_item-returns-in_default-clause-read t c = λ s h.
     ∙ c.in_ok-condition.ensures.read AtClose (λ x. MayElse (λ a b. choice q x a b)) s refl h
     ∙ c.in_ok-then.ensures.read (InParts (MayElse (λ a b. choice q x a b)) s) h
     ∙ no_else c.in_ok-then.rest.now (λ a b. choice q x a b) a s c.in_default.ensures
-    ∙ ap (λ i. run c.in_ok-then.rest.now (HasItem i s)) (sym c.in_ok-make_if.ensures)
+    ∙ ap (λ i. run c.in_ok-then.rest.now (HasItem i s)) (sym c.in_ok-make_if.ensures.seen)
 
 pub items::if_item-returns-in_err-otherwise-clause-read : goal.items::if_item-returns-in_err-otherwise-clause-read
 items::if_item-returns-in_err-otherwise-clause-read t c = λ s h.
@@ -453,7 +458,7 @@ items::if_item-returns-clause-read t c = λ s h.
     ∙ else_turns c.in_ok-then.rest.now c.in-Some.after.now (λ a b. choice q x a b) a s c.in-Some.ensures
     ∙ r.ensures.read (InParts (Last (λ b. choice q x a (Some b))) s) h
     ∙ last_done r.rest.now (λ b. choice q x a (Some b)) (item_seen r.otherwise.value) s
-    ∙ ap (λ i. run r.rest.now (HasItem i s)) (sym c.in_ok-make_if_else.ensures)
+    ∙ ap (λ i. run r.rest.now (HasItem i s)) (sym c.in_ok-make_if_else.ensures.seen)
 
 pub items::item_before-returns-in_err-rest-clause-read : goal.items::item_before-returns-in_err-rest-clause-read
 items::item_before-returns-in_err-rest-clause-read t c = λ k make s e h.
@@ -479,6 +484,7 @@ items::item-returns-in_err-node-in_default-sort t c =
     record {
       read = λ s h. rw (p.1, p.2) (fails_along c.in_err-node-in_default-sort.field-0.0 _ _ (chain_turns ts first c.in-Some.rest.now s c.in-Some.ensures other e (below (holders s) c.args.depth h c.requires c.if-depth-eq100.false)) (c.in_err-node-in_default-sort.ensures.read (down 9 (Chained s)) (one_more (holders s) c.args.depth h)));
       shorter = rw p.1 tt;
+      pointers = rw p.1 tt;
     }
 
 pub items::item-returns-in_ok-node-in_default-sort : goal.items::item-returns-in_ok-node-in_default-sort
@@ -491,6 +497,7 @@ items::item-returns-in_ok-node-in_default-sort t c =
     record {
       read = λ s h. goes_along c.chain_item.result _ _ _ (chain_turns ts first c.in-Some.rest.now s c.in-Some.ensures other e (below (holders s) c.args.depth h c.requires c.if-depth-eq100.false) ∙ r.ensures.read (down 9 (Chained s)) (one_more (holders s) c.args.depth h)) (c.chain_item.ensures.read s (one_more (holders s) c.args.depth h));
       shorter = search rules;
+      pointers = search rules;
     }
 
 pub items::reference_item-returns-clause-read : goal.items::reference_item-returns-clause-read

@@ -17,4 +17,5 @@ returns-in_default c =
     record {
       read = λ h ss. goes_along c.setting_form-in_default.result _ _ _ (setting_turns c.args.tokens.now c.args.rest.now first h ss c.requires.parts c.requires.open (λ k. c.in_default.not-Final (c.sort.ensures ∙ k)) (λ k. c.in_default.not-Function (c.sort.ensures ∙ k)) (λ k. c.in_default.not-Type (c.sort.ensures ∙ k)) (λ k. c.in_default.not-Bind (c.sort.ensures ∙ k)) (λ k. c.in_default.not-Valid (c.sort.ensures ∙ k)) (λ k. c.in_default.not-Include (c.sort.ensures ∙ k)) (λ k. c.in_default.not-Prefix (c.sort.ensures ∙ k))) (c.setting_form-in_default.ensures.read first.place h ss);
       shorter = c.setting_form-in_default.ensures.shorter;
+      pointers = c.setting_form-in_default.ensures.pointers;
     }

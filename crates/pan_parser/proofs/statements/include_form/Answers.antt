@@ -44,5 +44,5 @@ returns-in_ok-make_block-in-OpenBrace-clause-read c = λ q h ss.
     let first = c.in-Some.first.now in
     let x : sort first ≡ sorts.OpenBrace = sym c.sort.ensures ∙ c.in-OpenBrace.is in
     let b = block first.place (map item_seen c.in_ok-items-in-OpenBrace.items.items) in
-    let m : form_seen c.include_statement-in-OpenBrace.result ≡ plain.Include b = c.include_statement-in-OpenBrace.ensures ∙ ap plain.Include (rw c.place-in-OpenBrace-2.ensures at c.in_ok-make_block-in-OpenBrace.ensures) in
+    let m : form_seen c.include_statement-in-OpenBrace.result ≡ plain.Include b = c.include_statement-in-OpenBrace.ensures.seen ∙ ap plain.Include (rw c.place-in-OpenBrace-2.ensures at c.in_ok-make_block-in-OpenBrace.ensures.seen) in
     block_included c.args.tokens.now c.in-Some.rest.now first q h ss c.in-Some.ensures x ∙ (rw c.place-in-OpenBrace.ensures at c.in_ok-items-in-OpenBrace.ensures.read (Out (StatementItem h ss (λ i. stated q (plain.Include i)))) refl) ∙ c.in_ok-rest-in-OpenBrace.ensures.read (HasItem b (Out (StatementItem h ss (λ i. stated q (plain.Include i))))) (λ t. Statements h (ss ++ stated q (plain.Include b) ∷ [])) (refl, λ t. refl, λ t. refl) ∙ ap (λ v. run c.in_ok-rest-in-OpenBrace.rest.now (Statements h (ss ++ stated q v ∷ []))) (sym m)

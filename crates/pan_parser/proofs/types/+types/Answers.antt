@@ -55,7 +55,7 @@ pub full_type-returns-clause-read : goal.full_type-returns-clause-read
 full_type-returns-clause-read t c = λ s h.
     let a = c.in_ok-head in
     let b = c.in_ok-suffixes in
-    goes_along c.whole_type.result _ _ _ (a.ensures.read s h ∙ b.ensures.read (head_seen a.head) s ∙ no_suffix b.rest.now (head_seen a.head) b.suffixes.items s b.ensures.ended ∙ ap (λ v. on_front (has_form v s) b.rest.now) (sym c.make_type.ensures)) (c.whole_type.ensures.read s h)
+    goes_along c.whole_type.result _ _ _ (a.ensures.read s h ∙ b.ensures.read (head_seen a.head) s ∙ no_suffix b.rest.now (head_seen a.head) b.suffixes.items s b.ensures.ended ∙ ap (λ v. on_front (has_form v s) b.rest.now) (sym c.make_type.ensures.seen)) (c.whole_type.ensures.read s h)
 
 pub head-returns-in_err-rest-in-Extensible-clause-read : goal.head-returns-in_err-rest-in-Extensible-clause-read
 head-returns-in_err-rest-in-Extensible-clause-read t c = λ s h.
@@ -76,4 +76,4 @@ head-returns-in_ok-fields-in-Extensible-clause-read t c = λ s h.
     let first = c.in-Some.first.now in
     let x : sort first ≡ sorts.Extensible = sym c.sort.ensures ∙ c.in-Extensible.is in
     let r = c.in_ok-fields-in-Extensible in
-    extensible_turns c.args.tokens.now c.in-Some.rest.now first s c.in-Some.ensures x (below_twice (full_holders s) c.args.depth h c.requires c.if-depth-eq99-2.false) ∙ c.in_ok-rest-in-Extensible.ensures.read (extensible_read s) (λ o. FieldsOpen true [] s) (refl, λ t. refl, λ t. refl) ∙ r.ensures.read true s (two_more (full_holders s) c.args.depth h) ∙ ap (λ v. run r.rest.now (HasHead v [] s)) (sym c.make_record-in-Extensible.ensures)
+    extensible_turns c.args.tokens.now c.in-Some.rest.now first s c.in-Some.ensures x (below_twice (full_holders s) c.args.depth h c.requires c.if-depth-eq99-2.false) ∙ c.in_ok-rest-in-Extensible.ensures.read (extensible_read s) (λ o. FieldsOpen true [] s) (refl, λ t. refl, λ t. refl) ∙ r.ensures.read true s (two_more (full_holders s) c.args.depth h) ∙ ap (λ v. run r.rest.now (HasHead v [] s)) (sym c.make_record-in-Extensible.ensures.seen)

@@ -25,4 +25,4 @@ pub returns-clause-read : goal.returns-clause-read
 returns-clause-read c = λ s.
     let e : c.push.new.self.items ≡ c.in_ok-first.first.now.value ∷ [] = search rules in
     let r = c.in_ok-texts in
-    c.in_ok-rest.ensures.read (choice_read s) (λ o. text_wanted [] s) (refl, λ t. refl, λ t. refl) ∙ c.in_ok-first.ensures.read (text_wanted [] s) (λ x. TextsOpen (x.value ∷ []) s) (refl, λ t. refl, λ t. refl) ∙ ap (λ v. run c.in_ok-first.rest.now (TextsOpen v s)) (sym e) ∙ r.ensures.read s ∙ ap (λ v. run r.rest.now (HasHead v [] s)) (sym c.make_choice.ensures)
+    c.in_ok-rest.ensures.read (choice_read s) (λ o. text_wanted [] s) (refl, λ t. refl, λ t. refl) ∙ c.in_ok-first.ensures.read (text_wanted [] s) (λ x. TextsOpen (x.value ∷ []) s) (refl, λ t. refl, λ t. refl) ∙ ap (λ v. run c.in_ok-first.rest.now (TextsOpen v s)) (sym e) ∙ r.ensures.read s ∙ ap (λ v. run r.rest.now (HasHead v [] s)) (sym c.make_choice.ensures.seen)

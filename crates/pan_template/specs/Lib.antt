@@ -1,0 +1,2 @@
+-- What a stranger has to believe.
+pub mod TemplateOf
