@@ -3,12 +3,9 @@ use Rattle.std.specs.Prelude.{◌≡◌, ℕ, List, [], ◌∷◌, ◌++◌, Res
 use Rattle.base.specs.declared.limits.TheConstants.{MAX_TEXT_BYTES, MAX_DETAIL_CHARACTERS}
 use Rattle.pan_ast.specs.Detail.{first_chars}
 use Rattle.pan_ast.specs.declared.place.Place.{Place}
-use Rattle.pan_ast.specs.declared.token.Token.{Token}
 use Rattle.pan_ast.specs.declared.fault.Fault.{Fault}
 use Rattle.pan_ast.specs.declared.fault.Code.TheVariants as code
 use Rattle.pan_ast.specs.Templates.{Template}
-use Rattle.pan_lexer.specs.Lexed.{lexed_file}
-use Rattle.pan_grammar.specs.Parsed.{parsed}
 use Rattle.path_tree.specs.Plain.{Plain, dict, no_fields}
 use Rattle.path_tree.specs.Plain as plain
 use Rattle.path_tree.specs.Put.{put}
@@ -20,8 +17,9 @@ use Rattle.pan_top.specs.declared.statements.Literal.{Literal}
 use Rattle.pan_top.specs.declared.statements.Literal.TheVariants as literal
 use Rattle.pan_top.specs.declared.compile.Outcome.{Outcome}
 use Rattle.pan_top.specs.declared.compile.Outcome.TheVariants as outcome
-use Rattle.pan_top.specs.declared.compile.CompileError.{CompileError}
-use Rattle.pan_top.specs.declared.compile.CompileError.TheVariants as errors
+use Rattle.pan_ast.specs.declared.failure.Failure.{Failure}
+use Rattle.pan_ast.specs.declared.failure.Failure.TheVariants as failures
+use Rattle.pan_template.specs.TemplateOf.{template_of}
 use Rattle.pan_top.specs.Statements.{Read, assignments}
 
 -- a text over 1,000,000 bytes is too large for a tree
@@ -87,14 +85,6 @@ abbrev pub tree_of_parsed : List ℕ → Result Template Fault → Result Plain 
 tree_of_parsed name (Ok z) = tree_of_template name z
 tree_of_parsed name (Err fault) = Err fault
 
--- the template of a text, from the file of this name
-abbrev pub parsed_tokens : Result (List Token) Fault → Result Template Fault
-parsed_tokens (Ok tokens) = parsed tokens
-parsed_tokens (Err fault) = Err fault
-
-abbrev pub template_of : List ℕ → List ℕ → Result Template Fault
-template_of file text = parsed_tokens (lexed_file file text)
-
 -- an object's template is in the file of its name
 abbrev pub file_of : List ℕ → List ℕ
 file_of name = name ++ codes ".pan"
@@ -115,6 +105,6 @@ abbrev pub outcome_of : List ℕ → List ℕ → Outcome
 outcome_of name text = outcome_with name (tree_of name text)
 
 -- an error other than want of memory is the fault
-abbrev pub IsFault : {A : Type 0} → Result A Fault → CompileError → Type 0
-IsFault made (errors.Fault fault) = made ≡ Err fault
-IsFault made errors.Memory = Unit {0}
+abbrev pub IsFault : {A : Type 0} → Result A Fault → Failure → Type 0
+IsFault made (failures.Fault fault) = made ≡ Err fault
+IsFault made failures.Memory = Unit {0}

@@ -3,18 +3,18 @@ ghost use Rattle.base.specs.declared.limits.TheConstants.{MAX_FILE_BYTES};
 ghost use Rattle.pan_ast.specs.TemplatesSeen.{statement_seen, template_seen};
 ghost use Rattle.path_tree.specs.Plain.{Plain};
 ghost use Rattle.path_tree.specs.Plain as plain;
+ghost use Rattle.pan_template.specs.TemplateOf.{template_of};
 ghost use Rattle.pan_top.specs.Statements.{Read, assignments, IsRefused};
-ghost use Rattle.pan_top.specs.Objects.{literal_tree, fault_of, put_at, assigned, tree_of_read, tree_of_template, template_of, tree_of, file_of, outcome_of, dependencies_of, IsFault};
-ghost use Rattle.pan_top.specs.declared.compile.CompileError.TheVariants.{Memory};
+ghost use Rattle.pan_top.specs.Objects.{literal_tree, fault_of, put_at, assigned, tree_of_read, tree_of_template, tree_of, file_of, outcome_of, dependencies_of, IsFault};
 
 use crate::statements::{Assignment, Literal, Unbuilt, assignments, built};
 use base::{Bytes, Text};
 use json_profile::profile_text;
-use pan_ast::{Code, Fault, Place, Statement, Template};
-use pan_lexer::{LexError, lex};
-use pan_parser::{ParseError, parse};
+use pan_ast::{Code, Failure, Fault, Place, Statement, Template};
+use pan_lexer::lex;
+use pan_parser::parse;
 use path_tree::{PutError, Refused, Tree};
-use std::alloc::{AllocError, AllocFailed, Global};
+use std::alloc::{AllocError, Global};
 
 /// What compiling an object gives.
 #[derive(Drop)]
@@ -22,29 +22,6 @@ pub enum Outcome {
     /// The bytes of its profile, and of its dependency file.
     Profile(Bytes, Bytes),
     Fault(Fault),
-}
-
-/// Why an object has no profile.
-#[derive(Drop)]
-pub enum CompileError {
-    Fault(Fault),
-    Memory,
-}
-
-impl From<AllocError> for CompileError {
-    ghost from_gives = { λ _ e. e ≡ Memory };
-
-    fn from(_e: AllocError) -> CompileError {
-        CompileError::Memory
-    }
-}
-
-impl<T: Drop> From<AllocFailed<T>> for CompileError {
-    ghost from_gives = { λ _ e. e ≡ Memory };
-
-    fn from(_e: AllocFailed<T>) -> CompileError {
-        CompileError::Memory
-    }
 }
 
 /// The tree of a literal. A text may be too large for one.
@@ -86,14 +63,14 @@ fn fault_of(alloc: Global, assignment: &Assignment, refusal: PutError) -> Result
 }
 
 /// Puts the value of an assignment into the tree.
-fn assign(alloc: Global, tree: &mut Tree, assignment: &Assignment) -> Result<(), CompileError>
+fn assign(alloc: Global, tree: &mut Tree, assignment: &Assignment) -> Result<(), Failure>
     ensures ok { OnOk result (assigned assignment.now tree.old ≡ Ok tree.new) }
     ensures err { IfErr result (IsFault (assigned assignment.now tree.old)) }
 {
     match put(alloc, tree, assignment) {
         Ok(()) => Ok(()),
-        Err(PutError::Memory) => Err(CompileError::Memory),
-        Err(refusal) => Err(CompileError::Fault(fault_of(alloc, assignment, refusal)?)),
+        Err(PutError::Memory) => Err(Failure::Memory),
+        Err(refusal) => Err(Failure::Fault(fault_of(alloc, assignment, refusal)?)),
     }
 }
 
@@ -105,23 +82,16 @@ fn put(alloc: Global, tree: &mut Tree, assignment: &Assignment) -> Result<(), Pu
     tree.put(alloc, assignment.terms.as_slice(), value)
 }
 
-/// A fault of this kind without a detail.
-fn fault_at(alloc: Global, code: Code, place: Place) -> Result<Fault, AllocError>
-    ensures { IfOk result (λ f. f ≡ record { code = code; place = place; detail = [] }) }
-{
-    Fault::new(alloc, code, place, "")
-}
-
 /// The fault of a construct that is not built.
-fn not_built(alloc: Global, unbuilt: Unbuilt) -> CompileError
+fn not_built(alloc: Global, unbuilt: Unbuilt) -> Failure
     ensures { (read : Read (List Assignment)) (tree : Plain) → IsRefused read unbuilt → IsFault (tree_of_read read tree) result }
 {
     match unbuilt {
-        Unbuilt::At(place) => match fault_at(alloc, Code::NotSupported, place) {
-            Ok(fault) => CompileError::Fault(fault),
-            Err(AllocError) => CompileError::Memory,
+        Unbuilt::At(place) => match Fault::at(alloc, Code::NotSupported, place) {
+            Ok(fault) => Failure::Fault(fault),
+            Err(AllocError) => Failure::Memory,
         },
-        Unbuilt::Memory => CompileError::Memory,
+        Unbuilt::Memory => Failure::Memory,
     }
 }
 
@@ -132,7 +102,7 @@ fn assign_first(
     tree: &mut Tree,
     statement: &Statement,
     later: &[Statement],
-) -> Result<(), CompileError>
+) -> Result<(), Failure>
     ensures ok { OnOk result (tree_of_read (assignments (statement_seen statement.now ∷ map statement_seen later.now)) tree.old ≡ tree_of_read (assignments (map statement_seen later.now)) tree.new) }
     ensures err { IfErr result (IsFault (tree_of_read (assignments (statement_seen statement.now ∷ map statement_seen later.now)) tree.old)) }
 {
@@ -150,7 +120,7 @@ fn assign_first(
 }
 
 /// The tree after statements in order.
-fn tree_of_statements(alloc: Global, statements: &[Statement]) -> Result<Tree, CompileError>
+fn tree_of_statements(alloc: Global, statements: &[Statement]) -> Result<Tree, Failure>
     ensures ok { IfOk result (λ t. tree_of_read (assignments (map statement_seen statements.now)) (plain.dict plain.no_fields) ≡ Ok t) }
     ensures err { IfErr result (IsFault (tree_of_read (assignments (map statement_seen statements.now)) (plain.dict plain.no_fields))) }
 {
@@ -164,37 +134,37 @@ fn tree_of_statements(alloc: Global, statements: &[Statement]) -> Result<Tree, C
 }
 
 /// The tree of an object with this template.
-fn tree_of_template(alloc: Global, name: &str, template: &Template) -> Result<Tree, CompileError>
+fn tree_of_template(alloc: Global, name: &str, template: &Template) -> Result<Tree, Failure>
     ensures ok { IfOk result (λ t. tree_of_template name.now (template_seen template.now) ≡ Ok t) }
     ensures err { IfErr result (IsFault (tree_of_template name.now (template_seen template.now))) }
 {
     if template.name.as_str() != name {
         let place = template.name_place.share()?;
-        return Err(CompileError::Fault(Fault::new(alloc, Code::WrongTemplate, place, name)?));
+        return Err(Failure::Fault(Fault::new(alloc, Code::WrongTemplate, place, name)?));
     }
     tree_of_statements(alloc, &template.statements)
 }
 
 /// The template of a text, from the file of this name.
-fn template_of(alloc: Global, file: &Text, text: &[u8]) -> Result<Template, CompileError>
+fn template_of(alloc: Global, file: &Text, text: &[u8]) -> Result<Template, Failure>
     requires { length text.now ≤ MAX_FILE_BYTES }
     ensures ok { IfOk result (λ t. template_of file.now text.now ≡ Ok (template_seen t)) }
     ensures err { IfErr result (IsFault (template_of file.now text.now)) }
 {
     let tokens = match lex(alloc, text, file) {
         Ok(tokens) => tokens,
-        Err(LexError::Fault(fault)) => return Err(CompileError::Fault(fault)),
-        Err(LexError::Memory) => return Err(CompileError::Memory),
+        Err(Failure::Fault(fault)) => return Err(Failure::Fault(fault)),
+        Err(Failure::Memory) => return Err(Failure::Memory),
     };
     match parse(alloc, tokens.as_slice()) {
         Ok(template) => Ok(template),
-        Err(ParseError::Fault(fault)) => Err(CompileError::Fault(fault)),
-        Err(ParseError::Memory) => Err(CompileError::Memory),
+        Err(Failure::Fault(fault)) => Err(Failure::Fault(fault)),
+        Err(Failure::Memory) => Err(Failure::Memory),
     }
 }
 
 /// The tree of an object.
-fn tree_of(alloc: Global, name: &str, file: &Text, text: &[u8]) -> Result<Tree, CompileError>
+fn tree_of(alloc: Global, name: &str, file: &Text, text: &[u8]) -> Result<Tree, Failure>
     requires short { length text.now ≤ MAX_FILE_BYTES }
     requires file { file.now ≡ file_of name.now }
     ensures ok { IfOk result (λ t. tree_of name.now text.now ≡ Ok t) }
@@ -227,7 +197,7 @@ pub fn compile(alloc: Global, file: &Text, name: &str, text: &[u8]) -> Result<Ou
             let profile = Bytes::from_vec(profile_text(alloc, &tree)?)?;
             Ok(Outcome::Profile(profile, dependencies_of(alloc, file.as_str())?))
         }
-        Err(CompileError::Fault(fault)) => Ok(Outcome::Fault(fault)),
-        Err(CompileError::Memory) => Err(AllocError),
+        Err(Failure::Fault(fault)) => Ok(Outcome::Fault(fault)),
+        Err(Failure::Memory) => Err(AllocError),
     }
 }
