@@ -1,6 +1,8 @@
 pub mod Wording
 pub mod Wholes
 pub mod Shelving
+pub mod Planning
+pub mod Publishing
 pub mod Scanning
 pub mod Naming
 pub mod Wanting

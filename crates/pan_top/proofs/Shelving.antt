@@ -133,7 +133,7 @@ proper_own w ws h = and_left (is_own w.name) (not (is_some (wanted ws w.name))) 
 pub proper_rest : (w : Want) (ws : List Want) → proper (w ∷ ws) ≡ true → proper ws ≡ true
 proper_rest w ws h = and_right (is_own w.name && not (is_some (wanted ws w.name))) (proper ws) h
 
-proper_once : (w : Want) (ws : List Want) → proper (w ∷ ws) ≡ true → wanted ws w.name ≡ None
+pub proper_once : (w : Want) (ws : List Want) → proper (w ∷ ws) ≡ true → wanted ws w.name ≡ None
 proper_once w ws h = not_some (wanted ws w.name) (and_right (is_own w.name) (not (is_some (wanted ws w.name))) (and_left (is_own w.name && not (is_some (wanted ws w.name))) (proper ws) h))
 
 pub place_step : (w : Want) (ws : List Want) (target start now new : List ℕ → Cell) → proper (w ∷ ws) ≡ true → Underway (placed (w ∷ ws)) target start now → Sets now w.name (Some w.bytes) new → Underway (placed ws) target start new

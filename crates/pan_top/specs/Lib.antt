@@ -1,6 +1,7 @@
 pub mod Ends
 pub mod Commands
 pub mod Shelves
+pub mod Changing
 pub mod Scans
 pub mod Objects
 pub mod Answers

@@ -10,7 +10,10 @@ use Rattle.pan_top.specs.declared.status.End.{End}
 use Rattle.pan_top.specs.declared.status.End.TheVariants as E
 use Rattle.pan_top.specs.declared.status.Status.{Status}
 use Rattle.pan_top.specs.declared.status.Status.TheVariants.{Clean, SomeFaults, Usage, SourceFault, ShelfFault, OutFault, Memory, TooMuch}
+use Rattle.outside.specs.declared.shelf.Change.{Change}
 use Rattle.pan_top.specs.declared.answers.Answer.{Answer}
+use Rattle.pan_top.specs.declared.publish.Want.{Want}
+use Rattle.pan_top.specs.Changing.{Publishes, PublishesPart}
 use Rattle.pan_top.specs.Commands.{is_command}
 use Rattle.pan_top.specs.Scans.{scanned_of}
 use Rattle.pan_top.specs.Answers.{answers_of, wants_of, is_fault, is_object_file}
@@ -23,10 +26,11 @@ pub record Session : Type 0 where
   pub text : List ℕ
   pub status : Status
   pub shelf : List ℕ → Cell → Cell
+  pub wants : Option (List Want)  -- what profiles want, where there is a publication
 
 -- a session that ends with a line, and leaves the shelf as it is
 abbrev pub line_alone : List ℕ → Status → Session
-line_alone line status = record { text = line; status = status; shelf = λ n c. c }
+line_alone line status = record { text = line; status = status; shelf = λ n c. c; wants = None }
 
 abbrev pub too_much : Session
 too_much = line_alone (codes "too much\n") TooMuch
@@ -37,6 +41,7 @@ build_of answers = record {
   text = report_of answers;
   status = if nat_eq (count_by is_fault answers) 0 then Clean else SomeFaults;
   shelf = published (wants_of answers);
+  wants = Some (wants_of answers);
 }
 
 abbrev pub round_of : List PictureFile → Session
@@ -183,6 +188,17 @@ IsCounted SourceFault before now = before ≤ now
 IsCounted ShelfFault before now = before ≤ now
 IsCounted OutFault before now = before ≤ now
 IsCounted Memory before now = before ≤ now
+
+-- What was done to the shelf, by the status: the whole publication, or a first part of it.
+abbrev pub IsInOrder : Status → Option (List Want) → (List ℕ → Cell) → (List ℕ → Cell) → Option (List Change) → Option (List Change) → Type 0
+IsInOrder Clean ws old new before now = Publishes ws old new before now
+IsInOrder SomeFaults ws old new before now = Publishes ws old new before now
+IsInOrder TooMuch ws old new before now = Publishes ws old new before now
+IsInOrder Usage ws old new before now = Publishes ws old new before now
+IsInOrder SourceFault ws old new before now = PublishesPart ws old new before now
+IsInOrder ShelfFault ws old new before now = PublishesPart ws old new before now
+IsInOrder OutFault ws old new before now = PublishesPart ws old new before now
+IsInOrder Memory ws old new before now = PublishesPart ws old new before now
 
 -- the status of an end, or that its line could not be written
 abbrev pub Concludes : End → Status → Type 0

@@ -1,8 +1,13 @@
-ghost use Rattle.std.specs.Prelude.{◌≡◌, ℕ, List, IfOk, OnOk, OnErr, IfErr, IfSome, Option, Some, None, true, false, bytes_eq};
-ghost use Rattle.outside.specs.Cells.{Sets, AllBut};
-ghost use Rattle.pan_top.specs.Shelves.{is_own, swept, cleared, placed, published, proper, Stopped, Names, Lists};
+ghost use Rattle.std.specs.Prelude.{◌≡◌, ◌∷◌, [], ℕ, List, flat_map, if◌then◌else◌, IfOk, OnOk, OnErr, IfErr, IfSome, Option, Some, None, true, false, bytes_eq};
+ghost use Rattle.std.specs.List.Sorted.{IsSorted};
+ghost use Rattle.std.specs.Cmp.Lexicographic.{slice_cmp};
+ghost use Rattle.std.specs.Ordering.{nat_cmp};
+ghost use Rattle.outside.specs.Cells.{Sets, AllBut, AreSame};
+ghost use Rattle.pan_top.specs.Changing.{holds, removal, putting, planned, done, Made, Begun, Tells};
+ghost use Rattle.pan_top.specs.Shelves.{is_own, goes, swept, cleared, placed, published, proper, Stopped, Names, Lists};
 ghost use Rattle.pan_top.specs.Ends.{IsEndOf, Caused, IsEndAt, OfName, OfShelf, is_file_of};
 ghost use Rattle.pan_top.specs.declared.publish.Want.{Want};
+ghost use Rattle.outside.specs.declared.shelf.Change.TheVariants.{Put};
 
 use crate::status::{End, Status};
 use base::{Bytes, Text};
@@ -62,6 +67,8 @@ fn holds<H: Shelf>(
 ) -> Result<bool, End>
     requires { is_own name.now ≡ true }
     ensures ok { IfOk result (λ same. same ≡ true → IfSome (H.cell shelf.old name.now) (λ content. content ≡ Some bytes.now)) }
+    ensures exact { IfOk result (λ same. IfSome (H.cell shelf.old name.now) (λ content. same ≡ holds bytes.now (Some content))) }
+    ensures changes { H.changes shelf.new ≡ H.changes shelf.old }
     ensures same { (n : List ℕ) → H.cell shelf.new n ≡ H.cell shelf.old n }
     ensures opened { H.opened shelf.new ≡ H.opened shelf.old }
     ensures at { IfErr result (IsEndAt name.now) }
@@ -85,6 +92,9 @@ fn bring<H: Shelf>(
     requires { is_own name.now ≡ true }
     ensures ok { OnOk result (Sets (H.cell shelf.old) name.now (Some bytes.now) (H.cell shelf.new)) }
     ensures err { OnErr result (AllBut (H.cell shelf.old) name.now (H.cell shelf.new)) }
+    ensures done { OnOk result (IfSome (H.cell shelf.old name.now) (λ content. H.changes shelf.new ≡ done (H.changes shelf.old) (if holds bytes.now (Some content) then [] else Put name.now ∷ []))) }
+    ensures undone { OnErr result (H.changes shelf.new ≡ H.changes shelf.old) }
+    ensures untouched { OnErr result (holds bytes.now (H.cell shelf.old name.now) ≡ true → AreSame (H.cell shelf.old) (H.cell shelf.new)) }
     ensures opened { H.opened shelf.new ≡ H.opened shelf.old }
     ensures at { IfErr result (IsEndAt name.now) }
     ensures cause { Caused Status.ShelfFault (H.fault_count shelf.old) (H.fault_count shelf.new) result }
@@ -119,6 +129,9 @@ fn sweep<H: Shelf>(
     ensures ok { OnOk result ((wants : List Want) → Names names.now wants → (n : List ℕ) → H.cell shelf.new n ≡ swept name.now wants n (H.cell shelf.old n)) }
     ensures err { OnErr result (AllBut (H.cell shelf.old) name.now (H.cell shelf.new)) }
     ensures own { OnErr result (is_own name.now ≡ true) }
+    ensures going { OnErr result ((wants : List Want) → Names names.now wants → goes wants name.now ≡ true) }
+    ensures done { OnOk result ((wants : List Want) → Names names.now wants → H.changes shelf.new ≡ done (H.changes shelf.old) (removal wants name.now)) }
+    ensures undone { OnErr result (H.changes shelf.new ≡ H.changes shelf.old) }
     ensures opened { H.opened shelf.new ≡ H.opened shelf.old }
     ensures at { IfErr result (IsEndAt name.now) }
     ensures cause { Caused Status.ShelfFault (H.fault_count shelf.old) (H.fault_count shelf.new) result }
@@ -146,6 +159,8 @@ fn clear<H: Shelf>(
     requires { Names names.now wants.now }
     ensures ok { OnOk result ((n : List ℕ) → H.cell shelf.new n ≡ cleared listed.now wants.now n (H.cell shelf.old n)) }
     ensures err { IfErr result (λ e. Stopped e (cleared listed.now wants.now) (H.cell shelf.old) (H.cell shelf.new)) }
+    ensures made { OnOk result (Made wants.now (flat_map (removal wants.now) listed.now) (H.cell shelf.old) (H.cell shelf.new) (H.changes shelf.old) (H.changes shelf.new)) }
+    ensures begun { OnErr result (Begun wants.now (flat_map (removal wants.now) listed.now) (H.cell shelf.old) (H.cell shelf.new) (H.changes shelf.old) (H.changes shelf.new)) }
     ensures opened { H.opened shelf.new ≡ H.opened shelf.old }
     ensures kind { IfErr result (IsEndOf OfName) }
     ensures cause { Caused Status.ShelfFault (H.fault_count shelf.old) (H.fault_count shelf.new) result }
@@ -161,6 +176,8 @@ fn place<H: Shelf>(alloc: Global, shelf: &mut H, wants: &[Want]) -> Result<(), E
     requires { proper wants.now ≡ true }
     ensures ok { OnOk result ((n : List ℕ) → H.cell shelf.new n ≡ placed wants.now n (H.cell shelf.old n)) }
     ensures err { IfErr result (λ e. Stopped e (placed wants.now) (H.cell shelf.old) (H.cell shelf.new)) }
+    ensures made { OnOk result (Tells (H.cell shelf.old) → Made wants.now (flat_map (putting (H.cell shelf.old)) wants.now) (H.cell shelf.old) (H.cell shelf.new) (H.changes shelf.old) (H.changes shelf.new)) }
+    ensures begun { OnErr result (Tells (H.cell shelf.old) → Begun wants.now (flat_map (putting (H.cell shelf.old)) wants.now) (H.cell shelf.old) (H.cell shelf.new) (H.changes shelf.old) (H.changes shelf.new)) }
     ensures opened { H.opened shelf.new ≡ H.opened shelf.old }
     ensures kind { IfErr result (IsEndOf OfName) }
     ensures cause { Caused Status.ShelfFault (H.fault_count shelf.old) (H.fault_count shelf.new) result }
@@ -181,6 +198,8 @@ fn place<H: Shelf>(alloc: Global, shelf: &mut H, wants: &[Want]) -> Result<(), E
 /// All names of the shelf, in byte order.
 pub fn listed<H: Shelf>(alloc: Global, shelf: &mut H) -> Result<Vec<Text>, End>
     ensures ok { IfOk result (λ names. Lists names.items (H.cell shelf.old)) }
+    ensures sorted { IfOk result (λ names. IsSorted (slice_cmp nat_cmp) names.items) }
+    ensures changes { H.changes shelf.new ≡ H.changes shelf.old }
     ensures same { (n : List ℕ) → H.cell shelf.new n ≡ H.cell shelf.old n }
     ensures opened { H.opened shelf.new ≡ H.opened shelf.old }
     ensures kind { IfErr result (IsEndOf OfShelf) }
@@ -208,6 +227,8 @@ pub fn publish<H: Shelf>(
     requires listed { Lists listed.now (H.cell shelf.old) }
     ensures ok { OnOk result ((n : List ℕ) → H.cell shelf.new n ≡ published wants.now n (H.cell shelf.old n)) }
     ensures err { IfErr result (λ e. Stopped e (published wants.now) (H.cell shelf.old) (H.cell shelf.new)) }
+    ensures made { OnOk result (Tells (H.cell shelf.old) → Made wants.now (planned listed.now wants.now (H.cell shelf.old)) (H.cell shelf.old) (H.cell shelf.new) (H.changes shelf.old) (H.changes shelf.new)) }
+    ensures begun { OnErr result (Tells (H.cell shelf.old) → Begun wants.now (planned listed.now wants.now (H.cell shelf.old)) (H.cell shelf.old) (H.cell shelf.new) (H.changes shelf.old) (H.changes shelf.new)) }
     ensures opened { H.opened shelf.new ≡ H.opened shelf.old }
     ensures kind { IfErr result (IsEndOf OfName) }
     ensures cause { Caused Status.ShelfFault (H.fault_count shelf.old) (H.fault_count shelf.new) result }

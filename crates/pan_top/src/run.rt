@@ -6,8 +6,9 @@ ghost use Rattle.load_path.specs.Pictures.{is_rising};
 ghost use Rattle.pan_top.specs.Commands.{is_command, source_in, out_in};
 ghost use Rattle.pan_top.specs.Scans.{scanned_of};
 ghost use Rattle.pan_top.specs.Shelves.{Stopped, Lists, proper};
-ghost use Rattle.pan_top.specs.Session.{Session, line_alone, build_of, round_of, scanned_session, session_of, Finished, WritesEarly, Says, Comes, Concludes, IsSessions, IsBuilds, IsUsage, IsUsageEnd, Completes, Takes, IsOpened, IsPerhapsOpened, IsCounted};
+ghost use Rattle.pan_top.specs.Session.{Session, line_alone, build_of, round_of, scanned_session, session_of, Finished, WritesEarly, Says, Comes, Concludes, IsSessions, IsBuilds, IsUsage, IsUsageEnd, Completes, Takes, IsOpened, IsPerhapsOpened, IsCounted, IsInOrder};
 ghost use Rattle.pan_top.specs.Answers.{wants_of};
+ghost use Rattle.pan_top.specs.Changing.{Tells, MadeOver, BegunOver, Publishes, PublishesPart};
 ghost use Rattle.pan_top.specs.Reports.{report_of};
 ghost use Rattle.pan_top.specs.Ends.{IsEndOf, Caused, OfSink, OfShelf, OfSource, IsRoundEnd, status_of, line_of};
 ghost use Rattle.pan_top.specs.declared.status.Status.{Status};
@@ -55,6 +56,7 @@ fn open_shelf<H: Shelf>(shelf: &mut H, root: &str) -> Result<(), End>
     ensures opened { OnOk result (H.opened shelf.new ≡ Some root.now) }
     ensures refused { OnErr result (H.opened shelf.new ≡ H.opened shelf.old) }
     ensures same { (n : List ℕ) → H.cell shelf.new n ≡ H.cell shelf.old n }
+    ensures changes { H.changes shelf.new ≡ H.changes shelf.old }
     ensures kind { IfErr result (IsEndOf OfShelf) }
     ensures cause { Caused Status.ShelfFault (H.fault_count shelf.old) (H.fault_count shelf.new) result }
 {
@@ -100,6 +102,8 @@ fn build<H: Shelf, O: Sink>(
     ensures own { IfOk result IsBuilds }
     ensures text { IfErr result (λ e. WritesEarly (report_of answers.items) e (O.held out.old) (O.held out.new)) }
     ensures shelf { IfErr result (λ e. Stopped e (build_of answers.items).shelf (H.cell shelf.old) (H.cell shelf.new)) }
+    ensures made { OnOk result (Tells (H.cell shelf.old) → MadeOver (build_of answers.items).wants listed.now (H.cell shelf.old) (H.cell shelf.new) (H.changes shelf.old) (H.changes shelf.new)) }
+    ensures begun { OnErr result (Tells (H.cell shelf.old) → BegunOver (build_of answers.items).wants listed.now (H.cell shelf.old) (H.cell shelf.new) (H.changes shelf.old) (H.changes shelf.new)) }
     ensures kind { IfErr result IsRoundEnd }
     ensures opened { H.opened shelf.new ≡ H.opened shelf.old }
     ensures shelf_cause { Caused Status.ShelfFault (H.fault_count shelf.old) (H.fault_count shelf.new) result }
@@ -125,6 +129,8 @@ fn round<H: Shelf, O: Sink>(
     ensures own { IfOk result IsBuilds }
     ensures text { IfErr result (λ e. WritesEarly (round_of picture.now).text e (O.held out.old) (O.held out.new)) }
     ensures shelf { IfErr result (λ e. Stopped e (round_of picture.now).shelf (H.cell shelf.old) (H.cell shelf.new)) }
+    ensures made { OnOk result (Tells (H.cell shelf.old) → MadeOver (round_of picture.now).wants listed.now (H.cell shelf.old) (H.cell shelf.new) (H.changes shelf.old) (H.changes shelf.new)) }
+    ensures begun { OnErr result (Tells (H.cell shelf.old) → BegunOver (round_of picture.now).wants listed.now (H.cell shelf.old) (H.cell shelf.new) (H.changes shelf.old) (H.changes shelf.new)) }
     ensures kind { IfErr result IsRoundEnd }
     ensures opened { H.opened shelf.new ≡ H.opened shelf.old }
     ensures shelf_cause { Caused Status.ShelfFault (H.fault_count shelf.old) (H.fault_count shelf.new) result }
@@ -150,6 +156,8 @@ fn scan_and_build<S: Source, H: Shelf, O: Sink>(
     ensures own { IfOk result IsBuilds }
     ensures text { IfErr result (λ e. IfSome (S.coming source.old) (λ ps. WritesEarly (scanned_session (scanned_of (next_picture ps))).text e (O.held out.old) (O.held out.new))) }
     ensures shelf { IfErr result (λ e. IfSome (S.coming source.old) (λ ps. Stopped e (scanned_session (scanned_of (next_picture ps))).shelf (H.cell shelf.old) (H.cell shelf.new))) }
+    ensures made { OnOk result (Tells (H.cell shelf.old) → IfSome (S.coming source.old) (λ ps. MadeOver (scanned_session (scanned_of (next_picture ps))).wants listed.now (H.cell shelf.old) (H.cell shelf.new) (H.changes shelf.old) (H.changes shelf.new))) }
+    ensures begun { OnErr result (Tells (H.cell shelf.old) → IfSome (S.coming source.old) (λ ps. BegunOver (scanned_session (scanned_of (next_picture ps))).wants listed.now (H.cell shelf.old) (H.cell shelf.new) (H.changes shelf.old) (H.changes shelf.new))) }
     ensures taken { OnOk result (S.coming source.new ≡ option_map later_pictures (S.coming source.old)) }
     ensures perhaps { (S.coming source.new ≡ S.coming source.old) ⊎ (S.coming source.new ≡ option_map later_pictures (S.coming source.old)) }
     ensures source_opened { S.opened source.new ≡ S.opened source.old }
@@ -176,6 +184,8 @@ fn run<S: Source, H: Shelf, O: Sink>(
     ensures own { IfOk result IsSessions }
     ensures text { IfErr result (λ e. IfSome (S.coming source.old) (λ ps. WritesEarly (session_of words.now (next_picture ps)).text e (O.held out.old) (O.held out.new))) }
     ensures shelf { IfErr result (λ e. IfSome (S.coming source.old) (λ ps. Stopped e (session_of words.now (next_picture ps)).shelf (H.cell shelf.old) (H.cell shelf.new))) }
+    ensures made { OnOk result (Tells (H.cell shelf.old) → IfSome (S.coming source.old) (λ ps. Publishes (session_of words.now (next_picture ps)).wants (H.cell shelf.old) (H.cell shelf.new) (H.changes shelf.old) (H.changes shelf.new))) }
+    ensures begun { OnErr result (Tells (H.cell shelf.old) → IfSome (S.coming source.old) (λ ps. PublishesPart (session_of words.now (next_picture ps)).wants (H.cell shelf.old) (H.cell shelf.new) (H.changes shelf.old) (H.changes shelf.new))) }
     ensures usage { IfOk result (λ status. IsUsage (is_command words.now) status) }
     ensures quiet { IfErr result (λ e. is_command words.now ≡ false → IsEndOf OfSink e) }
     ensures taken { IfOk result (λ status. Takes status (S.coming source.old) (S.coming source.new)) }
@@ -249,6 +259,7 @@ pub fn pan<S: Source, H: Shelf, O: Sink>(
     out: &mut O,
 ) -> Status
     ensures session { IfSome (S.coming source.old) (λ ps. Comes (session_of words.now (next_picture ps)) result (O.held out.old) (O.held out.new) (H.cell shelf.old) (H.cell shelf.new)) }
+    ensures order { Tells (H.cell shelf.old) → IfSome (S.coming source.old) (λ ps. IsInOrder result (session_of words.now (next_picture ps)).wants (H.cell shelf.old) (H.cell shelf.new) (H.changes shelf.old) (H.changes shelf.new)) }
     ensures taken { Takes result (S.coming source.old) (S.coming source.new) }
     ensures source_opened { IsOpened result (source_in words.now) (S.opened source.old) (S.opened source.new) }
     ensures shelf_opened { IsOpened result (out_in words.now) (H.opened shelf.old) (H.opened shelf.new) }

@@ -1,0 +1,142 @@
+-- What a session has done to the shelf.
+use Rattle.std.proofs.Common.{◌≡◌, ℕ, Bool, true, false, List, [], ◌∷◌, ◌++◌, Option, Some, None, is_some, IfSome, if◌then◌else◌, ◌⊎◌, inl, inr, refl, sym, ap, ◌∙◌, subst}
+use Rattle.std.specs.Prelude.{flat_map, Result, Ok, Err, OnOk, OnErr}
+use Rattle.outside.specs.Cells.{Cell, AreSame}
+use Rattle.outside.specs.declared.shelf.Change.{Change}
+use Rattle.outside.specs.declared.source.MemFile.{MemFile}
+use Rattle.outside.specs.Pictures.{next_picture}
+use Rattle.pan_top.specs.declared.publish.Want.{Want}
+use Rattle.pan_top.specs.declared.status.End.{End}
+use Rattle.pan_top.specs.declared.status.End.TheVariants as E
+use Rattle.pan_top.specs.declared.status.Status.{Status}
+use Rattle.pan_top.specs.declared.status.Status.TheVariants.{Clean, SomeFaults, Usage, SourceFault, ShelfFault, OutFault, Memory, TooMuch}
+use Rattle.pan_top.specs.Commands.{is_command}
+use Rattle.pan_top.specs.Ends.{status_of}
+use Rattle.pan_top.specs.Scans.{scanned_of}
+use Rattle.pan_top.specs.Shelves.{Lists}
+use Rattle.pan_top.specs.Changing.{removal, putting, planned, is_next, stand, Made, Begun, MadeOver, BegunOver, AreListed, Publishes, PublishesPart, Tells}
+use Rattle.pan_top.specs.Session.{IsSessions, IsInOrder, Concludes, session_of, scanned_session}
+use Rattle.pan_top.proofs.Planning.{puts_same, done_none, begun_none, begun_all, on_err}
+
+-- nothing was done
+pub over_none : (ws : Option (List Want)) (names : List (List ℕ)) (old new : List ℕ → Cell) (before now : Option (List Change)) → AreSame old new → now ≡ before → BegunOver ws names old new before now
+over_none None names old new before now same kept = (kept, same)
+over_none (Some ws) names old new before now same kept = begun_none ws (planned names ws old) old new before now same kept
+
+pub over_all : (ws : Option (List Want)) (names : List (List ℕ)) (old new : List ℕ → Cell) (before now : Option (List Change)) → MadeOver ws names old new before now → BegunOver ws names old new before now
+over_all None names old new before now made = made
+over_all (Some ws) names old new before now made = begun_all ws (planned names ws old) old new before now made
+
+-- under a shelf that told the same before
+plan_from : (names : List (List ℕ)) (ws : List Want) (old mid : List ℕ → Cell) → AreSame old mid → planned names ws mid ≡ planned names ws old
+plan_from names ws old mid same = ap (λ l. flat_map (removal ws) names ++ l) (puts_same ws mid old (λ n some. same n))
+
+made_from : (names : List (List ℕ)) (ws : List Want) (old mid new : List ℕ → Cell) (before between now : Option (List Change)) → AreSame old mid → between ≡ before → Made ws (planned names ws mid) mid new between now → Made ws (planned names ws old) old new before now
+made_from names ws old mid new before between now same kept m = rw (sym (plan_from names ws old mid same)) (record {
+  told = rw kept at m.told;
+  stands = λ n. m.stands n ∙ ap (stand ws (planned names ws mid) n) (same n);
+})
+
+begun_from : (names : List (List ℕ)) (ws : List Want) (old mid new : List ℕ → Cell) (before between now : Option (List Change)) → AreSame old mid → between ≡ before → Begun ws (planned names ws mid) mid new between now → Begun ws (planned names ws old) old new before now
+begun_from names ws old mid new before between now same kept b = record {
+  made = b.made;
+  left = b.left;
+  whole = sym (plan_from names ws old mid same) ∙ b.whole;
+  told = rw kept at b.told;
+  stands = λ n other. b.stands n other ∙ ap (stand ws b.made n) (same n);
+}
+
+listed_from : (names : List (List ℕ)) (old mid : List ℕ → Cell) → AreSame old mid → AreListed names mid → AreListed names old
+listed_from names old mid same l = record { lists = λ n. rw (same n) at (l.lists n); sorted = l.sorted }
+
+publishes_by : (ws : Option (List Want)) (names : List (List ℕ)) (old mid new : List ℕ → Cell) (before between now : Option (List Change)) → AreSame old mid → between ≡ before → AreListed names mid → MadeOver ws names mid new between now → Publishes ws old new before now
+publishes_by None names old mid new before between now same kept listed made = (made.0 ∙ kept, λ n. made.1 n ∙ same n)
+publishes_by (Some ws) names old mid new before between now same kept listed made = (names, listed_from names old mid same listed, made_from names ws old mid new before between now same kept made)
+
+part_by : (ws : Option (List Want)) (names : List (List ℕ)) (old mid new : List ℕ → Cell) (before between now : Option (List Change)) → AreSame old mid → between ≡ before → AreListed names mid → BegunOver ws names mid new between now → PublishesPart ws old new before now
+part_by None names old mid new before between now same kept listed begun = (begun.0 ∙ kept, λ n. begun.1 n ∙ same n)
+part_by (Some ws) names old mid new before between now same kept listed begun = inr (names, listed_from names old mid same listed, begun_from names ws old mid new before between now same kept begun)
+
+tells_from : (old mid : List ℕ → Cell) → AreSame old mid → Tells old → Tells mid
+tells_from old mid same told n = ap is_some (same n) ∙ told n
+
+publishes_at : (told now : Option (List (List MemFile))) (words : List (List ℕ)) (names : List (List ℕ)) (old mid new : List ℕ → Cell) (before between last : Option (List Change)) → now ≡ told → is_command words ≡ true → AreSame old mid → between ≡ before → AreListed names mid → IfSome now (λ ps. MadeOver (scanned_session (scanned_of (next_picture ps))).wants names mid new between last) → IfSome told (λ ps. Publishes (session_of words (next_picture ps)).wants old new before last)
+publishes_at None None words names old mid new before between last is command same kept listed made = tt
+publishes_at None (Some qs) words names old mid new before between last is command same kept listed made = tt
+publishes_at (Some ps) None words names old mid new before between last is command same kept listed made = cc
+publishes_at (Some ps) (Some qs) words names old mid new before between last is command same kept listed made =
+    let pictures : qs ≡ ps = cc in
+    rw command (publishes_by (scanned_session (scanned_of (next_picture ps))).wants names old mid new before between last same kept listed (rw pictures at made))
+
+part_at : (told now : Option (List (List MemFile))) (words : List (List ℕ)) (names : List (List ℕ)) (old mid new : List ℕ → Cell) (before between last : Option (List Change)) → now ≡ told → is_command words ≡ true → AreSame old mid → between ≡ before → AreListed names mid → IfSome now (λ ps. BegunOver (scanned_session (scanned_of (next_picture ps))).wants names mid new between last) → IfSome told (λ ps. PublishesPart (session_of words (next_picture ps)).wants old new before last)
+part_at None None words names old mid new before between last is command same kept listed begun = tt
+part_at None (Some qs) words names old mid new before between last is command same kept listed begun = tt
+part_at (Some ps) None words names old mid new before between last is command same kept listed begun = cc
+part_at (Some ps) (Some qs) words names old mid new before between last is command same kept listed begun =
+    let pictures : qs ≡ ps = cc in
+    rw command (part_by (scanned_session (scanned_of (next_picture ps))).wants names old mid new before between last same kept listed (rw pictures at begun))
+
+pub publishes_result : (told now : Option (List (List MemFile))) (words : List (List ℕ)) (names : List (List ℕ)) (old mid new : List ℕ → Cell) (before between last : Option (List Change)) (r : Result Status End) → now ≡ told → is_command words ≡ true → AreSame old mid → between ≡ before → AreListed names mid → OnOk r (Tells mid → IfSome now (λ ps. MadeOver (scanned_session (scanned_of (next_picture ps))).wants names mid new between last)) → OnOk r (Tells old → IfSome told (λ ps. Publishes (session_of words (next_picture ps)).wants old new before last))
+publishes_result told now words names old mid new before between last (Ok status) is command same kept listed made = λ tells. publishes_at told now words names old mid new before between last is command same kept listed (made (tells_from old mid same tells))
+publishes_result told now words names old mid new before between last (Err e) is command same kept listed made = tt
+
+pub part_result : (told now : Option (List (List MemFile))) (words : List (List ℕ)) (names : List (List ℕ)) (old mid new : List ℕ → Cell) (before between last : Option (List Change)) (r : Result Status End) → now ≡ told → is_command words ≡ true → AreSame old mid → between ≡ before → AreListed names mid → OnErr r (Tells mid → IfSome now (λ ps. BegunOver (scanned_session (scanned_of (next_picture ps))).wants names mid new between last)) → OnErr r (Tells old → IfSome told (λ ps. PublishesPart (session_of words (next_picture ps)).wants old new before last))
+part_result told now words names old mid new before between last (Ok status) is command same kept listed begun = tt
+part_result told now words names old mid new before between last (Err e) is command same kept listed begun = λ tells. part_at told now words names old mid new before between last is command same kept listed (begun (tells_from old mid same tells))
+
+-- nothing was done before the run ended
+part_none : (ws : Option (List Want)) (old new : List ℕ → Cell) (before now : Option (List Change)) → AreSame old new → now ≡ before → PublishesPart ws old new before now
+part_none None old new before now same kept = (kept, same)
+part_none (Some ws) old new before now same kept = inl (kept, same)
+
+part_none_at : (told : Option (List (List MemFile))) (words : List (List ℕ)) (old new : List ℕ → Cell) (before now : Option (List Change)) → AreSame old new → now ≡ before → IfSome told (λ ps. PublishesPart (session_of words (next_picture ps)).wants old new before now)
+part_none_at None words old new before now same kept = tt
+part_none_at (Some ps) words old new before now same kept = part_none (session_of words (next_picture ps)).wants old new before now same kept
+
+pub untouched_result : {T : Type 0} (told : Option (List (List MemFile))) (words : List (List ℕ)) (old new : List ℕ → Cell) (before now : Option (List Change)) (r : Result T End) → AreSame old new → now ≡ before → OnErr r (Tells old → IfSome told (λ ps. PublishesPart (session_of words (next_picture ps)).wants old new before now))
+untouched_result told words old new before now r same kept = on_err r (λ tells. part_none_at told words old new before now same kept)
+
+pub over_none_at : (told : Option (List (List MemFile))) (names : List (List ℕ)) (old new : List ℕ → Cell) (before now : Option (List Change)) → AreSame old new → now ≡ before → IfSome told (λ ps. BegunOver (scanned_session (scanned_of (next_picture ps))).wants names old new before now)
+over_none_at None names old new before now same kept = tt
+over_none_at (Some ps) names old new before now same kept = over_none (scanned_session (scanned_of (next_picture ps))).wants names old new before now same kept
+
+-- by the status
+own_end : (e : End) → IsSessions (status_of e) → ⊥
+own_end E.Source own = own
+own_end E.Shelf own = own
+own_end (E.Publishing m) own = own
+own_end E.Out own = own
+own_end E.Memory own = own
+
+concluded : (e : End) (status : Status) → Concludes e status → IsSessions status → ⊥
+concluded e status (inl is) own = own_end e (subst IsSessions is own)
+concluded e status (inr (inl is)) own = subst IsSessions is own
+concluded e status (inr (inr is)) own = subst IsSessions is own
+
+early_by : (status : Status) (ws : Option (List Want)) (old new : List ℕ → Cell) (before now : Option (List Change)) → (IsSessions status → ⊥) → PublishesPart ws old new before now → IsInOrder status ws old new before now
+early_by Clean ws old new before now early part = absurd (early tt)
+early_by SomeFaults ws old new before now early part = absurd (early tt)
+early_by TooMuch ws old new before now early part = absurd (early tt)
+early_by Usage ws old new before now early part = absurd (early tt)
+early_by SourceFault ws old new before now early part = part
+early_by ShelfFault ws old new before now early part = part
+early_by OutFault ws old new before now early part = part
+early_by Memory ws old new before now early part = part
+
+own_by : (status : Status) (ws : Option (List Want)) (old new : List ℕ → Cell) (before now : Option (List Change)) → IsSessions status → Publishes ws old new before now → IsInOrder status ws old new before now
+own_by Clean ws old new before now own all = all
+own_by SomeFaults ws old new before now own all = all
+own_by TooMuch ws old new before now own all = all
+own_by Usage ws old new before now own all = all
+own_by SourceFault ws old new before now own all = absurd own
+own_by ShelfFault ws old new before now own all = absurd own
+own_by OutFault ws old new before now own all = absurd own
+own_by Memory ws old new before now own all = absurd own
+
+pub in_order_early : (told : Option (List (List MemFile))) (words : List (List ℕ)) (e : End) (status : Status) (old new : List ℕ → Cell) (before now : Option (List Change)) → Concludes e status → IfSome told (λ ps. PublishesPart (session_of words (next_picture ps)).wants old new before now) → IfSome told (λ ps. IsInOrder status (session_of words (next_picture ps)).wants old new before now)
+in_order_early None words e status old new before now how part = tt
+in_order_early (Some ps) words e status old new before now how part = early_by status (session_of words (next_picture ps)).wants old new before now (concluded e status how) part
+
+pub in_order_own : (told : Option (List (List MemFile))) (words : List (List ℕ)) (status : Status) (old new : List ℕ → Cell) (before now : Option (List Change)) → IsSessions status → IfSome told (λ ps. Publishes (session_of words (next_picture ps)).wants old new before now) → IfSome told (λ ps. IsInOrder status (session_of words (next_picture ps)).wants old new before now)
+in_order_own None words status old new before now own all = tt
+in_order_own (Some ps) words status old new before now own all = own_by status (session_of words (next_picture ps)).wants old new before now own all
