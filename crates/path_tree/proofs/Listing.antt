@@ -1,16 +1,16 @@
 -- Lists that are made, and lists with an item more.
-use Rattle.std.proofs.Common.{◌≡◌, ◌≢◌, ℕ, zero, suc, ◌+◌, ◌<◌, ◌≤◌, max, Bool, true, false, ◌||◌, List, [], ◌∷◌, ◌++◌, length, take, drop, Result, Ok, Err, refl, ap, sym, subst, ◌∙◌, arith}
+use Rattle.std.proofs.Common.{◌≡◌, ◌≢◌, ℕ, zero, suc, ◌+◌, ◌<◌, ◌≤◌, max, Bool, true, false, ◌||◌, List, [], ◌∷◌, ◌++◌, length, Result, Ok, Err, refl, ap, sym, subst, ◌∙◌, arith}
 use Rattle.std.specs.Prelude.{nat_lt}
 use Rattle.std.specs.List.{insert, list_any}
 use Rattle.std.proofs.lemmas.List.Edits.{insert_end}
 use Rattle.std.proofs.lemmas.Bool.Decides.{nat_tests}
-use Rattle.path_tree.specs.Plain.{Plain, dict, list, text, long, boolean, undef, null, Items, no_items, item, tree_size, items_size, tree_height, items_height, IsTree, IsWhole, AreItems}
+use Rattle.path_tree.specs.Plain.{Plain, dict, list, text, long, boolean, undef, null, Items, no_items, item, tree_size, items_size, tree_height, items_height, IsTree, AreItems}
 use Rattle.path_tree.specs.Kept.{IsAdmitted, IsInside}
 use Rattle.path_tree.specs.View.{IsList, items_of, list_seen}
 use Rattle.base.specs.declared.limits.TheConstants.{MAX_TREE_HEIGHT, MAX_TREE_SIZE}
 use Rattle.path_tree.specs.declared.tree.Items.{Items as Itemed}
 use Rattle.path_tree.specs.declared.tree.Measure.{Measure}
-use Rattle.path_tree.specs.Lists.{is_null, is_too_large, within_limits, list_of, items_in, pushed, pushed_front}
+use Rattle.path_tree.specs.Lists.{is_null, list_of, items_in, pushed, pushed_front}
 use Rattle.path_tree.specs.declared.refused.Refused.{Refused}
 use Rattle.path_tree.specs.declared.refused.Refused.TheVariants.{BadArgument, TooLarge}
 use Rattle.path_tree.specs.Refusals.{refusal}

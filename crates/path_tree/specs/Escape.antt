@@ -1,5 +1,5 @@
 -- Texts as keys: a key that stands for any text, and the way back.
-use Rattle.std.specs.Prelude.{ℕ, ◌+◌, ◌-◌, ◌*◌, ◌/◌, ◌%◌, Bool, List, [], ◌∷◌, ◌++◌, ◌==◌, ◌&&◌, ◌||◌, flat_map, if◌then◌else◌}
+use Rattle.std.specs.Prelude.{ℕ, ◌+◌, ◌*◌, ◌/◌, ◌%◌, Bool, List, [], ◌∷◌, ◌++◌, ◌==◌, ◌&&◌, ◌||◌, flat_map, if◌then◌else◌}
 use Rattle.std.specs.Char.{digit_char, digit_value}
 use Rattle.base.specs.Ascii.{is_digit, is_letter, is_lower_hexadecimal_digit}
 use Rattle.base.specs.Characters.{underscore}
