@@ -130,6 +130,7 @@ fn put_at(rt: &HostRuntime, tree: &mut Tree, terms: &[Term], value: Tree) -> Res
 }
 
 // Which end of a list grows.
+#[derive(Clone, Copy)]
 enum End {
     First,
     Last,

@@ -5,7 +5,7 @@ use Rattle.std.specs.Ordering.{nat_cmp, int_eq, is_lt, is_le, is_gt, is_ge}
 use Rattle.std.specs.Cmp.Lexicographic.{slice_cmp}
 use mir.Syntax.{w64}
 use Rattle.base.specs.declared.limits.TheConstants.{MAX_TEXT_BYTES}
-use Rattle.path_tree.specs.Plain.{Plain, dict, list, text, long, boolean, undef, null}
+use Rattle.path_tree.specs.Plain.{Plain, text, long, boolean}
 use Rattle.path_tree.specs.Values.{within_64_bits}
 use Rattle.path_tree.specs.declared.operators.UnaryOp.{UnaryOp}
 use Rattle.path_tree.specs.declared.operators.UnaryOp.TheVariants as unary

@@ -1,9 +1,8 @@
 -- What was written of a tree, and the tokens that are left.
-use Rattle.std.proofs.Common.{◌≡◌, ℕ, zero, suc, ◌+◌, ◌<◌, [], ◌∷◌, ◌++◌, List, Some, None, refl, sym, ap, ◌∙◌, arith, append_assoc}
+use Rattle.std.proofs.Common.{◌≡◌, ℕ, ◌+◌, [], ◌∷◌, ◌++◌, List, Some, refl, sym, ap, ◌∙◌, append_assoc}
 use Rattle.json.specs.Token.{Token}
 use Rattle.json.specs.Tree.{json_tokens, items_tokens, members_tokens}
-use Rattle.path_tree.specs.Children.{fields_from, items_from}
-use Rattle.path_tree.specs.Plain.{Plain, dict, list, text, long, undef, Items, no_items, item, Fields, no_fields, field}
+use Rattle.path_tree.specs.Plain.{Plain, dict, list, text, long, undef}
 use Rattle.path_tree.specs.Plain as plain
 use Rattle.path_tree.specs.Find.{kind_of, child_count, key_at, child_at}
 use Rattle.path_tree.specs.declared.kind.Kind.TheVariants as kind
