@@ -19,4 +19,5 @@ abbrev pub is_lower_hexadecimal_digit : ℕ → Bool
 is_lower_hexadecimal_digit byte = is_digit byte || between lower_a lower_f byte
 
 abbrev pub is_hexadecimal_digit : ℕ → Bool
-is_hexadecimal_digit byte = is_digit byte || between upper_A upper_F byte || between lower_a lower_f byte
+is_hexadecimal_digit byte =
+    is_digit byte || between upper_A upper_F byte || between lower_a lower_f byte

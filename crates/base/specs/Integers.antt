@@ -10,7 +10,9 @@ digits_value base digits = fold (λ n digit. n * base + digit_value digit) 0 dig
 
 -- the number of a text of one or more digits of a base
 abbrev pub numeral_of : ℕ → List ℕ → Option ℕ
-numeral_of base text = if nat_lt 0 (length text) && list_all (λ c. is_digit c base) text then Some (digits_value base text) else None
+numeral_of base text =
+    if nat_lt 0 (length text) && list_all (λ c. is_digit c base) text
+    then Some (digits_value base text) else None
 
 -- what follows a 0
 abbrev pub behind_zero : List ℕ → Option ℕ

@@ -37,7 +37,8 @@ pub fn is_lower_hexadecimal_digit(byte: u8) -> bool
     matches!(byte, b'0'..=b'9' | b'a'..=b'f')
 }
 
-/// The value of a digit or a letter, from 0 for `0` to 35 for `Z` and `z`, and 36 for any other byte.
+/// The value of a digit or a letter, from 0 for `0` to 35 for `Z` and `z`, and 36 for any other
+/// byte.
 pub fn digit_value(byte: u8) -> u8
     ensures { result ≡ digit_value byte }
 {

@@ -35,8 +35,9 @@ fn are_digits(base: u8, text: &[u8]) -> bool
     text.iter().all(|c| digit_value(*c) < base)
 }
 
-/// The number of a text that is an integer of the Pan language (Pan Book, "Data Types"): `0x` and hexadecimal
-/// digits, `0` and octal digits, or decimal digits. 2^64 - 1 stands for each larger number.
+/// The number of a text that is an integer of the Pan language (Pan Book, "Pan Language Syntax"):
+/// `0x` and hexadecimal digits, `0` and octal digits, or decimal digits. 2^64 - 1 stands for each
+/// larger number.
 pub fn integer_of(text: &[u8]) -> Option<u64>
     ensures { result ≡ option_map saturated (integer_of text.now) }
 {

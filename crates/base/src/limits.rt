@@ -1,4 +1,5 @@
-//! The limits of the language and of the program, each named once. Clauses and definitions cite these names.
+//! The limits of the language and of the program, each named once. Clauses and definitions cite
+//! these names.
 
 /// Bytes of a file that is read.
 pub const MAX_FILE_BYTES: usize = 1_000_000;

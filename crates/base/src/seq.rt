@@ -18,6 +18,7 @@ impl<T> Model for Seq<T> {
 }
 
 impl<T> Seq<T> {
+    /// A list without values.
     pub fn new(alloc: Global) -> Seq<T>
         ensures { result ≡ [] }
     {
@@ -26,12 +27,14 @@ impl<T> Seq<T> {
         }
     }
 
+    /// The values of a vector.
     pub fn from_vec(inner: Vec<T>) -> Seq<T>
         ensures { result ≡ inner.items }
     {
         Seq { inner }
     }
 
+    /// The values.
     pub fn as_slice(&self) -> &[T]
         ensures { result.now ≡ self.now }
     {

@@ -15,9 +15,9 @@ use std::marker::Model;
 use std::rc::RcStr;
 use std::str::from_utf8_unchecked;
 
-/// A text, seen by contracts as the list of its UTF-8 bytes. Copies of a text, and texts that stand in it, share
-/// one text in memory: each is the bytes of a whole from `start` to before `end`. A text of 2^32 bytes or more is
-/// refused as want of memory, so that a text takes two words.
+/// A text, seen by contracts as the list of its UTF-8 bytes. Copies of a text, and texts that stand
+/// in it, share one text in memory: each is the bytes of a whole from `start` to before `end`. A
+/// text of 2^32 bytes or more is refused as want of memory, so that a text takes two words.
 #[derive(Debug, Drop)]
 pub struct Text {
     whole: RcStr,
@@ -35,7 +35,8 @@ impl Model for Text {
 
     ghost view = { λ t. bytes_from_to t.start t.end (rc_str_bytes t.whole) };
 
-    ghost invariant = { λ t. (t.start ≤ t.end) × (t.end ≤ length (rc_str_bytes t.whole)) × IsUtf8 (bytes_from_to t.start t.end (rc_str_bytes t.whole)) };
+    ghost invariant = { λ t. (t.start ≤ t.end) × (t.end ≤ length (rc_str_bytes t.whole))
+        × IsUtf8 (bytes_from_to t.start t.end (rc_str_bytes t.whole)) };
 }
 
 /// The number of its bytes.
@@ -50,7 +51,8 @@ fn size(text: &str) -> Result<u32, AllocError>
 
 /// Where the text ends in the whole, if it stands there from `start` on.
 fn end_of(whole: &str, start: u32, text: &str) -> Option<u32>
-    ensures { IfSome result (λ end. (end ≡ start + length text.now) × (end ≤ length whole.now) × (bytes_from_to start end whole.now ≡ text.now)) }
+    ensures { IfSome result (λ end. (end ≡ start + length text.now) × (end ≤ length whole.now)
+        × (bytes_from_to start end whole.now ≡ text.now)) }
 {
     let end = start.checked_add(size(text).ok()?)?;
     if end as usize > whole.len() {
@@ -63,8 +65,9 @@ fn end_of(whole: &str, start: u32, text: &str) -> Option<u32>
     }
 }
 
-/// Where a byte of a part stands in the whole, of which the part is the bytes from `start` to before `end`.
-fn place_in(start: u32, end: u32, byte: usize) -> u32
+/// The position of a byte of a part in the whole, of which the part is the bytes from `start` to
+/// before `end`.
+fn position_in(start: u32, end: u32, byte: usize) -> u32
     requires { start + byte ≤ end }
     ensures { result ≡ start + byte }
 {
@@ -107,6 +110,7 @@ impl Text {
         Text::from_string(text)
     }
 
+    /// Its characters.
     pub fn as_str(&self) -> &str
         ensures text { result.now ≡ self.now }
         ensures utf8 { IsUtf8 self.now }
@@ -136,12 +140,13 @@ impl Text {
     {
         Ok(Text {
             whole: self.whole.clone()?,
-            start: place_in(self.start, self.end, start),
-            end: place_in(self.start, self.end, end),
+            start: position_in(self.start, self.end, start),
+            end: position_in(self.start, self.end, end),
         })
     }
 
-    /// A text that stands in this one from byte `start` on, shared with it; a copy where it does not stand there.
+    /// A text that stands in this one from byte `start` on, shared with it; a copy where it does
+    /// not stand there.
     pub fn part(&self, alloc: Global, start: usize, text: &str) -> Result<Text, AllocError>
         ensures { IfOk result (λ t. t ≡ text.now) }
     {

@@ -1,16 +1,21 @@
-//! Changes trees, reads paths and applies operators as the lines of its input say, and prints what comes of each.
+//! Changes trees, reads paths and integers, and applies operators as the lines of its input say,
+//! and prints what comes of each.
 //!
-//! `new` begins with an empty dict; `put PATH VALUE` and `remove PATH` change the tree; `path TEXT` reads a path;
-//! `do SIGN VALUE` and `do VALUE SIGN VALUE` apply an operator. A value is a whole number, `true`, `false`, `undef`,
-//! `{}`, `[]`, or a text behind `"`. With each change a copy that was made before it is looked at again. Any other
-//! line is a remark. The expected output is written by hand from the rules.
+//! `new` begins with an empty dict; `put PATH VALUE` and `remove PATH` change the tree, and
+//! `push PATH VALUE` and `front PATH VALUE` a list in it, which is taken out, grown and put back;
+//! `field KEY` reads a field; `list VALUE..` makes a list; `path TEXT` and `int TEXT` read a path
+//! and an integer; `do SIGN VALUE` and `do VALUE SIGN VALUE` apply an operator. A value is a whole
+//! number, `true`, `false`, `undef`, `null`, `{}`, `[]`, or a text behind `"`. With each change a
+//! copy that was made before it is looked at again. Any other line is a remark. The expected output
+//! is written by hand from the rules.
 #![tactic(auto)]
 
 use anyhow::{Result, anyhow};
 use base::Text;
+use base::integers::integer_of;
 use dml_ops::{binary, unary};
 use json_profile::profile_text;
-use path_tree::{BinaryOp, Kind, Path, PathError, PutError, Refused, Tree, UnaryOp};
+use path_tree::{BinaryOp, Path, PathError, PutError, Refused, Term, Tree, UnaryOp};
 use std::alloc::Global;
 
 fn value_of(alloc: Global, word: &str) -> Result<Tree> {
@@ -18,6 +23,7 @@ fn value_of(alloc: Global, word: &str) -> Result<Tree> {
         "{}" => Ok(Tree::empty_dict(alloc)?),
         "[]" => Ok(Tree::empty_list(alloc)?),
         "undef" => Ok(Tree::undef()),
+        "null" => Ok(Tree::null()),
         "true" => Ok(Tree::boolean(true)),
         "false" => Ok(Tree::boolean(false)),
         _ => match word.strip_prefix("\"") {
@@ -105,12 +111,69 @@ fn path_of(alloc: Global, text: &str) -> Result<Path> {
 
 fn put(rt: &HostRuntime, tree: &mut Tree, path: &str, value: &str) -> Result<()> {
     let path = path_of(rt.alloc(), path)?;
-    let value = value_of(rt.alloc(), value)?;
-    if value.kind() == Kind::Null {
+    put_at(
+        rt,
+        tree,
+        path.terms.as_slice(),
+        value_of(rt.alloc(), value)?,
+    )
+}
+
+fn put_at(rt: &HostRuntime, tree: &mut Tree, terms: &[Term], value: Tree) -> Result<()> {
+    if value.is_null() {
         return Err(anyhow!("no value"));
     }
-    if let Err(error) = tree.put(rt.alloc(), path.terms.as_slice(), value) {
+    if let Err(error) = tree.put(rt.alloc(), terms, value) {
         println!(rt; "  {error:?}")?;
+    }
+    Ok(())
+}
+
+// Which end of a list grows.
+#[derive(Clone, Copy)]
+enum End {
+    First,
+    Last,
+}
+
+fn grow(rt: &HostRuntime, tree: &mut Tree, path: &str, end: End, value: &str) -> Result<()> {
+    let alloc = rt.alloc();
+    let path = path_of(alloc, path)?;
+    let value = value_of(alloc, value)?;
+    let Some(mut list) = tree.take(alloc, path.terms.as_slice())? else {
+        println!(rt; "  nothing is there")?;
+        return Ok(());
+    };
+    let grown = match end {
+        End::First => list.push_front(alloc, value),
+        End::Last => list.push(alloc, value),
+    };
+    if let Err(error) = grown {
+        println!(rt; "  {error:?}")?;
+    }
+    put_at(rt, tree, path.terms.as_slice(), list)
+}
+
+fn print_list(rt: &HostRuntime, words: &[&str]) -> Result<()> {
+    let mut items = Vec::new(rt.alloc());
+    for word in words {
+        items.push(value_of(rt.alloc(), word)?)?;
+    }
+    print_answer(rt, Tree::list(rt.alloc(), items))
+}
+
+fn print_field(rt: &HostRuntime, tree: &Tree, key: &str) -> Result<()> {
+    match tree.field(key) {
+        Some(field) => print_tree(rt, field)?,
+        None => println!(rt; "  no field")?,
+    }
+    Ok(())
+}
+
+fn print_integer(rt: &HostRuntime, text: &str) -> Result<()> {
+    match integer_of(text.as_bytes()) {
+        Some(number) => println!(rt; "  {number}")?,
+        None => println!(rt; "  no integer")?,
     }
     Ok(())
 }
@@ -131,6 +194,8 @@ fn change(rt: &HostRuntime, tree: &mut Tree, words: &[&str]) -> Result<()> {
     match words {
         ["put", path, value] => put(rt, tree, path, value)?,
         ["remove", path] => remove(rt, tree, path)?,
+        ["push", path, value] => grow(rt, tree, path, End::Last, value)?,
+        ["front", path, value] => grow(rt, tree, path, End::First, value)?,
         _ => return Ok(()),
     }
     print_tree(rt, tree)?;
@@ -149,6 +214,9 @@ fn run(rt: &HostRuntime, tree: &mut Tree, words: &[&str]) -> Result<()> {
         ["path"] => print_path(rt, ""),
         ["path", text] => print_path(rt, text),
         ["do", operands @ ..] => apply(rt, operands),
+        ["field", key] => print_field(rt, tree, key),
+        ["list", words @ ..] => print_list(rt, words),
+        ["int", text] => print_integer(rt, text),
         _ => change(rt, tree, words),
     }
 }

@@ -5,7 +5,7 @@ use Rattle.std.specs.Ordering.{nat_cmp, int_eq, is_lt, is_le, is_gt, is_ge}
 use Rattle.std.specs.Cmp.Lexicographic.{slice_cmp}
 use mir.Syntax.{w64}
 use Rattle.base.specs.declared.limits.TheConstants.{MAX_TEXT_BYTES}
-use Rattle.path_tree.specs.Plain.{Plain, dict, list, text, long, boolean, undef, null}
+use Rattle.path_tree.specs.Plain.{Plain, text, long, boolean}
 use Rattle.path_tree.specs.Values.{within_64_bits}
 use Rattle.path_tree.specs.declared.operators.UnaryOp.{UnaryOp}
 use Rattle.path_tree.specs.declared.operators.UnaryOp.TheVariants as unary
@@ -32,7 +32,8 @@ of_longs binary.Add x y = within_64_bits (x +ℤ y)
 of_longs binary.Subtract x y = within_64_bits (x -ℤ y)
 of_longs binary.Multiply x y = within_64_bits (x *ℤ y)
 of_longs binary.Divide x y = if is_zero y then Err ZeroDivisor else within_64_bits (int_div x y)
-of_longs binary.Rest x y = if is_zero y then Err ZeroDivisor else Ok (long (x -ℤ (y *ℤ int_div x y)))
+of_longs binary.Rest x y =
+    if is_zero y then Err ZeroDivisor else Ok (long (x -ℤ (y *ℤ int_div x y)))
 of_longs binary.BitAnd x y = Ok (long (int_bit_and w64 x y))
 of_longs binary.BitOr x y = Ok (long (int_bit_or w64 x y))
 of_longs binary.BitXor x y = Ok (long (int_bit_xor w64 x y))
@@ -45,7 +46,8 @@ of_longs binary.MoreEqual x y = answers (int_le y x)
 
 -- two texts, compared by their bytes
 abbrev pub of_texts : BinaryOp → List ℕ → List ℕ → Result Plain Refused
-of_texts binary.Add s t = if nat_lt MAX_TEXT_BYTES (length s + length t) then Err TooLarge else Ok (text (s ++ t))
+of_texts binary.Add s t =
+    if nat_lt MAX_TEXT_BYTES (length s + length t) then Err TooLarge else Ok (text (s ++ t))
 of_texts binary.Equal s t = answers (bytes_eq s t)
 of_texts binary.NotEqual s t = answers (not (bytes_eq s t))
 of_texts binary.Less s t = answers (is_lt (slice_cmp nat_cmp s t))

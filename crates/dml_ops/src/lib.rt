@@ -1,6 +1,7 @@
 //! The operators of DML on trees, but for `&&` and `||`, whose right side is not always evaluated.
 //!
-//! In reading order: `unary`, `binary` (one operand, two operands), `longs`, `texts` (two of a kind).
+//! In reading order: `unary`, `binary` (one operand, two operands), `longs`, `texts` (two of a
+//! kind).
 #![tactic(auto)]
 
 mod longs;

@@ -3,8 +3,8 @@ ghost use Rattle.dml_ops.specs.Operators.{unary_of};
 
 use path_tree::{Refused, Tree, UnaryOp};
 
-/// An operator of one operand. `+`, `-` and `~` (each bit turned) take a long and `!` a boolean; another
-/// operand is `TypeClash`. `Overflow` exactly for `-` of -2^63. It takes no memory.
+/// An operator of one operand. `+`, `-` and `~` (each bit turned) take a long and `!` a boolean;
+/// another operand is `TypeClash`. `Overflow` exactly for `-` of -2^63. It takes no memory.
 pub fn unary(op: UnaryOp, a: &Tree) -> Result<Tree, Refused>
     ensures { result ≡ unary_of op a.now }
 {

@@ -8,10 +8,10 @@ use crate::texts::of_texts;
 use path_tree::{BinaryOp, Refused, Tree};
 use std::alloc::Global;
 
-/// An operator of two operands. `+` takes two longs or two texts; `- * / %` two longs; `& | ^` two longs or
-/// two booleans; `==` and `!=` two longs, texts or booleans; `< <= > >=` two longs, or two texts by their
-/// bytes. Other operands are `TypeClash`. A number past 64 bits is `Overflow`, a zero divisor
-/// `ZeroDivisor`, and a joined text of over 1,000,000 bytes `TooLarge`.
+/// An operator of two operands. `+` takes two longs or two texts; `- * / %` two longs; `& | ^` two
+/// longs or two booleans; `==` and `!=` two longs, texts or booleans; `< <= > >=` two longs, or two
+/// texts by their bytes. Other operands are `TypeClash`. A number past 64 bits is `Overflow`, a
+/// zero divisor `ZeroDivisor`, and a joined text of over `MAX_TEXT_BYTES` bytes `TooLarge`.
 pub fn binary(alloc: Global, op: BinaryOp, a: &Tree, b: &Tree) -> Result<Tree, Refused>
     ensures { Gives (λ t. t) refusal result (binary_of op a.now b.now) }
 {

@@ -1,1 +1,1 @@
-pub mod Kids
+pub mod Written

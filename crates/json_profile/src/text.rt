@@ -9,8 +9,8 @@ use std::alloc::{AllocError, Global};
 /// The room that a profile begins with.
 const USUAL_BYTES: usize = 1024;
 
-/// A tree as compact JSON with keys in byte order (RFC 8259), in one line without its end. An undef or a null is
-/// written as `null`.
+/// A tree as compact JSON with keys in byte order (RFC 8259), in one line without its end. An undef
+/// or a null is written as `null`.
 pub fn json_text(alloc: Global, tree: &Tree) -> Result<String, AllocError>
     ensures { IfOk result (λ text. string_bytes text ≡ json_text_of tree.now) }
 {

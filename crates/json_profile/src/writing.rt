@@ -44,7 +44,9 @@ fn write_dict(out: &mut Writer, tree: &Tree) -> Result<(), AllocError>
 fn write_field(out: &mut Writer, tree: &Tree, i: usize) -> Result<(), AllocError>
     requires dict { kind_of tree.now ≡ kind.Dict }
     requires within { i < child_count tree.now }
-    ensures ok { OnOk result (out.new.tokens ++ fields_tokens (i + 1) tree.now ≡ out.old.tokens ++ fields_tokens i tree.now) }
+    ensures ok { OnOk result
+        (out.new.tokens ++ fields_tokens (i + 1) tree.now ≡ out.old.tokens
+        ++ fields_tokens i tree.now) }
     ensures before { out.new.before ≡ out.old.before }
 {
     let Some(key) = tree.key_at(i) else {
@@ -76,7 +78,9 @@ fn write_list(out: &mut Writer, tree: &Tree) -> Result<(), AllocError>
 fn write_item(out: &mut Writer, tree: &Tree, i: usize) -> Result<(), AllocError>
     requires list { kind_of tree.now ≡ kind.List }
     requires within { i < child_count tree.now }
-    ensures ok { OnOk result (out.new.tokens ++ children_tokens (i + 1) tree.now ≡ out.old.tokens ++ children_tokens i tree.now) }
+    ensures ok { OnOk result
+        (out.new.tokens ++ children_tokens (i + 1) tree.now ≡ out.old.tokens
+        ++ children_tokens i tree.now) }
     ensures before { out.new.before ≡ out.old.before }
 {
     let Some(child) = tree.child_at(i) else {

@@ -1,5 +1,5 @@
 -- How many children a tree has.
-use Rattle.std.proofs.Common.{◌≡◌, ℕ, ◌+◌, ◌≤◌, arith}
+use Rattle.std.proofs.Common.{◌≤◌, arith}
 use Rattle.path_tree.specs.Plain.{Plain, dict, list, text, long, boolean, undef, null, Items, no_items, item, Fields, no_fields, field, tree_size, items_size, fields_size}
 use Rattle.path_tree.specs.Find.{child_count, item_count, field_count}
 

@@ -23,6 +23,6 @@ put_item_past (u ∷ us) k t = rw shift (ap (item u) (put_item_past us k t))
     shift : suc (length us) + k ≡ suc (length us + k)
     shift = omega arith
 
--- a list that is filled with undef up to place i, with t there
+-- a list that is filled with undef up to index i, with t there
 pub extended : (ts : List Plain) (i k : ℕ) (t : Plain) (xs : List Plain) → xs ≡ (ts ++ replicate k undef) ++ t ∷ [] → length ts + k ≡ i → items_of xs ≡ put_item i t (items_of ts)
 extended ts i k t xs e n = rw (e, ← n) (put_item_past ts k t)

@@ -1,5 +1,5 @@
 -- Paths that grow: what stands at a path with more terms, and what a put there leaves.
-use Rattle.std.proofs.Common.{◌≡◌, ℕ, zero, suc, ◌+◌, List, [], ◌∷◌, ◌++◌, length, Option, Some, None, option_and_then, Result, Ok, Err, refl, ap, sym, ◌∙◌, arith}
+use Rattle.std.proofs.Common.{◌≡◌, ℕ, ◌+◌, List, [], ◌∷◌, ◌++◌, length, Option, Some, None, option_and_then, Result, Ok, Err, refl, ap, sym, ◌∙◌, arith}
 use Rattle.path_tree.specs.Plain.{Plain, dict, list, text, long, boolean, undef, null, Items, Fields}
 use Rattle.path_tree.specs.Find.{child, find_field, get, item_at}
 use Rattle.path_tree.specs.Put.{walk, over, put_field, put_item, within_size, within_height, put}

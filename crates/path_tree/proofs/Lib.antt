@@ -1,4 +1,5 @@
 pub mod Refusals
+pub mod Children
 pub mod Counts
 pub mod Growing
 pub mod Found
@@ -10,7 +11,7 @@ pub mod Splits
 pub mod Pieces
 pub mod Numbers
 pub mod TermTexts
-pub mod Places
+pub mod Positions
 pub mod Sizes
 pub mod Plans
 pub mod Externals

@@ -1,16 +1,16 @@
 -- Lists that are made, and lists with an item more.
-use Rattle.std.proofs.Common.{◌≡◌, ◌≢◌, ℕ, zero, suc, ◌+◌, ◌<◌, ◌≤◌, max, Bool, true, false, ◌||◌, List, [], ◌∷◌, ◌++◌, length, take, drop, Result, Ok, Err, refl, ap, sym, subst, ◌∙◌, arith}
+use Rattle.std.proofs.Common.{◌≡◌, ◌≢◌, ℕ, zero, suc, ◌+◌, ◌<◌, ◌≤◌, max, Bool, true, false, ◌||◌, List, [], ◌∷◌, ◌++◌, length, Result, Ok, Err, refl, ap, sym, subst, ◌∙◌, arith}
 use Rattle.std.specs.Prelude.{nat_lt}
 use Rattle.std.specs.List.{insert, list_any}
 use Rattle.std.proofs.lemmas.List.Edits.{insert_end}
 use Rattle.std.proofs.lemmas.Bool.Decides.{nat_tests}
-use Rattle.path_tree.specs.Plain.{Plain, dict, list, text, long, boolean, undef, null, Items, no_items, item, tree_size, items_size, tree_height, items_height, IsTree, IsWhole, AreItems}
+use Rattle.path_tree.specs.Plain.{Plain, dict, list, text, long, boolean, undef, null, Items, no_items, item, tree_size, items_size, tree_height, items_height, IsTree, AreItems}
 use Rattle.path_tree.specs.Kept.{IsAdmitted, IsInside}
-use Rattle.path_tree.specs.View.{IsList, items_of, list_view}
+use Rattle.path_tree.specs.View.{IsList, items_of, list_seen}
 use Rattle.base.specs.declared.limits.TheConstants.{MAX_TREE_HEIGHT, MAX_TREE_SIZE}
 use Rattle.path_tree.specs.declared.tree.Items.{Items as Itemed}
 use Rattle.path_tree.specs.declared.tree.Measure.{Measure}
-use Rattle.path_tree.specs.Lists.{is_null, is_too_large, within_limits, list_of, items_in, pushed, pushed_front}
+use Rattle.path_tree.specs.Lists.{is_null, list_of, items_in, pushed, pushed_front}
 use Rattle.path_tree.specs.declared.refused.Refused.{Refused}
 use Rattle.path_tree.specs.declared.refused.Refused.TheVariants.{BadArgument, TooLarge}
 use Rattle.path_tree.specs.Refusals.{refusal}
@@ -130,15 +130,15 @@ module _ (l : Itemed) (v : Plain) (kept : IsList l) where
   too_high_with inside high i = more_high l.items.items i v kept.tree.whole inside (omega (arith, high, kept.height))
 
   module _ (m : Itemed) (i : ℕ) (after : Measure) (admitted : IsAdmitted l v after) (is : m.items.items ≡ insert l.items.items i v) where
-    pub inserted_is : list_of (insert l.items.items i v) ≡ Ok (list_view m)
+    pub inserted_is : list_of (insert l.items.items i v) ≡ Ok (list_seen m)
     inserted_is =
         more_fits l.items.items i v kept.tree.whole admitted.inside (omega (arith, admitted.size, admitted.small)) (omega (arith, admitted.height, admitted.low))
         ∙ ap (λ ts. Ok (list (items_of ts))) (sym is)
 
     pub inserted_kept : m.size ≡ after.size → m.height ≡ after.height → IsList m
     inserted_kept size height =
-        let whole_size : tree_size (list_view m) ≡ after.size = omega (arith, inserted_size l.items.items i v, ap (λ ts. items_size (items_of ts)) is, admitted.size) in
-        let whole_height : tree_height (list_view m) ≡ after.height = omega (arith, inserted_height l.items.items i v, ap (λ ts. items_height (items_of ts)) is, admitted.height) in
+        let whole_size : tree_size (list_seen m) ≡ after.size = omega (arith, inserted_size l.items.items i v, ap (λ ts. items_size (items_of ts)) is, admitted.size) in
+        let whole_height : tree_height (list_seen m) ≡ after.height = omega (arith, inserted_height l.items.items i v, ap (λ ts. items_height (items_of ts)) is, admitted.height) in
         record {
           tree = record {
             whole = subst (λ ts. AreItems (items_of ts)) (sym is) (inserted_items l.items.items i v admitted.inside kept.tree.whole);

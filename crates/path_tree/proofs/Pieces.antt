@@ -34,11 +34,11 @@ text_length None = 0
 text_length (Some text) = length text + 1
 
 -- a term that was read joins those before it
-pub behind_one : (ms all : List Term) (m : Term) (place : ℕ) (piece text : List ℕ) (more : Option (List ℕ)) → all ≡ ms ++ m ∷ [] → pieces text ≡ piece ∷ optional_pieces more → term_of piece ≡ Some m → behind all (terms_at (place + (length piece + 1)) (optional_pieces more)) ≡ behind ms (terms_at place (pieces text))
-behind_one ms all m place piece text more made parts read =
-    let next : place + (length piece + 1) ≡ place + length piece + 1 = omega arith in
-    rw (made, parts, read, next) (one (terms_at (place + length piece + 1) (optional_pieces more)))
+pub behind_one : (ms all : List Term) (m : Term) (position : ℕ) (piece text : List ℕ) (more : Option (List ℕ)) → all ≡ ms ++ m ∷ [] → pieces text ≡ piece ∷ optional_pieces more → term_of piece ≡ Some m → behind all (terms_at (position + (length piece + 1)) (optional_pieces more)) ≡ behind ms (terms_at position (pieces text))
+behind_one ms all m position piece text more made parts read =
+    let next : position + (length piece + 1) ≡ position + length piece + 1 = omega arith in
+    rw (made, parts, read, next) (one (terms_at (position + length piece + 1) (optional_pieces more)))
   where
-    one : (r : Result (List Term) PathError) → behind (ms ++ m ∷ []) r ≡ behind ms (terms_after (Some m) place r)
+    one : (r : Result (List Term) PathError) → behind (ms ++ m ∷ []) r ≡ behind ms (terms_after (Some m) position r)
     one (Ok ns) = ap Ok (append_assoc ms (m ∷ []) ns)
     one (Err e) = refl

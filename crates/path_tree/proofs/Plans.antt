@@ -44,7 +44,7 @@ chain_part (suc i) (m ∷ ms) v = omega (arith, chain_part i ms v, chain_size m 
 pub wrapped_eq : (m : Term) {a b : ℕ} → a ≡ b → wrapped_size m a ≡ wrapped_size m b
 wrapped_eq m h = ap (wrapped_size m) h
 
--- the terms from place j on make what the terms from the next place on make, wrapped once
+-- the terms from index j on make what the terms from the next index on make, wrapped once
 pub record Wraps (m : Term) (below whole : Plain) : Type 0 where
   pub size : tree_size whole ≡ wrapped_size m (tree_size below)
   pub height : tree_height whole ≡ tree_height below + 1

@@ -10,7 +10,7 @@ use Rattle.path_tree.specs.Find.{find_field, item_at, child, get}
 use Rattle.path_tree.specs.Put.{put_field, put_item}
 use Rattle.path_tree.specs.Remove.{remove_field, remove_item, change_field, change_item, remove_child, change_child, remove}
 use Rattle.path_tree.specs.Kept.{FitsMade, IsInside, IsLessened}
-use Rattle.path_tree.specs.View.{IsDict, IsList, dict_view, list_view, fields_of, items_of}
+use Rattle.path_tree.specs.View.{IsDict, IsList, dict_seen, list_seen, fields_of, items_of}
 use Rattle.path_tree.specs.declared.path.Term.{Term}
 use Rattle.path_tree.specs.declared.path.Term.TheVariants as term
 use Rattle.path_tree.specs.declared.tree.Dict.{Dict}
@@ -201,27 +201,27 @@ items_removed zero (item u us) a = a.2
 items_removed (suc i) (item u us) a = (a.0, a.1, items_removed i us a.2)
 
 -- what a container keeps
-pub lost_kept : (d e : Dict) (k : List ℕ) (c : Plain) → IsDict d → find_field k (fields_of d.entries.items) ≡ Some c → fields_of e.entries.items ≡ remove_field k (fields_of d.entries.items) → e.size ≡ tree_size (dict_view e) → e.height ≡ tree_height (dict_view e) → IsDict e
+pub lost_kept : (d e : Dict) (k : List ℕ) (c : Plain) → IsDict d → find_field k (fields_of d.entries.items) ≡ Some c → fields_of e.entries.items ≡ remove_field k (fields_of d.entries.items) → e.size ≡ tree_size (dict_seen e) → e.height ≡ tree_height (dict_seen e) → IsDict e
 lost_kept d e k c kept found is size height =
-    let fits = loss_fits c (dict_view d) (dict (remove_field k (fields_of d.entries.items))) (loses_field k c (fields_of d.entries.items) found) kept.tree in
+    let fits = loss_fits c (dict_seen d) (dict (remove_field k (fields_of d.entries.items))) (loses_field k c (fields_of d.entries.items) found) kept.tree in
     record {
       tree = subst (λ fs. IsTree (dict fs)) (sym is) (record { whole = fields_removed k (fields_of d.entries.items) kept.tree.whole; size = fits.size; height = fits.height });
       size = size;
       height = height;
     }
 
-pub lost_item_kept : (d e : Itemed) (i : ℕ) (c : Plain) → IsList d → item_at i (items_of d.items.items) ≡ Some c → items_of e.items.items ≡ remove_item i (items_of d.items.items) → e.size ≡ tree_size (list_view e) → e.height ≡ tree_height (list_view e) → IsList e
+pub lost_item_kept : (d e : Itemed) (i : ℕ) (c : Plain) → IsList d → item_at i (items_of d.items.items) ≡ Some c → items_of e.items.items ≡ remove_item i (items_of d.items.items) → e.size ≡ tree_size (list_seen e) → e.height ≡ tree_height (list_seen e) → IsList e
 lost_item_kept d e i c kept found is size height =
-    let fits = loss_fits c (list_view d) (list (remove_item i (items_of d.items.items))) (loses_item i c (items_of d.items.items) found) kept.tree in
+    let fits = loss_fits c (list_seen d) (list (remove_item i (items_of d.items.items))) (loses_item i c (items_of d.items.items) found) kept.tree in
     record {
       tree = subst (λ ts. IsTree (list ts)) (sym is) (record { whole = items_removed i (items_of d.items.items) kept.tree.whole; size = fits.size; height = fits.height });
       size = size;
       height = height;
     }
 
-pub shrunk_kept : (d e : Dict) (k : List ℕ) (c w : Plain) → IsDict d → find_field k (fields_of d.entries.items) ≡ Some c → Shrinks c w → IsInside w → fields_of e.entries.items ≡ put_field k w (fields_of d.entries.items) → e.size ≡ tree_size (dict_view e) → e.height ≡ tree_height (dict_view e) → IsDict e
+pub shrunk_kept : (d e : Dict) (k : List ℕ) (c w : Plain) → IsDict d → find_field k (fields_of d.entries.items) ≡ Some c → Shrinks c w → IsInside w → fields_of e.entries.items ≡ put_field k w (fields_of d.entries.items) → e.size ≡ tree_size (dict_seen e) → e.height ≡ tree_height (dict_seen e) → IsDict e
 shrunk_kept d e k c w kept found s inside is size height =
-    let fits = shrunk_fits (λ u. dict (put_field k u (fields_of d.entries.items))) c (dict_view d) w (changes_field k c (fields_of d.entries.items) found) s kept.tree in
+    let fits = shrunk_fits (λ u. dict (put_field k u (fields_of d.entries.items))) c (dict_seen d) w (changes_field k c (fields_of d.entries.items) found) s kept.tree in
     record {
       tree = subst (λ fs. IsTree (dict fs)) (sym is) (record { whole = fields_put k w (fields_of d.entries.items) (λ none. some_none (sym found ∙ none)) inside kept.tree.whole; size = fits.size; height = fits.height });
       size = size;
@@ -237,9 +237,9 @@ shrunk_kept d e k c w kept found s inside is size height =
         never : some c ≡ None → ⊥
         never e = cc
 
-pub shrunk_item_kept : (d e : Itemed) (i : ℕ) (c w : Plain) → IsList d → item_at i (items_of d.items.items) ≡ Some c → Shrinks c w → IsInside w → items_of e.items.items ≡ put_item i w (items_of d.items.items) → e.size ≡ tree_size (list_view e) → e.height ≡ tree_height (list_view e) → IsList e
+pub shrunk_item_kept : (d e : Itemed) (i : ℕ) (c w : Plain) → IsList d → item_at i (items_of d.items.items) ≡ Some c → Shrinks c w → IsInside w → items_of e.items.items ≡ put_item i w (items_of d.items.items) → e.size ≡ tree_size (list_seen e) → e.height ≡ tree_height (list_seen e) → IsList e
 shrunk_item_kept d e i c w kept found s inside is size height =
-    let fits = shrunk_fits (λ u. list (put_item i u (items_of d.items.items))) c (list_view d) w (changes_item i c (items_of d.items.items) found) s kept.tree in
+    let fits = shrunk_fits (λ u. list (put_item i u (items_of d.items.items))) c (list_seen d) w (changes_item i c (items_of d.items.items) found) s kept.tree in
     record {
       tree = subst (λ ts. IsTree (list ts)) (sym is) (record { whole = items_put i w (items_of d.items.items) inside kept.tree.whole; size = fits.size; height = fits.height });
       size = size;

@@ -6,12 +6,12 @@ use Rattle.base.specs.Characters.{slash}
 use Rattle.path_tree.specs.Paths.{first_of}
 use Rattle.path_tree.specs.Grammar.{is_segment}
 
--- i places later
+-- i positions later
 abbrev pub later : ℕ → Option ℕ → Option ℕ
 later i None = None
 later i (Some j) = Some (j + i)
 
--- a text is split at the first place of the byte
+-- a text is split at the first position of the byte
 abbrev pub split_by : List ℕ → Option ℕ → List (List ℕ)
 split_by text None = text ∷ []
 split_by text (Some i) = take i text ∷ slice_split (λ c. c == slash) (drop (i + 1) text)

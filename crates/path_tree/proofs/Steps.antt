@@ -3,7 +3,7 @@ use Rattle.std.proofs.Common.{◌≡◌, ℕ, zero, suc, ◌<◌, List, [], ◌�
 use Rattle.path_tree.specs.Plain.{Plain, tree_size, tree_height}
 use Rattle.path_tree.specs.Find.{find_field}
 use Rattle.path_tree.specs.Put.{put_field}
-use Rattle.path_tree.specs.Place.{Stands}
+use Rattle.path_tree.specs.Position.{Stands}
 use Rattle.path_tree.specs.View.{fields_of}
 use Rattle.path_tree.specs.Kept.{IsRemeasured}
 use Rattle.path_tree.specs.declared.tree.Entry.{Entry}

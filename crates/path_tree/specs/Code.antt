@@ -83,16 +83,25 @@ mutual
   run_parts undef r s = refl
   run_parts null r s = refl
 
-  run_items : (ts : Items) (r : List Token) (s : List Part) → run (parts_items ts r) s ≡ run r (items ts ∷ s)
+  run_items : (ts : Items) (r : List Token) (s : List Part) → run (parts_items ts r) s
+      ≡ run r (items ts ∷ s)
   run_items no_items r s = refl
-  run_items (item t ts) r s = run_parts t (parts_items ts (inr (inr (inr 5)) ∷ r)) s ∙ run_items ts (inr (inr (inr 5)) ∷ r) (tree t ∷ s)
+  run_items (item t ts) r s =
+      run_parts t (parts_items ts (inr (inr (inr 5)) ∷ r)) s ∙ run_items ts (inr (inr (inr 5)) ∷ r)
+      (tree t ∷ s)
 
-  run_fields : (fs : Fields) (r : List Token) (s : List Part) → run (parts_fields fs r) s ≡ run r (fields fs ∷ s)
+  run_fields : (fs : Fields) (r : List Token) (s : List Part) → run (parts_fields fs r) s
+      ≡ run r (fields fs ∷ s)
   run_fields no_fields r s = refl
-  run_fields (field k t fs) r s = run_parts t (parts_fields fs (inr (inr (inr 7)) ∷ r)) (tree (text k) ∷ s) ∙ run_fields fs (inr (inr (inr 7)) ∷ r) (tree t ∷ tree (text k) ∷ s)
+  run_fields (field k t fs) r s =
+      run_parts t (parts_fields fs (inr (inr (inr 7)) ∷ r)) (tree (text k) ∷ s) ∙ run_fields fs
+      (inr (inr (inr 7)) ∷ r) (tree t ∷ tree (text k) ∷ s)
 
 pub tree_of-tokens : (t : Plain) → tree_of (tokens t) ≡ t
 tree_of-tokens t = Prim.rw (run_parts t [] []) refl
 
 abbrev pub plain_code : Coded Plain
-plain_code = code_by (List Token) (coded_list (coded⊎ (coded_list coded_ℕ) (coded⊎ coded_ℤ (coded⊎ coded_bool coded_ℕ)))) tokens tree_of tree_of-tokens
+plain_code =
+    code_by (List Token)
+    (coded_list (coded⊎ (coded_list coded_ℕ)
+    (coded⊎ coded_ℤ (coded⊎ coded_bool coded_ℕ)))) tokens tree_of tree_of-tokens

@@ -7,7 +7,7 @@ use Rattle.path_tree.specs.declared.tree.Entry.{Entry}
 use Rattle.path_tree.specs.declared.tree.Node.{Node}
 use Rattle.path_tree.specs.declared.tree.Node.TheVariants as node
 use Rattle.path_tree.specs.declared.tree.Tree.TheDeep.{deep-Node, deep-Dict, deep-Entry}
-use Rattle.path_tree.specs.View.{items_of, fields_of, plain_of}
+use Rattle.path_tree.specs.View.{items_of, fields_of, node_seen}
 
 most_items : (ts : List Plain) → most (λ t. tree_size t + 1) ts ≤ items_size (items_of ts) + 1
 most_items [] = omega arith
@@ -20,8 +20,10 @@ most_fields (f ∷ fs) = omega (arith, most_fields fs)
 max_zero : (a b : ℕ) → a ≤ b → max a 0 ≤ b
 max_zero a b h = omega arith
 
-pub deep_le-size : (k : Node) → max (deep-Node k) 0 ≤ tree_size (plain_of k)
-deep_le-size (node.Dict d) = let h : deep-Dict d.value ≤ fields_size (fields_of d.value.entries.items) + 1 = max_zero _ _ (most_fields d.value.entries.items) in omega arith
+pub deep_le-size : (k : Node) → max (deep-Node k) 0 ≤ tree_size (node_seen k)
+deep_le-size (node.Dict d) =
+    let h : deep-Dict d.value ≤ fields_size (fields_of d.value.entries.items) + 1 = max_zero _ _
+    (most_fields d.value.entries.items) in omega arith
 deep_le-size (node.List l) = omega (arith, most_items l.value.items.items)
 deep_le-size (node.Text t) = omega arith
 deep_le-size (node.Long z) = omega arith

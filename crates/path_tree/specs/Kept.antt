@@ -9,14 +9,15 @@ use Rattle.path_tree.specs.declared.path.PutError.{PutError}
 use Rattle.path_tree.specs.declared.path.PutError.TheVariants.{TooLarge}
 use Rattle.path_tree.specs.declared.tree.Measure.{Measure}
 use Rattle.path_tree.specs.declared.tree.Items.{Items as Itemed}
-use Rattle.path_tree.specs.View.{list_view}
+use Rattle.path_tree.specs.View.{list_seen}
 
 -- what may stand inside a container
 pub record IsInside (t : Plain) : Type 0 where
   pub some : t ≢ null
   pub whole : IsWhole t
 
--- the walk goes through, and leaves a tree of this size, whose height is h where the old tree was lower
+-- the walk goes through, and leaves a tree of this size, whose height is h where the old tree was
+-- lower
 pub record HasPlan (n : ℕ) (ms : List Term) (v t : Plain) (m : Measure) : Type 0 where
   pub after : Plain
   pub is : walk n ms v t ≡ Ok after
@@ -61,7 +62,8 @@ pub record IsPast (e : PutError) (size before : ℕ) (below : Measure) : Type 0 
   pub large : MAX_TREE_SIZE + before < size + below.size
 
 abbrev pub IsGrown : ℕ → ℕ → Result Measure PutError → Result Measure PutError → Type 0
-IsGrown size before (Ok below) r = MatchResult r (HasGrown size before below) (λ e. IsPast e size before below)
+IsGrown size before (Ok below) r =
+    MatchResult r (HasGrown size before below) (λ e. IsPast e size before below)
 IsGrown size before (Err e) r = r ≡ Err e
 
 -- such a measure can be grown
@@ -101,7 +103,7 @@ Walks ms v old new = (n : ℕ) → walk n ms v old ≡ Ok new
 -- what may be added to a list, and the measure of the list with it
 pub record IsAdmitted (l : Itemed) (v : Plain) (m : Measure) : Type 0 where
   pub inside : IsInside v
-  pub size : m.size ≡ tree_size (list_view l) + tree_size v
-  pub height : m.height ≡ max (tree_height (list_view l)) (tree_height v + 1)
+  pub size : m.size ≡ tree_size (list_seen l) + tree_size v
+  pub height : m.height ≡ max (tree_height (list_seen l)) (tree_height v + 1)
   pub small : m.size ≤ MAX_TREE_SIZE
   pub low : m.height ≤ MAX_TREE_HEIGHT

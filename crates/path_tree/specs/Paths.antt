@@ -1,4 +1,4 @@
--- What path a text gives, and the text of a path in plain form.
+-- What path a text gives, and the text of a path in canonical form.
 use Rattle.std.specs.Prelude.{ℕ, ◌+◌, Bool, true, false, List, [], ◌∷◌, ◌++◌, length, take, drop, map, nat_lt, slice_index, ◌==◌, ◌&&◌, ◌||◌, not, if◌then◌else◌, Option, Some, None, option_map, Result, Ok, Err, decimal}
 use Rattle.std.specs.List.{onto_first, join_with_byte}
 use Rattle.base.specs.Characters.{close_brace, colon, open_brace, slash}
@@ -15,30 +15,36 @@ use Rattle.path_tree.specs.declared.path.PathError.TheVariants.{Empty, TooLong, 
 
 -- whether a reader that has passed the byte c stands inside braces
 abbrev pub inside_after : Bool → ℕ → Bool
-inside_after inside c = if c == open_brace then true else (if c == close_brace then false else inside)
+inside_after inside c =
+    if c == open_brace then true else (if c == close_brace then false else inside)
 
 -- the pieces of a text between the slashes that stand outside of braces
 abbrev pub pieces_from : Bool → List ℕ → List (List ℕ)
 pieces_from inside [] = [] ∷ []
-pieces_from inside (c ∷ cs) = if (c == slash) && not inside then ([] ∷ pieces_from false cs) else onto_first c (pieces_from (inside_after inside c) cs)
+pieces_from inside (c ∷ cs) =
+    if (c == slash) && not inside then ([] ∷ pieces_from false cs)
+    else onto_first c (pieces_from (inside_after inside c) cs)
 
 abbrev pub pieces : List ℕ → List (List ℕ)
 pieces text = pieces_from false text
 
--- the place of the first byte that is a or b
+-- the position of the first byte that is a or b
 abbrev pub first_of : ℕ → ℕ → List ℕ → Option ℕ
 first_of a b [] = None
-first_of a b (c ∷ cs) = if (c == a) || (c == b) then Some 0 else option_map (λ i. i + 1) (first_of a b cs)
+first_of a b (c ∷ cs) =
+    if (c == a) || (c == b) then Some 0 else option_map (λ i. i + 1) (first_of a b cs)
 
 -- what stands before the first brace, where that closes and stands last
 abbrev pub before_brace : List ℕ → Option ℕ → Option (List ℕ)
 before_brace cs None = None
-before_brace cs (Some i) = if (slice_index cs i == close_brace) && (i + 1 == length cs) then Some (take i cs) else None
+before_brace cs (Some i) =
+    if (slice_index cs i == close_brace) && (i + 1 == length cs) then Some (take i cs) else None
 
 -- the text between two braces, without braces inside
 abbrev pub in_braces : List ℕ → Option (List ℕ)
 in_braces [] = None
-in_braces (c ∷ cs) = if c == open_brace then before_brace cs (first_of open_brace close_brace cs) else None
+in_braces (c ∷ cs) =
+    if c == open_brace then before_brace cs (first_of open_brace close_brace cs) else None
 
 abbrev pub key_term : List ℕ → Option Term
 key_term bytes = if is_key bytes then Some (term.Key bytes) else None
@@ -50,17 +56,22 @@ braced_term (Some text) = key_term (escape text)
 
 -- a key, an index or a text in braces
 abbrev pub term_of : List ℕ → Option Term
-term_of piece = if is_key piece then Some (term.Key piece) else (if is_index piece then Some (term.Index (number_of piece)) else braced_term (in_braces piece))
+term_of piece =
+    if is_key piece then Some (term.Key piece)
+    else (if is_index piece then Some (term.Index (number_of piece))
+    else braced_term (in_braces piece))
 
-abbrev pub terms_after : Option Term → ℕ → Result (List Term) PathError → Result (List Term) PathError
-terms_after None place rest = Err (BadTerm place)
-terms_after (Some m) place (Ok ms) = Ok (m ∷ ms)
-terms_after (Some m) place (Err e) = Err e
+abbrev pub terms_after : Option Term → ℕ → Result (List Term) PathError
+    → Result (List Term) PathError
+terms_after None position rest = Err (BadTerm position)
+terms_after (Some m) position (Ok ms) = Ok (m ∷ ms)
+terms_after (Some m) position (Err e) = Err e
 
 -- the terms of pieces, the first of which begins at this byte of the text
 abbrev pub terms_at : ℕ → List (List ℕ) → Result (List Term) PathError
-terms_at place [] = Ok []
-terms_at place (piece ∷ more) = terms_after (term_of piece) place (terms_at (place + length piece + 1) more)
+terms_at position [] = Ok []
+terms_at position (piece ∷ more) =
+    terms_after (term_of piece) position (terms_at (position + length piece + 1) more)
 
 abbrev pub path_with : Anchor → Result (List Term) PathError → Result Path PathError
 path_with a (Ok ms) = Ok (record { anchor = a; terms = ms })
@@ -68,25 +79,30 @@ path_with a (Err e) = Err e
 
 -- what follows the slash of an absolute path: nothing, or terms
 abbrev pub terms_below : ℕ → List ℕ → Result (List Term) PathError
-terms_below place [] = Ok []
-terms_below place (c ∷ cs) = terms_at place (pieces (c ∷ cs))
+terms_below position [] = Ok []
+terms_below position (c ∷ cs) = terms_at position (pieces (c ∷ cs))
 
 -- an absolute path that begins at this byte of the text
 abbrev pub absolute_at : Anchor → ℕ → List ℕ → Result Path PathError
-absolute_at a place [] = Err (BadTerm place)
-absolute_at a place (c ∷ cs) = if c == slash then path_with a (terms_below (place + 1) cs) else Err (BadTerm place)
+absolute_at a position [] = Err (BadTerm position)
+absolute_at a position (c ∷ cs) =
+    if c == slash then path_with a (terms_below (position + 1) cs) else Err (BadTerm position)
 
 abbrev pub relative : List ℕ → Result Path PathError
 relative text = path_with anchor.Relative (terms_at 0 (pieces text))
 
 -- a name, and behind the colon at i an absolute path
 abbrev pub external : List ℕ → ℕ → Result Path PathError
-external text i = if is_name (take i text) then absolute_at (anchor.External (take i text)) (i + 1) (drop (i + 1) text) else Err (BadTerm 0)
+external text i =
+    if is_name (take i text)
+    then absolute_at (anchor.External (take i text)) (i + 1) (drop (i + 1) text)
+    else Err (BadTerm 0)
 
 -- external where the first colon or opening brace, at i, is a colon
 abbrev pub relative_or_external : List ℕ → Option ℕ → Result Path PathError
 relative_or_external text None = relative text
-relative_or_external text (Some i) = if slice_index text i == colon then external text i else relative text
+relative_or_external text (Some i) =
+    if slice_index text i == colon then external text i else relative text
 
 -- the path of a text, or its first fault
 abbrev pub path_of : List ℕ → Result Path PathError
@@ -110,6 +126,6 @@ anchored anchor.Absolute text = slash ∷ text
 anchored anchor.Relative text = text
 anchored (anchor.External name) text = name ++ (colon ∷ slash ∷ text)
 
--- a path in plain form
+-- a path in canonical form
 abbrev pub path_text : Path → List ℕ
 path_text p = anchored p.anchor (terms_text p.terms)

@@ -88,7 +88,8 @@ abbrev mutual
 
   pub AreFields : Fields → Type 0
   AreFields no_fields = Unit {0}
-  AreFields (field k t fs) = (is_key k ≡ true) × (t ≢ null) × IsWhole t × IsBefore k fs × AreFields fs
+  AreFields (field k t fs) =
+      (is_key k ≡ true) × (t ≢ null) × IsWhole t × IsBefore k fs × AreFields fs
 
 -- what holds of every tree
 pub record IsTree (t : Plain) : Type 0 where

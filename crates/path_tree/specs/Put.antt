@@ -14,9 +14,11 @@ use Rattle.path_tree.specs.declared.path.PutError.TheVariants.{ThroughProperty, 
 -- the fields with t at the key k
 abbrev pub put_field : List ℕ → Plain → Fields → Fields
 put_field k t no_fields = field k t no_fields
-put_field k t (field l u fs) = match_ordering (slice_cmp nat_cmp k l) (field k t (field l u fs)) (field l t fs) (field l u (put_field k t fs))
+put_field k t (field l u fs) =
+    match_ordering (slice_cmp nat_cmp k l) (field k t (field l u fs)) (field l t fs)
+    (field l u (put_field k t fs))
 
--- the items with t at place i, filled with undef up to there
+-- the items with t at index i, filled with undef up to there
 abbrev pub put_item : ℕ → Plain → Items → Items
 put_item zero t no_items = item t no_items
 put_item zero t (item u us) = item t us
@@ -33,17 +35,23 @@ abbrev pub over : {E : Type 0} → (Plain → Plain) → Result Plain E → Resu
 over f (Ok t) = Ok (f t)
 over f (Err e) = Err e
 
--- One term of a walk into the fields of a dict. made: what is put where nothing is; below: the walk below, where a child is.
-abbrev pub walk_dict : Term → Plain → (Plain → Result Plain PutError) → Fields → Result Plain PutError
-walk_dict (term.Key k) made below fs = over (λ c. dict (put_field k c fs)) (option_map_or below (find_field k fs) (Ok made))
+-- One term of a walk into the fields of a dict. made: what is put where nothing is; below: the walk
+-- below, where a child is.
+abbrev pub walk_dict : Term → Plain → (Plain → Result Plain PutError) → Fields
+    → Result Plain PutError
+walk_dict (term.Key k) made below fs =
+    over (λ c. dict (put_field k c fs)) (option_map_or below (find_field k fs) (Ok made))
 walk_dict (term.Index i) made below fs = Err IndexInDict
 
-abbrev pub walk_list : Term → Plain → (Plain → Result Plain PutError) → Items → Result Plain PutError
-walk_list (term.Index i) made below ts = over (λ c. list (put_item i c ts)) (option_map_or below (item_at i ts) (Ok made))
+abbrev pub walk_list : Term → Plain → (Plain → Result Plain PutError) → Items
+    → Result Plain PutError
+walk_list (term.Index i) made below ts =
+    over (λ c. list (put_item i c ts)) (option_map_or below (item_at i ts) (Ok made))
 walk_list (term.Key k) made below ts = Err KeyInList
 
 -- n: the terms passed before; whole: what is put in the place of an undef. A null counts as undef.
-abbrev pub walk_step : ℕ → Term → Plain → Plain → (Plain → Result Plain PutError) → Plain → Result Plain PutError
+abbrev pub walk_step : ℕ → Term → Plain → Plain → (Plain → Result Plain PutError) → Plain
+    → Result Plain PutError
 walk_step n m whole made below (dict fs) = walk_dict m made below fs
 walk_step n m whole made below (list ts) = walk_list m made below ts
 walk_step n m whole made below (text b) = Err (ThroughProperty n)
@@ -67,6 +75,7 @@ abbrev pub within_height : Result Plain PutError → Result Plain PutError
 within_height (Ok t) = if nat_lt MAX_TREE_HEIGHT (tree_height t) then Err TooHigh else Ok t
 within_height (Err e) = Err e
 
--- the tree t with v at the path, or the first refusal: of the walk, then of the size, then of the height
+-- the tree t with v at the path, or the first refusal: of the walk, then of the size, then of the
+-- height
 abbrev pub put : List Term → Plain → Plain → Result Plain PutError
 put ms v t = within_height (within_size (walk 0 ms v t))

@@ -5,15 +5,16 @@ use Rattle.base.specs.Parts.{bytes_from_to}
 use Rattle.path_tree.specs.Escape.{is_escape}
 use Rattle.path_tree.specs.Paths.{pieces, inside_after}
 
--- the bytes stand in a whole from this place on
-pub record StandsAt (place : ℕ) (bytes whole : List ℕ) : Type 0 where
-  pub within : place + length bytes ≤ length whole
-  pub same : bytes_from_to place (place + length bytes) whole ≡ bytes
+-- the bytes stand in a whole from this position on
+pub record StandsAt (position : ℕ) (bytes whole : List ℕ) : Type 0 where
+  pub within : position + length bytes ≤ length whole
+  pub same : bytes_from_to position (position + length bytes) whole ≡ bytes
 
 -- how many bytes stand before the first slash outside of braces
 abbrev pub piece_length : Bool → List ℕ → ℕ
 piece_length inside [] = 0
-piece_length inside (c ∷ cs) = if (c == slash) && not inside then 0 else (piece_length (inside_after inside c) cs + 1)
+piece_length inside (c ∷ cs) =
+    if (c == slash) && not inside then 0 else (piece_length (inside_after inside c) cs + 1)
 
 abbrev pub optional_pieces : Option (List ℕ) → List (List ℕ)
 optional_pieces None = []

@@ -1,4 +1,5 @@
--- What an error of a call is to the definition that the call gives: itself, and nothing where memory was wanting.
+-- What an error of a call is to the definition that the call gives: itself, and nothing where
+-- memory was wanting.
 use Rattle.std.specs.Prelude.{Option, Some, None}
 use Rattle.path_tree.specs.declared.refused.Refused.{Refused}
 use Rattle.path_tree.specs.declared.refused.Refused.TheVariants as refused

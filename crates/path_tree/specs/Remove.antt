@@ -8,7 +8,8 @@ use Rattle.path_tree.specs.declared.path.Term.TheVariants as term
 
 abbrev pub remove_field : List ℕ → Fields → Fields
 remove_field k no_fields = no_fields
-remove_field k (field l t fs) = match_ordering (slice_cmp nat_cmp k l) (field l t fs) fs (field l t (remove_field k fs))
+remove_field k (field l t fs) =
+    match_ordering (slice_cmp nat_cmp k l) (field l t fs) fs (field l t (remove_field k fs))
 
 -- later items move down
 abbrev pub remove_item : ℕ → Items → Items
@@ -18,7 +19,9 @@ remove_item (suc i) (item t ts) = item t (remove_item i ts)
 
 abbrev pub change_field : List ℕ → (Plain → Plain) → Fields → Fields
 change_field k change no_fields = no_fields
-change_field k change (field l t fs) = match_ordering (slice_cmp nat_cmp k l) (field l t fs) (field l (change t) fs) (field l t (change_field k change fs))
+change_field k change (field l t fs) =
+    match_ordering (slice_cmp nat_cmp k l) (field l t fs) (field l (change t) fs)
+    (field l t (change_field k change fs))
 
 abbrev pub change_item : ℕ → (Plain → Plain) → Items → Items
 change_item i change no_items = no_items

@@ -17,31 +17,31 @@ fields_of [] = no_fields
 fields_of (e ∷ es) = field e.key e.value (fields_of es)
 
 -- the tree that a dict stands for
-abbrev pub dict_view : Dict → Plain
-dict_view d = dict (fields_of d.entries.items)
+abbrev pub dict_seen : Dict → Plain
+dict_seen d = dict (fields_of d.entries.items)
 
-abbrev pub list_view : Itemed → Plain
-list_view l = list (items_of l.items.items)
+abbrev pub list_seen : Itemed → Plain
+list_seen l = list (items_of l.items.items)
 
 -- it keeps the size and the height of its tree
 pub record IsDict (d : Dict) : Type 0 where
-  pub tree : IsTree (dict_view d)
-  pub size : d.size ≡ tree_size (dict_view d)
-  pub height : d.height ≡ tree_height (dict_view d)
+  pub tree : IsTree (dict_seen d)
+  pub size : d.size ≡ tree_size (dict_seen d)
+  pub height : d.height ≡ tree_height (dict_seen d)
 
 pub record IsList (l : Itemed) : Type 0 where
-  pub tree : IsTree (list_view l)
-  pub size : l.size ≡ tree_size (list_view l)
-  pub height : l.height ≡ tree_height (list_view l)
+  pub tree : IsTree (list_seen l)
+  pub size : l.size ≡ tree_size (list_seen l)
+  pub height : l.height ≡ tree_height (list_seen l)
 
-abbrev pub plain_of : Node → Plain
-plain_of (node.Dict d) = dict_view d.value
-plain_of (node.List l) = list_view l.value
-plain_of (node.Text t) = text t
-plain_of (node.Long z) = long z
-plain_of (node.Boolean b) = boolean b
-plain_of node.Undef = undef
-plain_of node.Null = null
+abbrev pub node_seen : Node → Plain
+node_seen (node.Dict d) = dict_seen d.value
+node_seen (node.List l) = list_seen l.value
+node_seen (node.Text t) = text t
+node_seen (node.Long z) = long z
+node_seen (node.Boolean b) = boolean b
+node_seen node.Undef = undef
+node_seen node.Null = null
 
 abbrev pub IsNode : Node → Type 0
 IsNode (node.Dict d) = IsDict d.value

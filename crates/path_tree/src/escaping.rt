@@ -9,8 +9,8 @@ use base::ascii::{digit_value, is_digit, is_letter, is_lower_hexadecimal_digit};
 use std::alloc::{AllocError, Global};
 use std::str;
 
-/// The key that stands for a text: each byte that is no ASCII letter or digit, and a leading digit, is
-/// written as `_` and two lower-case hexadecimal digits. The empty text gives `_`.
+/// The key that stands for a text: each byte that is no ASCII letter or digit, and a leading digit,
+/// is written as `_` and two lower-case hexadecimal digits. The empty text gives `_`.
 pub fn escape(alloc: Global, text: &str) -> Result<String, AllocError>
     ensures value { IfOk result (λ key. string_bytes key ≡ escape text.now) }
     ensures undone { unescape (escape text.now) ≡ text.now }
@@ -69,10 +69,12 @@ fn hex_digit(value: u8) -> char
     }
 }
 
-/// The text that a key stands for: every `_` with two lower-case hexadecimal digits is replaced by that
-/// byte, and the text `_` gives the empty text. `None` exactly where the bytes are then not UTF-8.
+/// The text that a key stands for: every `_` with two lower-case hexadecimal digits is replaced by
+/// that byte, and the text `_` gives the empty text. `None` exactly where the bytes are then not
+/// UTF-8.
 pub fn unescape(alloc: Global, key: &str) -> Result<Option<String>, AllocError>
-    ensures { IfOk result (λ text. MatchOption text (¬ IsUtf8 (unescape key.now)) (λ t. (string_bytes t ≡ unescape key.now) × IsUtf8 (unescape key.now))) }
+    ensures { IfOk result (λ text. MatchOption text (¬ IsUtf8 (unescape key.now))
+        (λ t. (string_bytes t ≡ unescape key.now) × IsUtf8 (unescape key.now))) }
 {
     let bytes = unescape_bytes(alloc, key.as_bytes())?;
     match str::from_utf8(bytes.as_slice()) {

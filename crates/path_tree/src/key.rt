@@ -12,8 +12,9 @@ use base::limits::MAX_KEY_BYTES;
 use std::alloc::{AllocError, AllocFailed, Global};
 use std::marker::Model;
 
-/// A key of a dict: 1 to 1,000 bytes, an ASCII letter or `_`, then letters, digits or any of `_ . + -`.
-/// Contracts see the list of its bytes. Copies share one text in memory.
+/// A key of a dict (Pan Book, "Paths"): 1 to `MAX_KEY_BYTES` bytes, an ASCII letter or `_`, then
+/// letters, digits or any of `_ . + -`. Contracts see the list of its bytes. Copies share one text
+/// in memory.
 #[derive(Clone, Debug, Drop, PartialEq, Eq, PartialOrd, Ord)]
 pub struct Key {
     text: Text,
@@ -97,7 +98,8 @@ impl Key {
         Ok(Key { text })
     }
 
-    /// The key of bytes that are those of a key, and stand in a text from `start` on. It shares the text's memory.
+    /// The key of bytes that are those of a key, and stand in a text from `start` on. It shares the
+    /// text's memory.
     pub(crate) fn in_text(whole: &Text, start: usize, bytes: &[u8]) -> Result<Key, AllocError>
         requires key { is_key bytes.now ≡ true }
         requires part { StandsAt start bytes.now whole.now }

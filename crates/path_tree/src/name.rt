@@ -13,8 +13,9 @@ use base::limits::MAX_NAME_BYTES;
 use std::alloc::{AllocError, AllocFailed, Global};
 use std::marker::Model;
 
-/// A template name: 1 to 200 bytes, segments joined by `/`, each of one or more of `A-Z a-z 0-9 _ . + -`
-/// and none equal to `.` or `..`. Contracts see the list of its bytes. Copies share one text in memory.
+/// A template name (Pan Book, "Templates"): 1 to `MAX_NAME_BYTES` bytes, segments joined by `/`,
+/// each of one or more of `A-Z a-z 0-9 _ . + -` and none equal to `.` or `..`. Contracts see the
+/// list of its bytes. Copies share one text in memory.
 #[derive(Clone, Debug, Drop, PartialEq, Eq, PartialOrd, Ord)]
 pub struct Name {
     text: Text,
@@ -104,7 +105,8 @@ impl Name {
         Ok(Name { text })
     }
 
-    /// The name of bytes that are those of a template name, and that a text begins with. It shares the text's memory.
+    /// The name of bytes that are those of a template name, and that a text begins with. It shares
+    /// the text's memory.
     pub(crate) fn at_start(whole: &Text, bytes: &[u8]) -> Result<Name, AllocError>
         requires name { is_name bytes.now ≡ true }
         requires part { StandsAt 0 bytes.now whole.now }

@@ -24,22 +24,29 @@ use std::alloc::{AllocError, AllocFailed, Global};
 /// A step of a path: into a dict by a key, or into a list by an index from 0.
 #[derive(Clone, Debug, Drop, PartialEq, Eq)]
 pub enum Term {
+    /// A key of a dict.
     Key(Key),
+    /// An index of a list.
     Index(u32),
 }
 
 /// Where a path begins: at the root, where its statement says, or at the root of another object.
 #[derive(Clone, Debug, Drop, PartialEq, Eq)]
 pub enum Anchor {
+    /// At the root.
     Absolute,
+    /// Where its statement says.
     Relative,
+    /// At the root of this object.
     External(Name),
 }
 
-/// A path into a tree.
+/// A path into a tree (Pan Book, "Paths").
 #[derive(Debug, Drop)]
 pub struct Path {
+    /// Where it begins.
     pub anchor: Anchor,
+    /// Its steps, the first from there.
     pub terms: Seq<Term>,
 }
 
@@ -48,10 +55,10 @@ pub struct Path {
 pub enum PathError {
     /// It is empty.
     Empty,
-    /// It has over 4,096 bytes.
+    /// It has over `MAX_PATH_BYTES` bytes.
     TooLong,
-    /// The first term that is none begins at this byte. 0 for a bad object name, and the byte after the
-    /// colon where no absolute path follows it.
+    /// The first term that is none begins at this byte. 0 for a bad object name, and the byte after
+    /// the colon where no absolute path follows it.
     BadTerm(usize),
     /// There was no memory for the path.
     Memory,
@@ -66,9 +73,9 @@ pub enum PutError {
     KeyInList,
     /// An index leads into a dict.
     IndexInDict,
-    /// The size would pass 1,000,000.
+    /// The size would pass `MAX_TREE_SIZE`.
     TooLarge,
-    /// The height would pass 100.
+    /// The height would pass `MAX_TREE_HEIGHT`.
     TooHigh,
     /// There was no memory for the change.
     Memory,
@@ -107,11 +114,11 @@ impl<T: Drop> From<AllocFailed<T>> for PutError {
 }
 
 impl Path {
-    /// The path of a text. A path is absolute (`/`, or `/` before each term), relative (terms joined by
-    /// `/`), or external: a template name, `:` and an absolute path. It is external exactly where it does
-    /// not begin with `/` and a `:` comes before any `{`. A term is a key, an index (decimal digits without
-    /// a leading zero, at most 999,999) or a text in braces, without braces inside, which stands for the
-    /// text's escaped key. The path shares the text's memory.
+    /// The path of a text. A path is absolute (`/`, or `/` before each term), relative (terms
+    /// joined by `/`), or external: a template name, `:` and an absolute path. It is external
+    /// exactly where it does not begin with `/` and a `:` comes before any `{`. A term is a key, an
+    /// index (decimal digits without a leading zero, at most 999,999) or a text in braces, without
+    /// braces inside, which stands for the text's escaped key. The path shares the text's memory.
     pub fn parse(alloc: Global, text: &Text) -> Result<Path, PathError>
         ensures { Gives (λ p. p) path_refusal result (path_of text.now) }
     {
@@ -129,8 +136,8 @@ impl Path {
         }
     }
 
-    /// The path in plain form: keys and indices joined by `/`, behind `/` where it is absolute, and behind
-    /// the name and `:/` where it is external.
+    /// The path in canonical form: keys and indices joined by `/`, behind `/` where it is absolute,
+    /// and behind the name and `:/` where it is external.
     pub fn text(&self, alloc: Global) -> Result<String, AllocError>
         ensures { IfOk result (λ t. string_bytes t ≡ path_text self.now) }
     {
@@ -151,7 +158,8 @@ impl Path {
 fn relative_or_external(alloc: Global, whole: &Text, text: &[u8]) -> Result<Path, PathError>
     requires part { StandsAt 0 text.now whole.now }
     requires short { length text.now ≤ MAX_PATH_BYTES }
-    ensures { Gives (λ x. x) path_refusal result (relative_or_external text.now (first_of colon open_brace text.now)) }
+    ensures { Gives (λ x. x) path_refusal result
+        (relative_or_external text.now (first_of colon open_brace text.now)) }
 {
     match first_of(b':', b'{', text) {
         Some(at) if text[at] == b':' => external(alloc, whole, text, at),
@@ -194,53 +202,53 @@ fn absolute(
     alloc: Global,
     whole: &Text,
     anchor: Anchor,
-    place: usize,
+    position: usize,
     text: &[u8],
 ) -> Result<Path, PathError>
-    requires part { StandsAt place text.now whole.now }
-    requires short { place + length text.now ≤ MAX_PATH_BYTES }
-    ensures { Gives (λ x. x) path_refusal result (absolute_at anchor place text.now) }
+    requires part { StandsAt position text.now whole.now }
+    requires short { position + length text.now ≤ MAX_PATH_BYTES }
+    ensures { Gives (λ x. x) path_refusal result (absolute_at anchor position text.now) }
 {
     let [b'/', rest @ ..] = text else {
-        return Err(PathError::BadTerm(place));
+        return Err(PathError::BadTerm(position));
     };
-    let terms = terms_below(alloc, whole, place + 1, rest)?;
+    let terms = terms_below(alloc, whole, position + 1, rest)?;
     Ok(Path { anchor, terms })
 }
 
 fn terms_below(
     alloc: Global,
     whole: &Text,
-    place: usize,
+    position: usize,
     text: &[u8],
 ) -> Result<Seq<Term>, PathError>
-    requires part { StandsAt place text.now whole.now }
-    requires short { place + length text.now ≤ MAX_PATH_BYTES }
-    ensures { Gives (λ x. x) path_refusal result (terms_below place text.now) }
+    requires part { StandsAt position text.now whole.now }
+    requires short { position + length text.now ≤ MAX_PATH_BYTES }
+    ensures { Gives (λ x. x) path_refusal result (terms_below position text.now) }
 {
     if text.is_empty() {
         Ok(Seq::new(alloc))
     } else {
-        terms(alloc, whole, place, text)
+        terms(alloc, whole, position, text)
     }
 }
 
 // The terms of a text that begins at this byte of the path's text.
-fn terms(alloc: Global, whole: &Text, place: usize, text: &[u8]) -> Result<Seq<Term>, PathError>
-    requires part { StandsAt place text.now whole.now }
-    requires short { place + length text.now ≤ MAX_PATH_BYTES }
-    ensures { Gives (λ x. x) path_refusal result (terms_at place (pieces text.now)) }
+fn terms(alloc: Global, whole: &Text, position: usize, text: &[u8]) -> Result<Seq<Term>, PathError>
+    requires part { StandsAt position text.now whole.now }
+    requires short { position + length text.now ≤ MAX_PATH_BYTES }
+    ensures { Gives (λ x. x) path_refusal result (terms_at position (pieces text.now)) }
 {
     let mut terms = Vec::new(alloc);
-    let mut place = place;
+    let mut position = position;
     let mut rest = Some(text);
     while let Some(text) = rest {
         let (piece, more) = first_piece(text);
-        let Some(term) = term_of(alloc, whole, place, piece)? else {
-            return Err(PathError::BadTerm(place));
+        let Some(term) = term_of(alloc, whole, position, piece)? else {
+            return Err(PathError::BadTerm(position));
         };
         terms.push(term)?;
-        place += piece.len() + 1;
+        position += piece.len() + 1;
         rest = more;
     }
     Ok(Seq::from_vec(terms))
@@ -250,7 +258,8 @@ fn terms(alloc: Global, whole: &Text, place: usize, text: &[u8]) -> Result<Seq<T
 fn first_piece(text: &[u8]) -> (&[u8], Option<&[u8]>)
     ensures pieces { pieces text.now ≡ result.0.now ∷ optional_pieces (option_copied result.1) }
     ensures first { StandsAt 0 result.0.now text.now }
-    ensures more { IfSome (option_copied result.1) (λ more. StandsAt (length result.0.now + 1) more text.now) }
+    ensures more { IfSome (option_copied result.1)
+        (λ more. StandsAt (length result.0.now + 1) more text.now) }
 {
     let end = piece_end(text);
     if end < text.len() {
@@ -278,15 +287,15 @@ fn piece_end(text: &[u8]) -> usize
 fn term_of(
     alloc: Global,
     whole: &Text,
-    place: usize,
+    position: usize,
     piece: &[u8],
 ) -> Result<Option<Term>, AllocError>
-    requires part { StandsAt place piece.now whole.now }
-    requires short { place + length piece.now ≤ MAX_PATH_BYTES }
+    requires part { StandsAt position piece.now whole.now }
+    requires short { position + length piece.now ≤ MAX_PATH_BYTES }
     ensures { IfOk result (λ t. t ≡ term_of piece.now) }
 {
     if is_key(piece) {
-        Ok(Some(Term::Key(Key::in_text(whole, place, piece)?)))
+        Ok(Some(Term::Key(Key::in_text(whole, position, piece)?)))
     } else if is_index(piece) {
         Ok(Some(Term::Index(number_of(piece))))
     } else {

@@ -32,9 +32,10 @@ use std::alloc::{AllocError, Global};
 use std::marker::Model;
 use std::rc::Rc;
 
-/// A tree of dicts, lists and properties, at most 1,000,000 large and 100 high, or null. Contracts see a
-/// plain finite tree. A container holds no null. Containers are shared in memory: each keeps its size and
-/// its height, a copy costs one count, and a change copies the containers along one path.
+/// A tree of dicts, lists and properties, at most `MAX_TREE_SIZE` large and `MAX_TREE_HEIGHT` high,
+/// or null. Contracts see a plain finite tree. A container holds no null. Containers are shared in
+/// memory: each keeps its size and its height, a copy costs one count, and a change copies the
+/// containers along one path.
 #[cycle(tree)]
 #[derive(Drop)]
 pub struct Tree {
@@ -92,9 +93,9 @@ impl Model for Tree {
 
     ghost coded = { plain_code };
 
-    ghost use Rattle.path_tree.specs.View.{plain_of, IsNode};
+    ghost use Rattle.path_tree.specs.View.{node_seen, IsNode};
 
-    ghost view = { λ t. plain_of t.node };
+    ghost view = { λ t. node_seen t.node };
 
     ghost invariant = { λ t. IsNode t.node };
 
@@ -106,7 +107,7 @@ impl Model for Tree {
 }
 
 impl Tree {
-    /// A text. `TooLarge` exactly where it has over 1,000,000 bytes.
+    /// A text. `TooLarge` exactly where it has over `MAX_TEXT_BYTES` bytes.
     pub fn text(alloc: Global, content: &str) -> Result<Tree, Refused>
         ensures value { IfOk result (λ t. t ≡ plain.text content.now) }
         ensures ok { OnOk result (length content.now ≤ MAX_TEXT_BYTES) }
@@ -197,8 +198,9 @@ impl Tree {
         })
     }
 
-    /// The list of these trees. `BadArgument` exactly where one of them is null, and then `TooLarge` exactly
-    /// where the list is larger than 1,000,000 or higher than 100.
+    /// The list of these trees. `BadArgument` exactly where one of them is null, and then
+    /// `TooLarge` exactly where the list is larger than `MAX_TREE_SIZE` or higher than
+    /// `MAX_TREE_HEIGHT`.
     pub fn list(alloc: Global, items: Vec<Tree>) -> Result<Tree, Refused>
         ensures { Gives (λ t. t) refusal result (list_of items.items) }
     {
@@ -305,8 +307,8 @@ impl Tree {
         }
     }
 
-    /// What stands at a key of a dict. It takes no memory. `None` exactly where the tree is no dict or has no such
-    /// key. It is smaller than the tree.
+    /// What stands at a key of a dict. It takes no memory. `None` exactly where the tree is no dict
+    /// or has no such key. It is smaller than the tree.
     pub fn field(&self, key: &str) -> Option<&Tree>
         ensures value { option_copied result ≡ child (term.Key key.now) self.now }
         ensures smaller { IfSome result (λ t. tree_size t.now < tree_size self.now) }
@@ -343,7 +345,8 @@ impl Tree {
         }
     }
 
-    /// 1 and the sizes of the items; of a text of n bytes 1 + n / 64, rounded down. At most 1,000,000.
+    /// 1 and the sizes of the items; of a text of n bytes 1 + n / 64, rounded down. At most
+    /// `MAX_TREE_SIZE`.
     pub fn size(&self) -> u64
         ensures size { result ≡ tree_size self.now }
         ensures tree { IsTree self.now }
@@ -356,7 +359,7 @@ impl Tree {
         }
     }
 
-    /// 1 and the height of the highest item. At most 100.
+    /// 1 and the height of the highest item. At most `MAX_TREE_HEIGHT`.
     pub fn height(&self) -> u64
         ensures height { result ≡ tree_height self.now }
         ensures tree { IsTree self.now }
@@ -417,11 +420,12 @@ impl Tree {
         Ok(Tree { node })
     }
 
-    /// Puts a value at a path. At a dict a key goes on, and an index is `IndexInDict`. At a list an index
-    /// goes on, and a key is `KeyInList`. At an undef or a missing place a dict or a list is made, as the
-    /// term asks. At a property it is `ThroughProperty` with the number of terms passed. A list that is
-    /// put into past its end is filled with undef. The walk's refusal comes first, then `TooLarge`, then
-    /// `TooHigh`. A tree that is null counts as undef. On every refusal the tree is as before.
+    /// Puts a value at a path. At a dict a key goes on, and an index is `IndexInDict`. At a list an
+    /// index goes on, and a key is `KeyInList`. At an undef or a missing child a dict or a list is
+    /// made, as the term asks. At a property it is `ThroughProperty` with the number of terms
+    /// passed. A list that is put into past its end is filled with undef. The walk's refusal comes
+    /// first, then `TooLarge`, then `TooHigh`. A tree that is null counts as undef. On every
+    /// refusal the tree is as before.
     pub fn put(&mut self, alloc: Global, terms: &[Term], value: Tree) -> Result<(), PutError>
         requires { value ≢ plain.null }
         ensures gives { Gives (λ _. self.new) put_refusal result (put terms.now value self.old) }
@@ -444,9 +448,10 @@ impl Tree {
         }
     }
 
-    /// Takes out what stands at a path, and leaves an undef in its place. `None` exactly where a term finds nothing;
-    /// the tree is then as before. A put at the path after it leaves what a put in place of both would, and what is
-    /// changed between them is held by nothing else: so an item of an item is changed without a copy.
+    /// Takes out what stands at a path, and leaves an undef in its place. `None` exactly where a
+    /// term finds nothing; the tree is then as before. A put at the path after it leaves what a put
+    /// in place of both would, and what is changed between them is held by nothing else: so an item
+    /// of an item is changed without a copy.
     pub fn take(&mut self, alloc: Global, terms: &[Term]) -> Result<Option<Tree>, AllocError>
         ensures taken { IfOk result (λ found. IsTaken terms.now self.old found self.new) }
         ensures before { OnErr result (self.new ≡ self.old) }
@@ -461,8 +466,9 @@ impl Tree {
         }
     }
 
-    /// Adds an item behind the last of a list, in place. `BadArgument` where the tree is no list or the value is
-    /// null, and then `TooLarge` where the list would be larger than 1,000,000 or higher than 100.
+    /// Adds an item behind the last of a list, in place. `BadArgument` where the tree is no list or
+    /// the value is null, and then `TooLarge` where the list would be larger than `MAX_TREE_SIZE`
+    /// or higher than `MAX_TREE_HEIGHT`.
     pub fn push(&mut self, alloc: Global, value: Tree) -> Result<(), Refused>
         ensures gives { Gives (λ _. self.new) refusal result (pushed value self.old) }
         ensures before { OnErr result (self.new ≡ self.old) }

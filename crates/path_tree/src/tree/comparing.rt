@@ -1,11 +1,11 @@
 ghost use Rattle.std.specs.Prelude.{◌≡◌, ◌↔◌, IsTrue};
-ghost use Rattle.path_tree.specs.View.{fields_of, items_of, plain_of};
+ghost use Rattle.path_tree.specs.View.{fields_of, items_of, node_seen};
 
 use super::{Entry, Node, Tree};
 
 #[cycle(same)]
 pub(super) fn same_node(first: &Node, second: &Node) -> bool
-    ensures { IsTrue result ↔ (plain_of first.now ≡ plain_of second.now) }
+    ensures { IsTrue result ↔ (node_seen first.now ≡ node_seen second.now) }
 {
     match first {
         Node::Dict(dict) => match second {
@@ -50,7 +50,8 @@ fn same_entries(first: &[Entry], second: &[Entry]) -> bool
 
 #[cycle(same)]
 fn same_entry(first: &Entry, second: &Entry) -> bool
-    ensures { IsTrue result ↔ ((first.now.key ≡ second.now.key) × (first.now.value ≡ second.now.value)) }
+    ensures { IsTrue result ↔
+        ((first.now.key ≡ second.now.key) × (first.now.value ≡ second.now.value)) }
 {
     first.key == second.key && first.value.equals(&second.value)
 }

@@ -6,8 +6,8 @@ ghost use Rattle.path_tree.specs.Find.{field_count, field_key_at, find_field, va
 ghost use Rattle.path_tree.specs.Grammar.{is_key};
 ghost use Rattle.path_tree.specs.Kept.{FitsMade, IsInside, IsLessened, IsRemeasured};
 ghost use Rattle.path_tree.specs.Plain.{AreFields, dict, field, no_fields, tree_height, tree_size};
-ghost use Rattle.path_tree.specs.Place.{IsPlace};
-ghost use Rattle.path_tree.specs.View.{dict_view, fields_of};
+ghost use Rattle.path_tree.specs.Position.{IsPosition};
+ghost use Rattle.path_tree.specs.View.{dict_seen, fields_of};
 
 use super::{Dict, Entry, Measure, Node, Tree};
 use crate::key::Key;
@@ -45,17 +45,17 @@ pub(super) fn value_at(entries: &[Entry], i: usize) -> Option<&Tree>
 }
 
 // Where the key stands among the entries, or where it would.
-pub(super) fn place(entries: &[Entry], key: &Key) -> Result<usize, usize>
+pub(super) fn position(entries: &[Entry], key: &Key) -> Result<usize, usize>
     requires { AreFields (fields_of entries.now) }
-    ensures { IsPlace key.now entries.now result }
+    ensures { IsPosition key.now entries.now result }
 {
-    place_of(entries, key.as_str())
+    position_of(entries, key.as_str())
 }
 
 // The same of a key's text. Keys mostly come in order, so the last entry is looked at first.
-fn place_of(entries: &[Entry], key: &str) -> Result<usize, usize>
+fn position_of(entries: &[Entry], key: &str) -> Result<usize, usize>
     requires { AreFields (fields_of entries.now) }
-    ensures { IsPlace key.now entries.now result }
+    ensures { IsPosition key.now entries.now result }
 {
     let count = entries.len();
     if count == 0 {
@@ -71,7 +71,7 @@ fn place_of(entries: &[Entry], key: &str) -> Result<usize, usize>
 // The same, by halves.
 fn searched(entries: &[Entry], key: &str) -> Result<usize, usize>
     requires { AreFields (fields_of entries.now) }
-    ensures { IsPlace key.now entries.now result }
+    ensures { IsPosition key.now entries.now result }
 {
     entries.binary_search_by(
         |entry| -> Ordering
@@ -91,7 +91,7 @@ pub(super) fn find_text<'a>(entries: &'a [Entry], key: &str) -> Option<&'a Tree>
     requires { AreFields (fields_of entries.now) }
     ensures { option_copied result ≡ find_field key.now (fields_of entries.now) }
 {
-    match place_of(entries, key) {
+    match position_of(entries, key) {
         Ok(at) => Some(&entries[at].value),
         Err(_) => None,
     }
@@ -111,7 +111,8 @@ pub(super) fn own(alloc: Global, dict: &mut Rc<Dict>) -> Result<(), AllocError>
 }
 
 fn copy(alloc: Global, dict: &Dict) -> Result<Dict, AllocError>
-    ensures { IfOk result (λ d. (d.entries.items ≡ dict.now.entries.items) × (d.size ≡ dict.now.size) × (d.height ≡ dict.now.height)) }
+    ensures { IfOk result (λ d. (d.entries.items ≡ dict.now.entries.items)
+        × (d.size ≡ dict.now.size) × (d.height ≡ dict.now.height)) }
 {
     let mut entries = Vec::with_capacity(alloc, dict.entries.len())?;
     for entry in &dict.entries {
@@ -160,11 +161,12 @@ pub(super) fn one_field(alloc: Global, key: &Key, value: Tree) -> Result<Tree, A
 
 // Keeps the size and the height where a child of one measure has become one of another.
 pub(super) fn measure_change(dict: &mut Dict, before: Measure, after: Measure)
-    requires measured { IsRemeasured (dict_view dict.old) dict.old.size dict.old.height before after }
-    requires fits { FitsMade (dict_view dict.old) }
+    requires measured { IsRemeasured
+        (dict_seen dict.old) dict.old.size dict.old.height before after }
+    requires fits { FitsMade (dict_seen dict.old) }
     ensures entries { dict.new.entries.items ≡ dict.old.entries.items }
-    ensures size { dict.new.size ≡ tree_size (dict_view dict.new) }
-    ensures height { dict.new.height ≡ tree_height (dict_view dict.new) }
+    ensures size { dict.new.size ≡ tree_size (dict_seen dict.new) }
+    ensures height { dict.new.height ≡ tree_height (dict_seen dict.new) }
 {
     dict.size = dict.size - before.size + after.size;
     if after.height + 1 >= dict.height {
@@ -176,11 +178,11 @@ pub(super) fn measure_change(dict: &mut Dict, before: Measure, after: Measure)
 
 // Keeps the size and the height where a child of this measure is gone.
 pub(super) fn measure_loss(dict: &mut Dict, gone: Measure)
-    requires measured { IsLessened (dict_view dict.old) dict.old.size dict.old.height gone }
-    requires fits { FitsMade (dict_view dict.old) }
+    requires measured { IsLessened (dict_seen dict.old) dict.old.size dict.old.height gone }
+    requires fits { FitsMade (dict_seen dict.old) }
     ensures entries { dict.new.entries.items ≡ dict.old.entries.items }
-    ensures size { dict.new.size ≡ tree_size (dict_view dict.new) }
-    ensures height { dict.new.height ≡ tree_height (dict_view dict.new) }
+    ensures size { dict.new.size ≡ tree_size (dict_seen dict.new) }
+    ensures height { dict.new.height ≡ tree_height (dict_seen dict.new) }
 {
     dict.size -= gone.size;
     if gone.height + 1 == dict.height {

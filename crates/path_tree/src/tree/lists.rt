@@ -7,7 +7,7 @@ ghost use Rattle.path_tree.specs.Lists.{is_null, list_of, pushed, pushed_front};
 ghost use Rattle.path_tree.specs.Plain.{AreItems, list, no_items, tree_height, tree_size};
 ghost use Rattle.path_tree.specs.Put.{put_item};
 ghost use Rattle.path_tree.specs.Refusals.{refusal};
-ghost use Rattle.path_tree.specs.View.{IsList, items_of, list_view};
+ghost use Rattle.path_tree.specs.View.{IsList, items_of, list_seen};
 
 use super::{Items, Measure, Node, Tree};
 use crate::refused::Refused;
@@ -48,7 +48,8 @@ pub(super) fn own(alloc: Global, list: &mut Rc<Items>) -> Result<(), AllocError>
 }
 
 fn copy(alloc: Global, list: &Items) -> Result<Items, AllocError>
-    ensures { IfOk result (λ d. (d.items.items ≡ list.now.items.items) × (d.size ≡ list.now.size) × (d.height ≡ list.now.height)) }
+    ensures { IfOk result (λ d. (d.items.items ≡ list.now.items.items) × (d.size ≡ list.now.size)
+        × (d.height ≡ list.now.height)) }
 {
     let mut items = Vec::with_capacity(alloc, list.items.len())?;
     for item in &list.items {
@@ -61,11 +62,12 @@ fn copy(alloc: Global, list: &Items) -> Result<Items, AllocError>
     })
 }
 
-// Fills up with undef to the place, and adds the value there.
+// Fills up with undef to the index, and adds the value there.
 pub(super) fn extend(items: &mut Vec<Tree>, index: usize, value: Tree) -> Result<(), AllocError>
     requires past { length items.old.items ≤ index }
     requires small { index < 2 ^ 32 }
-    ensures ok { OnOk result (items_of items.new.items ≡ put_item index value (items_of items.old.items)) }
+    ensures ok { OnOk result
+        (items_of items.new.items ≡ put_item index value (items_of items.old.items)) }
     ensures before { OnErr result (items.new.items ≡ items.old.items) }
 {
     let room = index - items.len() + 1;
@@ -78,7 +80,7 @@ pub(super) fn extend(items: &mut Vec<Tree>, index: usize, value: Tree) -> Result
     Ok(())
 }
 
-// A list with one item at this place, filled with undef.
+// A list with one item at this index, filled with undef.
 #[tactic(auto, using(crate::proofs::Whole::whole_lemmas))]
 pub(super) fn one_item(alloc: Global, index: usize, value: Tree) -> Result<Tree, AllocError>
     requires index { index < 2 ^ 32 }
@@ -140,7 +142,8 @@ pub(super) fn list_of(alloc: Global, items: Vec<Tree>) -> Result<Tree, Refused>
 // The measure of a list with a value more, where the value is not null and the limits are kept.
 fn admit(list: &Items, value: &Tree) -> Result<Measure, Refused>
     requires { IsList list.now }
-    ensures { MatchResult result (IsAdmitted list.now value.now) (λ e. (index : ℕ) → list_of (insert list.now.items.items index value.now) ≡ Err e) }
+    ensures { MatchResult result (IsAdmitted list.now value.now)
+        (λ e. (index : ℕ) → list_of (insert list.now.items.items index value.now) ≡ Err e) }
 {
     if value.is_null() {
         return Err(Refused::BadArgument);
@@ -164,8 +167,9 @@ pub(super) fn insert(
 ) -> Result<(), Refused>
     requires kept { IsList list.old.value }
     requires within { index ≤ length list.old.value.items.items }
-    ensures gives { Gives (λ _. list_view list.new.value) refusal result (list_of (insert list.old.value.items.items index value)) }
-    ensures before { OnErr result (list_view list.new.value ≡ list_view list.old.value) }
+    ensures gives { Gives (λ _. list_seen list.new.value) refusal result
+        (list_of (insert list.old.value.items.items index value)) }
+    ensures before { OnErr result (list_seen list.new.value ≡ list_seen list.old.value) }
     ensures kept { IsList list.new.value }
 {
     let after = admit(list, &value)?;
@@ -180,8 +184,9 @@ pub(super) fn insert(
 // Adds an item behind the last.
 pub(super) fn push(alloc: Global, list: &mut Rc<Items>, value: Tree) -> Result<(), Refused>
     requires kept { IsList list.old.value }
-    ensures gives { Gives (λ _. list_view list.new.value) refusal result (pushed value (list_view list.old.value)) }
-    ensures before { OnErr result (list_view list.new.value ≡ list_view list.old.value) }
+    ensures gives { Gives (λ _. list_seen list.new.value) refusal result
+        (pushed value (list_seen list.old.value)) }
+    ensures before { OnErr result (list_seen list.new.value ≡ list_seen list.old.value) }
     ensures kept { IsList list.new.value }
 {
     let end = list.items.len();
@@ -191,8 +196,9 @@ pub(super) fn push(alloc: Global, list: &mut Rc<Items>, value: Tree) -> Result<(
 // In front of the first.
 pub(super) fn push_front(alloc: Global, list: &mut Rc<Items>, value: Tree) -> Result<(), Refused>
     requires kept { IsList list.old.value }
-    ensures gives { Gives (λ _. list_view list.new.value) refusal result (pushed_front value (list_view list.old.value)) }
-    ensures before { OnErr result (list_view list.new.value ≡ list_view list.old.value) }
+    ensures gives { Gives (λ _. list_seen list.new.value) refusal result
+        (pushed_front value (list_seen list.old.value)) }
+    ensures before { OnErr result (list_seen list.new.value ≡ list_seen list.old.value) }
     ensures kept { IsList list.new.value }
 {
     insert(alloc, list, 0, value)
@@ -207,8 +213,9 @@ fn insert_admitted(
     requires kept { IsList list.old }
     requires within { index ≤ length list.old.items.items }
     requires admitted { IsAdmitted list.old value after }
-    ensures ok { OnOk result (list_of (insert list.old.items.items index value) ≡ Ok (list_view list.new)) }
-    ensures before { OnErr result (list_view list.new ≡ list_view list.old) }
+    ensures ok { OnOk result
+        (list_of (insert list.old.items.items index value) ≡ Ok (list_seen list.new)) }
+    ensures before { OnErr result (list_seen list.new ≡ list_seen list.old) }
     ensures kept { IsList list.new }
 {
     list.items.insert(index, value)?;
@@ -219,11 +226,12 @@ fn insert_admitted(
 
 // Keeps the size and the height where an item of one measure has become one of another.
 pub(super) fn measure_change(list: &mut Items, before: Measure, after: Measure)
-    requires measured { IsRemeasured (list_view list.old) list.old.size list.old.height before after }
-    requires fits { FitsMade (list_view list.old) }
+    requires measured { IsRemeasured
+        (list_seen list.old) list.old.size list.old.height before after }
+    requires fits { FitsMade (list_seen list.old) }
     ensures items { list.new.items.items ≡ list.old.items.items }
-    ensures size { list.new.size ≡ tree_size (list_view list.new) }
-    ensures height { list.new.height ≡ tree_height (list_view list.new) }
+    ensures size { list.new.size ≡ tree_size (list_seen list.new) }
+    ensures height { list.new.height ≡ tree_height (list_seen list.new) }
 {
     list.size = list.size - before.size + after.size;
     if after.height + 1 >= list.height {
@@ -235,11 +243,11 @@ pub(super) fn measure_change(list: &mut Items, before: Measure, after: Measure)
 
 // Keeps the size and the height where an item of this measure is gone.
 pub(super) fn measure_loss(list: &mut Items, gone: Measure)
-    requires measured { IsLessened (list_view list.old) list.old.size list.old.height gone }
-    requires fits { FitsMade (list_view list.old) }
+    requires measured { IsLessened (list_seen list.old) list.old.size list.old.height gone }
+    requires fits { FitsMade (list_seen list.old) }
     ensures items { list.new.items.items ≡ list.old.items.items }
-    ensures size { list.new.size ≡ tree_size (list_view list.new) }
-    ensures height { list.new.height ≡ tree_height (list_view list.new) }
+    ensures size { list.new.size ≡ tree_size (list_seen list.new) }
+    ensures height { list.new.height ≡ tree_height (list_seen list.new) }
 {
     list.size -= gone.size;
     if gone.height + 1 == list.height {

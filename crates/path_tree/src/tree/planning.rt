@@ -15,7 +15,8 @@ use std::cmp::max;
 impl Tree {
     // Whether a put goes through, but for memory.
     pub(super) fn admit(&self, terms: &[Term], value: &Tree) -> Result<(), PutError>
-        ensures { MatchResult result (λ _. CanWalk terms.now value.now self.now) (λ e. put terms.now value.now self.now ≡ Err e) }
+        ensures { MatchResult result (λ _. CanWalk terms.now value.now self.now)
+            (λ e. put terms.now value.now self.now ≡ Err e) }
     {
         let plan = self.plan(0, terms, value)?;
         if max(self.height(), plan.height) > MAX_TREE_HEIGHT {
@@ -36,8 +37,8 @@ impl Tree {
         }
     }
 
-    // The size that a put would leave, and a height that is the new one where it is over the old one; or
-    // why the put is refused, but for the height.
+    // The size that a put would leave, and a height that is the new one where it is over the old
+    // one; or why the put is refused, but for the height.
     #[cycle(plan)]
     pub(super) fn plan(
         &self,

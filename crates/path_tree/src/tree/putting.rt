@@ -1,8 +1,8 @@
 ghost use Rattle.std.specs.Prelude.{◌≡◌, ◌<◌, ◌≤◌, ◌^◌, ◌∷◌, OnOk, OnErr, IfOk, length};
 ghost use Rattle.path_tree.specs.Kept.{CanWalk, FitsMade, IsInside, Walks};
-ghost use Rattle.path_tree.specs.Place.{Stands, Lacks};
+ghost use Rattle.path_tree.specs.Position.{Stands, Lacks};
 ghost use Rattle.path_tree.specs.Put.{chain};
-ghost use Rattle.path_tree.specs.View.{IsDict, IsList, dict_view, list_view};
+ghost use Rattle.path_tree.specs.View.{IsDict, IsList, dict_seen, list_seen};
 ghost use Rattle.path_tree.specs.declared.path.Term.TheVariants as term;
 
 use super::{Dict, Entry, Items, Node, Tree, dicts, lists};
@@ -46,7 +46,7 @@ pub(super) fn put_in(
     }
 }
 
-// A dict of one's own, and then plain work on it.
+// A dict of one's own, and then work on it alone.
 #[cycle(put)]
 fn put_key(
     alloc: Global,
@@ -56,10 +56,12 @@ fn put_key(
     value: Tree,
 ) -> Result<(), AllocError>
     requires kept { IsDict dict.old.value }
-    requires fits { CanWalk (term.Key key.now ∷ terms.now) value (dict_view dict.old.value) }
+    requires fits { CanWalk (term.Key key.now ∷ terms.now) value (dict_seen dict.old.value) }
     requires inside { IsInside value }
-    ensures ok { OnOk result (Walks (term.Key key.now ∷ terms.now) value (dict_view dict.old.value) (dict_view dict.new.value)) }
-    ensures before { OnErr result (dict_view dict.new.value ≡ dict_view dict.old.value) }
+    ensures ok { OnOk result
+        (Walks (term.Key key.now ∷ terms.now) value (dict_seen dict.old.value)
+        (dict_seen dict.new.value)) }
+    ensures before { OnErr result (dict_seen dict.new.value ≡ dict_seen dict.old.value) }
     ensures kept { IsDict dict.new.value }
 {
     dicts::own(alloc, dict)?;
@@ -78,19 +80,20 @@ fn put_field(
     value: Tree,
 ) -> Result<(), AllocError>
     requires kept { IsDict dict.old }
-    requires fits { CanWalk (term.Key key.now ∷ terms.now) value (dict_view dict.old) }
+    requires fits { CanWalk (term.Key key.now ∷ terms.now) value (dict_seen dict.old) }
     requires inside { IsInside value }
-    ensures ok { OnOk result (Walks (term.Key key.now ∷ terms.now) value (dict_view dict.old) (dict_view dict.new)) }
-    ensures before { OnErr result (dict_view dict.new ≡ dict_view dict.old) }
+    ensures ok { OnOk result
+        (Walks (term.Key key.now ∷ terms.now) value (dict_seen dict.old) (dict_seen dict.new)) }
+    ensures before { OnErr result (dict_seen dict.new ≡ dict_seen dict.old) }
     ensures kept { IsDict dict.new }
 {
-    match dicts::place(&dict.entries, key) {
+    match dicts::position(&dict.entries, key) {
         Ok(at) => change_field(alloc, dict, at, key, terms, value),
         Err(at) => add_field(alloc, dict, at, key, terms, value),
     }
 }
 
-// The key stands at this place.
+// The key stands at this index.
 #[cycle(put)]
 fn change_field(
     alloc: Global,
@@ -102,10 +105,11 @@ fn change_field(
 ) -> Result<(), AllocError>
     requires kept { IsDict dict.old }
     requires stands { Stands key.now dict.old.entries.items at }
-    requires fits { CanWalk (term.Key key.now ∷ terms.now) value (dict_view dict.old) }
+    requires fits { CanWalk (term.Key key.now ∷ terms.now) value (dict_seen dict.old) }
     requires inside { IsInside value }
-    ensures ok { OnOk result (Walks (term.Key key.now ∷ terms.now) value (dict_view dict.old) (dict_view dict.new)) }
-    ensures before { OnErr result (dict_view dict.new ≡ dict_view dict.old) }
+    ensures ok { OnOk result
+        (Walks (term.Key key.now ∷ terms.now) value (dict_seen dict.old) (dict_seen dict.new)) }
+    ensures before { OnErr result (dict_seen dict.new ≡ dict_seen dict.old) }
     ensures kept { IsDict dict.new }
 {
     let before = dict.entries[at].value.measure();
@@ -115,7 +119,7 @@ fn change_field(
     Ok(())
 }
 
-// The key would stand at this place.
+// The key would stand at this index.
 fn add_field(
     alloc: Global,
     dict: &mut Dict,
@@ -126,10 +130,11 @@ fn add_field(
 ) -> Result<(), AllocError>
     requires kept { IsDict dict.old }
     requires lacks { Lacks key.now dict.old.entries.items at }
-    requires fits { CanWalk (term.Key key.now ∷ terms.now) value (dict_view dict.old) }
+    requires fits { CanWalk (term.Key key.now ∷ terms.now) value (dict_seen dict.old) }
     requires inside { IsInside value }
-    ensures ok { OnOk result (Walks (term.Key key.now ∷ terms.now) value (dict_view dict.old) (dict_view dict.new)) }
-    ensures before { OnErr result (dict_view dict.new ≡ dict_view dict.old) }
+    ensures ok { OnOk result
+        (Walks (term.Key key.now ∷ terms.now) value (dict_seen dict.old) (dict_seen dict.new)) }
+    ensures before { OnErr result (dict_seen dict.new ≡ dict_seen dict.old) }
     ensures kept { IsDict dict.new }
 {
     let value = made(alloc, terms, value)?;
@@ -151,10 +156,12 @@ fn put_index(
 ) -> Result<(), AllocError>
     requires index { index < 2 ^ 32 }
     requires kept { IsList list.old.value }
-    requires fits { CanWalk (term.Index index ∷ terms.now) value (list_view list.old.value) }
+    requires fits { CanWalk (term.Index index ∷ terms.now) value (list_seen list.old.value) }
     requires inside { IsInside value }
-    ensures ok { OnOk result (Walks (term.Index index ∷ terms.now) value (list_view list.old.value) (list_view list.new.value)) }
-    ensures before { OnErr result (list_view list.new.value ≡ list_view list.old.value) }
+    ensures ok { OnOk result
+        (Walks (term.Index index ∷ terms.now) value (list_seen list.old.value)
+        (list_seen list.new.value)) }
+    ensures before { OnErr result (list_seen list.new.value ≡ list_seen list.old.value) }
     ensures kept { IsList list.new.value }
 {
     lists::own(alloc, list)?;
@@ -174,10 +181,11 @@ fn put_item(
 ) -> Result<(), AllocError>
     requires index { index < 2 ^ 32 }
     requires kept { IsList list.old }
-    requires fits { CanWalk (term.Index index ∷ terms.now) value (list_view list.old) }
+    requires fits { CanWalk (term.Index index ∷ terms.now) value (list_seen list.old) }
     requires inside { IsInside value }
-    ensures ok { OnOk result (Walks (term.Index index ∷ terms.now) value (list_view list.old) (list_view list.new)) }
-    ensures before { OnErr result (list_view list.new ≡ list_view list.old) }
+    ensures ok { OnOk result
+        (Walks (term.Index index ∷ terms.now) value (list_seen list.old) (list_seen list.new)) }
+    ensures before { OnErr result (list_seen list.new ≡ list_seen list.old) }
     ensures kept { IsList list.new }
 {
     if index < list.items.len() {
@@ -187,7 +195,7 @@ fn put_item(
     }
 }
 
-// An item stands at this place.
+// An item stands at this index.
 #[cycle(put)]
 fn change_item(
     alloc: Global,
@@ -198,10 +206,11 @@ fn change_item(
 ) -> Result<(), AllocError>
     requires index { index < length list.old.items.items }
     requires kept { IsList list.old }
-    requires fits { CanWalk (term.Index index ∷ terms.now) value (list_view list.old) }
+    requires fits { CanWalk (term.Index index ∷ terms.now) value (list_seen list.old) }
     requires inside { IsInside value }
-    ensures ok { OnOk result (Walks (term.Index index ∷ terms.now) value (list_view list.old) (list_view list.new)) }
-    ensures before { OnErr result (list_view list.new ≡ list_view list.old) }
+    ensures ok { OnOk result
+        (Walks (term.Index index ∷ terms.now) value (list_seen list.old) (list_seen list.new)) }
+    ensures before { OnErr result (list_seen list.new ≡ list_seen list.old) }
     ensures kept { IsList list.new }
 {
     let before = list.items[index].measure();
@@ -211,7 +220,7 @@ fn change_item(
     Ok(())
 }
 
-// The place is past the end.
+// The index is past the end.
 fn add_item(
     alloc: Global,
     list: &mut Items,
@@ -222,10 +231,11 @@ fn add_item(
     requires index { index < 2 ^ 32 }
     requires past { length list.old.items.items ≤ index }
     requires kept { IsList list.old }
-    requires fits { CanWalk (term.Index index ∷ terms.now) value (list_view list.old) }
+    requires fits { CanWalk (term.Index index ∷ terms.now) value (list_seen list.old) }
     requires inside { IsInside value }
-    ensures ok { OnOk result (Walks (term.Index index ∷ terms.now) value (list_view list.old) (list_view list.new)) }
-    ensures before { OnErr result (list_view list.new ≡ list_view list.old) }
+    ensures ok { OnOk result
+        (Walks (term.Index index ∷ terms.now) value (list_seen list.old) (list_seen list.new)) }
+    ensures before { OnErr result (list_seen list.new ≡ list_seen list.old) }
     ensures kept { IsList list.new }
 {
     let value = made(alloc, terms, value)?;

@@ -1,9 +1,9 @@
 ghost use Rattle.std.specs.Prelude.{◌≡◌, ◌<◌, ◌∷◌, [], IsSome, OnErr, OnOk, length};
 ghost use Rattle.path_tree.specs.Find.{get};
 ghost use Rattle.path_tree.specs.Kept.{IsInside};
-ghost use Rattle.path_tree.specs.Place.{Stands};
+ghost use Rattle.path_tree.specs.Position.{Stands};
 ghost use Rattle.path_tree.specs.Remove.{remove};
-ghost use Rattle.path_tree.specs.View.{IsDict, IsList, dict_view, list_view};
+ghost use Rattle.path_tree.specs.View.{IsDict, IsList, dict_seen, list_seen};
 ghost use Rattle.path_tree.specs.declared.path.Term.TheVariants as term;
 
 use super::{Dict, Items, Node, Tree, dicts, lists};
@@ -47,9 +47,11 @@ fn remove_key(
     terms: &[Term],
 ) -> Result<(), AllocError>
     requires kept { IsDict dict.old.value }
-    requires there { IsSome (get (term.Key key.now ∷ terms.now) (dict_view dict.old.value)) }
-    ensures ok { OnOk result (dict_view dict.new.value ≡ remove (term.Key key.now ∷ terms.now) (dict_view dict.old.value)) }
-    ensures before { OnErr result (dict_view dict.new.value ≡ dict_view dict.old.value) }
+    requires there { IsSome (get (term.Key key.now ∷ terms.now) (dict_seen dict.old.value)) }
+    ensures ok { OnOk result
+        (dict_seen dict.new.value
+        ≡ remove (term.Key key.now ∷ terms.now) (dict_seen dict.old.value)) }
+    ensures before { OnErr result (dict_seen dict.new.value ≡ dict_seen dict.old.value) }
     ensures kept { IsDict dict.new.value }
 {
     dicts::own(alloc, dict)?;
@@ -62,12 +64,13 @@ fn remove_key(
 #[cycle(remove)]
 fn remove_field(alloc: Global, dict: &mut Dict, key: &Key, terms: &[Term]) -> Result<(), AllocError>
     requires kept { IsDict dict.old }
-    requires there { IsSome (get (term.Key key.now ∷ terms.now) (dict_view dict.old)) }
-    ensures ok { OnOk result (dict_view dict.new ≡ remove (term.Key key.now ∷ terms.now) (dict_view dict.old)) }
-    ensures before { OnErr result (dict_view dict.new ≡ dict_view dict.old) }
+    requires there { IsSome (get (term.Key key.now ∷ terms.now) (dict_seen dict.old)) }
+    ensures ok { OnOk result
+        (dict_seen dict.new ≡ remove (term.Key key.now ∷ terms.now) (dict_seen dict.old)) }
+    ensures before { OnErr result (dict_seen dict.new ≡ dict_seen dict.old) }
     ensures kept { IsDict dict.new }
 {
-    match dicts::place(&dict.entries, key) {
+    match dicts::position(&dict.entries, key) {
         Err(_) => Ok(()),
         Ok(at) => {
             if terms.is_empty() {
@@ -80,11 +83,11 @@ fn remove_field(alloc: Global, dict: &mut Dict, key: &Key, terms: &[Term]) -> Re
     }
 }
 
-// The key stands at this place.
+// The key stands at this index.
 fn drop_field(dict: &mut Dict, at: usize, key: &Key)
     requires kept { IsDict dict.old }
     requires stands { Stands key.now dict.old.entries.items at }
-    ensures removed { dict_view dict.new ≡ remove (term.Key key.now ∷ []) (dict_view dict.old) }
+    ensures removed { dict_seen dict.new ≡ remove (term.Key key.now ∷ []) (dict_seen dict.old) }
     ensures kept { IsDict dict.new }
 {
     let gone = dict.entries[at].value.measure();
@@ -103,9 +106,10 @@ fn remove_below(
     requires kept { IsDict dict.old }
     requires stands { Stands key.now dict.old.entries.items at }
     requires some { 0 < length terms.now }
-    requires there { IsSome (get (term.Key key.now ∷ terms.now) (dict_view dict.old)) }
-    ensures ok { OnOk result (dict_view dict.new ≡ remove (term.Key key.now ∷ terms.now) (dict_view dict.old)) }
-    ensures before { OnErr result (dict_view dict.new ≡ dict_view dict.old) }
+    requires there { IsSome (get (term.Key key.now ∷ terms.now) (dict_seen dict.old)) }
+    ensures ok { OnOk result
+        (dict_seen dict.new ≡ remove (term.Key key.now ∷ terms.now) (dict_seen dict.old)) }
+    ensures before { OnErr result (dict_seen dict.new ≡ dict_seen dict.old) }
     ensures kept { IsDict dict.new }
 {
     let before = dict.entries[at].value.measure();
@@ -123,9 +127,11 @@ fn remove_index(
     terms: &[Term],
 ) -> Result<(), AllocError>
     requires kept { IsList list.old.value }
-    requires there { IsSome (get (term.Index index ∷ terms.now) (list_view list.old.value)) }
-    ensures ok { OnOk result (list_view list.new.value ≡ remove (term.Index index ∷ terms.now) (list_view list.old.value)) }
-    ensures before { OnErr result (list_view list.new.value ≡ list_view list.old.value) }
+    requires there { IsSome (get (term.Index index ∷ terms.now) (list_seen list.old.value)) }
+    ensures ok { OnOk result
+        (list_seen list.new.value
+        ≡ remove (term.Index index ∷ terms.now) (list_seen list.old.value)) }
+    ensures before { OnErr result (list_seen list.new.value ≡ list_seen list.old.value) }
     ensures kept { IsList list.new.value }
 {
     lists::own(alloc, list)?;
@@ -143,9 +149,10 @@ fn remove_item(
     terms: &[Term],
 ) -> Result<(), AllocError>
     requires kept { IsList list.old }
-    requires there { IsSome (get (term.Index index ∷ terms.now) (list_view list.old)) }
-    ensures ok { OnOk result (list_view list.new ≡ remove (term.Index index ∷ terms.now) (list_view list.old)) }
-    ensures before { OnErr result (list_view list.new ≡ list_view list.old) }
+    requires there { IsSome (get (term.Index index ∷ terms.now) (list_seen list.old)) }
+    ensures ok { OnOk result
+        (list_seen list.new ≡ remove (term.Index index ∷ terms.now) (list_seen list.old)) }
+    ensures before { OnErr result (list_seen list.new ≡ list_seen list.old) }
     ensures kept { IsList list.new }
 {
     if index < list.items.len() {
@@ -163,7 +170,7 @@ fn remove_item(
 fn drop_item(list: &mut Items, index: usize)
     requires kept { IsList list.old }
     requires index { index < length list.old.items.items }
-    ensures removed { list_view list.new ≡ remove (term.Index index ∷ []) (list_view list.old) }
+    ensures removed { list_seen list.new ≡ remove (term.Index index ∷ []) (list_seen list.old) }
     ensures kept { IsList list.new }
 {
     let gone = list.items[index].measure();
@@ -181,9 +188,10 @@ fn remove_under(
     requires kept { IsList list.old }
     requires index { index < length list.old.items.items }
     requires some { 0 < length terms.now }
-    requires there { IsSome (get (term.Index index ∷ terms.now) (list_view list.old)) }
-    ensures ok { OnOk result (list_view list.new ≡ remove (term.Index index ∷ terms.now) (list_view list.old)) }
-    ensures before { OnErr result (list_view list.new ≡ list_view list.old) }
+    requires there { IsSome (get (term.Index index ∷ terms.now) (list_seen list.old)) }
+    ensures ok { OnOk result
+        (list_seen list.new ≡ remove (term.Index index ∷ terms.now) (list_seen list.old)) }
+    ensures before { OnErr result (list_seen list.new ≡ list_seen list.old) }
     ensures kept { IsList list.new }
 {
     let before = list.items[index].measure();

@@ -4,7 +4,8 @@ use Rattle.json.specs.Tree.{json_tokens}
 use Rattle.path_tree.specs.Find.{child_count}
 use Rattle.json_profile.specs.Json.{json}
 use Rattle.json_profile.specs.Children.{fields_tokens, children_tokens}
-use Rattle.json_profile.proofs.Kids.{dict_key, dict_child, list_child, dict_tokens, list_tokens, part_written, field_written, field_tokens, item_tokens, dict_closed, list_closed}
+use Rattle.path_tree.proofs.Children.{dict_key, dict_child, list_child}
+use Rattle.json_profile.proofs.Written.{dict_tokens, list_tokens, part_written, field_written, field_tokens, item_tokens, dict_closed, list_closed}
 use Rattle.json_profile.proofs.writing.+writing.Goals as goal
 
 pub write_field-unreachable-requires : goal.write_field-unreachable-requires

@@ -7,9 +7,9 @@ use Rattle.path_tree.proofs.path.terms.Given as goal
 
 abbrev pub invariant-loop-rest : goal.invariant-loop-rest
 invariant-loop-rest l = record {
-  read : behind l.terms.items (terms_at l.place (optional_pieces (option_copied l.rest))) ≡ terms_at l.fn.place (pieces l.fn.text);
-  part : IfSome (option_copied l.rest) (λ text. StandsAt l.place text l.whole);
-  short : l.place + text_length (option_copied l.rest) ≤ MAX_PATH_BYTES + 1;
+  read : behind l.terms.items (terms_at l.position (optional_pieces (option_copied l.rest))) ≡ terms_at l.fn.position (pieces l.fn.text);
+  part : IfSome (option_copied l.rest) (λ text. StandsAt l.position text l.whole);
+  short : l.position + text_length (option_copied l.rest) ≤ MAX_PATH_BYTES + 1;
 }
 
 abbrev pub decreases-loop-rest : goal.decreases-loop-rest

@@ -1,13 +1,13 @@
 use Rattle.std.proofs.Common.{◌≡◌, ◌+◌, ◌*◌, ◌↔◌, drop, length}
 use Rattle.path_tree.specs.Plain.{tree_size, fields_size, items_size}
-use Rattle.path_tree.specs.View.{plain_of, fields_of, items_of}
+use Rattle.path_tree.specs.View.{node_seen, fields_of, items_of}
 use Rattle.path_tree.proofs.tree.+same.Given as goal
 
 abbrev pub decreases-Tree::equals : goal.decreases-Tree::equals
 decreases-Tree::equals l = 4 * tree_size l.self.now + 1
 
 abbrev pub decreases-comparing::same_node : goal.decreases-comparing::same_node
-decreases-comparing::same_node l = 4 * tree_size (plain_of l.first.now)
+decreases-comparing::same_node l = 4 * tree_size (node_seen l.first.now)
 
 abbrev pub decreases-comparing::same_entries : goal.decreases-comparing::same_entries
 decreases-comparing::same_entries l = 4 * fields_size (fields_of l.first.now) + 3

@@ -1,15 +1,16 @@
--- The place of a key among the entries of a dict.
+-- The position of a key among the entries of a dict.
 use Rattle.std.proofs.Common.{◌≡◌, ℕ, zero, suc, ◌<◌, ◌≤◌, List, [], ◌∷◌, length, get_or, Result, Ok, Err, false, refl, sym, ap, ◌∙◌, arith, add-one}
 use Rattle.std.specs.Ordering.{nat_cmp, ordering_reverse, is_lt}
 use Rattle.std.specs.declared.cmp.Ordering.{Ordering}
 use Rattle.std.specs.declared.cmp.Ordering.TheVariants.{Less, Equal, Greater}
 use Rattle.std.specs.Cmp.Lexicographic.{slice_cmp, nat_list_cmp_total}
 use Rattle.std.specs.List.Sorted.{IsSearchInRange, IsBinarySearchResult}
+use Rattle.std.proofs.lemmas.List.{get_or_default}
 use Rattle.std.proofs.lemmas.List.Sorted.{searchable_from_sorted}
 use Rattle.path_tree.specs.Plain.{field, AreFields, IsBefore}
 use Rattle.path_tree.specs.declared.tree.Entry.{Entry}
 use Rattle.path_tree.specs.View.{fields_of}
-use Rattle.path_tree.specs.Place.{Stands, Lacks, IsPlace}
+use Rattle.path_tree.specs.Position.{Stands, Lacks, IsPosition}
 
 abbrev cmp : List ℕ → List ℕ → Ordering
 cmp = slice_cmp nat_cmp
@@ -75,9 +76,9 @@ module _ (k : List ℕ) where
       (lacks es i (omega arith) (λ j d lt. before (suc j) d (omega arith)) (λ d lt. after d (omega arith)))
 
   -- what a binary search finds
-  pub place_ok : (es : List Entry) → AreFields (fields_of es) → (r : Result ℕ ℕ) → IsSearchInRange r (length es) → IsBinarySearchResult (λ e. cmp e.key k) es r → IsPlace k es r
-  place_ok es f (Ok i) within at = stands es i f within at
-  place_ok es f (Err i) within parted =
+  pub position_ok : (es : List Entry) → AreFields (fields_of es) → (r : Result ℕ ℕ) → IsSearchInRange r (length es) → IsBinarySearchResult (λ e. cmp e.key k) es r → IsPosition k es r
+  position_ok es f (Ok i) within at = stands es i f within at
+  position_ok es f (Err i) within parted =
       let p = parted (searchable_from_sorted nat_list_cmp_total (λ (e : Entry). e.key) es k (λ j d a b. rw add-one (rising es f j d (omega arith)))) in
       lacks es i within (λ j d lt. p.0 j d (omega arith) lt) (λ d lt. p.1 i d (omega arith) lt)
 
@@ -89,14 +90,9 @@ module _ (k : List ℕ) where
   below_last (g ∷ es) (suc i) e f last is zero d h = nat_list_cmp_total.trans g.key (get_or es i e).key k (above g.key es f.3 f.4 i e (omega (arith, last))) is
   below_last (g ∷ es) (suc i) e f last is (suc j) d h = below_last es i e f.4 (omega (arith, last)) is j d (omega (arith, h))
 
-  -- a key above the last has its place at the end
-  pub place_end : (es : List Entry) (i : ℕ) (e : Entry) → AreFields (fields_of es) → suc i ≡ length es → cmp (get_or es i e).key k ≡ Less → Lacks k es (length es)
-  place_end es i e f last is = lacks es (length es) (omega arith) (λ j d lt. below_last es i e f last is j d lt) (λ d lt. absurd (omega (arith, lt)))
+  -- a key above the last comes at the end
+  pub position_end : (es : List Entry) (i : ℕ) (e : Entry) → AreFields (fields_of es) → suc i ≡ length es → cmp (get_or es i e).key k ≡ Less → Lacks k es (length es)
+  position_end es i e f last is = lacks es (length es) (omega arith) (λ j d lt. below_last es i e f last is j d lt) (λ d lt. absurd (omega (arith, lt)))
 
-  at_any : (es : List Entry) (i : ℕ) (d e : Entry) → i < length es → get_or es i d ≡ get_or es i e
-  at_any [] i d e h = absurd (omega (arith, h))
-  at_any (g ∷ es) zero d e h = refl
-  at_any (g ∷ es) (suc i) d e h = at_any es i d e (omega (arith, h))
-
-  pub place_last : (es : List Entry) (i : ℕ) (e : Entry) → AreFields (fields_of es) → suc i ≡ length es → cmp (get_or es i e).key k ≡ Equal → Stands k es i
-  place_last es i e f last is = stands es i f (omega (arith, last)) (λ d. ap (λ (x : Entry). cmp x.key k) (at_any es i d e (omega (arith, last))) ∙ is)
+  pub position_last : (es : List Entry) (i : ℕ) (e : Entry) → AreFields (fields_of es) → suc i ≡ length es → cmp (get_or es i e).key k ≡ Equal → Stands k es i
+  position_last es i e f last is = stands es i f (omega (arith, last)) (λ d. ap (λ (x : Entry). cmp x.key k) (get_or_default es i d e (omega (arith, last))) ∙ is)

@@ -1,13 +1,9 @@
 -- The children of a tree, one after the other.
-use Rattle.std.proofs.Common.{◌≡◌, ℕ, zero, suc, ◌+◌, ◌<◌, [], ◌∷◌, ◌++◌, List, Some, None, refl, sym, ap, ◌∙◌, arith, append_assoc}
-use Rattle.json.specs.Token.{Token}
-use Rattle.json.specs.Tree.{json_tokens, items_tokens, members_tokens}
-use Rattle.path_tree.specs.Plain.{Plain, dict, list, text, long, undef, Items, no_items, item, Fields, no_fields, field}
-use Rattle.path_tree.specs.Plain as plain
+use Rattle.std.proofs.Common.{◌≡◌, ℕ, zero, suc, ◌+◌, ◌<◌, List, Some, None, refl, sym, ap, arith}
+use Rattle.path_tree.specs.Children.{drop_fields, drop_items, fields_from, items_from}
+use Rattle.path_tree.specs.Plain.{Plain, dict, list, text, long, boolean, undef, null, Items, no_items, item, Fields, no_fields, field}
 use Rattle.path_tree.specs.Find.{kind_of, child_count, field_count, item_count, key_at, child_at, field_key_at, value_at, item_at}
 use Rattle.path_tree.specs.declared.kind.Kind.TheVariants as kind
-use Rattle.json_profile.specs.Json.{json, items_json, fields_json}
-use Rattle.json_profile.specs.Children.{drop_fields, drop_items, fields_from, items_from, fields_tokens, children_tokens}
 
 -- fields
 pub all_fields : (fs : Fields) → drop_fields 0 fs ≡ fs
@@ -38,39 +34,39 @@ dict_end (dict fs) n is count = rw count (no_more_fields fs)
 dict_end (list ts) n is count = cc
 dict_end (text bs) n is count = cc
 dict_end (long z) n is count = cc
-dict_end (plain.boolean b) n is count = cc
+dict_end (boolean b) n is count = cc
 dict_end undef n is count = cc
-dict_end plain.null n is count = cc
+dict_end null n is count = cc
 
 pub dict_step : (t : Plain) (i : ℕ) (k : List ℕ) (c : Plain) → kind_of t ≡ kind.Dict → key_at i t ≡ Some k → child_at i t ≡ Some c → fields_from i t ≡ field k c (fields_from (i + 1) t)
 dict_step (dict fs) i k c is key child = one_field fs i (i + 1) k c (omega arith) key child
 dict_step (list ts) i k c is key child = cc
 dict_step (text bs) i k c is key child = cc
 dict_step (long z) i k c is key child = cc
-dict_step (plain.boolean b) i k c is key child = cc
+dict_step (boolean b) i k c is key child = cc
 dict_step undef i k c is key child = cc
-dict_step plain.null i k c is key child = cc
+dict_step null i k c is key child = cc
 
 pub dict_key : (t : Plain) (i : ℕ) → kind_of t ≡ kind.Dict → i < child_count t → key_at i t ≡ None → ⊥
 dict_key (dict fs) i is within none = key_there fs i within none
 dict_key (list ts) i is within none = cc
 dict_key (text bs) i is within none = cc
 dict_key (long z) i is within none = cc
-dict_key (plain.boolean b) i is within none = cc
+dict_key (boolean b) i is within none = cc
 dict_key undef i is within none = cc
-dict_key plain.null i is within none = cc
+dict_key null i is within none = cc
 
 pub dict_child : (t : Plain) (i : ℕ) → kind_of t ≡ kind.Dict → i < child_count t → child_at i t ≡ None → ⊥
 dict_child (dict fs) i is within none = value_there fs i within none
 dict_child (list ts) i is within none = cc
 dict_child (text bs) i is within none = cc
 dict_child (long z) i is within none = cc
-dict_child (plain.boolean b) i is within none = cc
+dict_child (boolean b) i is within none = cc
 dict_child undef i is within none = cc
-dict_child plain.null i is within none = cc
+dict_child null i is within none = cc
 
 -- items
-all_items : (ts : Items) → drop_items 0 ts ≡ ts
+pub all_items : (ts : Items) → drop_items 0 ts ≡ ts
 all_items no_items = refl
 all_items (item t ts) = refl
 
@@ -93,62 +89,24 @@ list_end (list ts) n is count = rw count (no_more_items ts)
 list_end (dict fs) n is count = cc
 list_end (text bs) n is count = cc
 list_end (long z) n is count = cc
-list_end (plain.boolean b) n is count = cc
+list_end (boolean b) n is count = cc
 list_end undef n is count = cc
-list_end plain.null n is count = cc
+list_end null n is count = cc
 
 pub list_step : (t : Plain) (i : ℕ) (c : Plain) → kind_of t ≡ kind.List → child_at i t ≡ Some c → items_from i t ≡ item c (items_from (i + 1) t)
 list_step (list ts) i c is child = one_item ts i (i + 1) c (omega arith) child
 list_step (dict fs) i c is child = cc
 list_step (text bs) i c is child = cc
 list_step (long z) i c is child = cc
-list_step (plain.boolean b) i c is child = cc
+list_step (boolean b) i c is child = cc
 list_step undef i c is child = cc
-list_step plain.null i c is child = cc
+list_step null i c is child = cc
 
 pub list_child : (t : Plain) (i : ℕ) → kind_of t ≡ kind.List → i < child_count t → child_at i t ≡ None → ⊥
 list_child (list ts) i is within none = item_there ts i within none
 list_child (dict fs) i is within none = cc
 list_child (text bs) i is within none = cc
 list_child (long z) i is within none = cc
-list_child (plain.boolean b) i is within none = cc
+list_child (boolean b) i is within none = cc
 list_child undef i is within none = cc
-list_child plain.null i is within none = cc
-
--- where the tokens stand
-pub dict_tokens : (t : Plain) → kind_of t ≡ kind.Dict → json_tokens (json t) ≡ Token.begin_object ∷ fields_tokens 0 t
-dict_tokens (dict fs) is = ap (λ gs. Token.begin_object ∷ members_tokens (fields_json gs)) (sym (all_fields fs))
-dict_tokens (list ts) is = cc
-dict_tokens (text bs) is = cc
-dict_tokens (long z) is = cc
-dict_tokens (plain.boolean b) is = cc
-dict_tokens undef is = cc
-dict_tokens plain.null is = cc
-
-pub list_tokens : (t : Plain) → kind_of t ≡ kind.List → json_tokens (json t) ≡ Token.begin_array ∷ children_tokens 0 t
-list_tokens (list ts) is = ap (λ us. Token.begin_array ∷ items_tokens (items_json us)) (sym (all_items ts))
-list_tokens (dict fs) is = cc
-list_tokens (text bs) is = cc
-list_tokens (long z) is = cc
-list_tokens (plain.boolean b) is = cc
-list_tokens undef is = cc
-list_tokens plain.null is = cc
-
--- what was written, and the tokens that are left
-pub part_written : (old new part more all : List Token) → new ≡ old ++ part → all ≡ part ++ more → new ++ more ≡ old ++ all
-part_written old new part more all e f = ap (λ ts. ts ++ more) e ∙ append_assoc old part more ∙ ap (λ ts. old ++ ts) (sym f)
-
-pub field_written : (old mid new part more all : List Token) (t : Token) → mid ≡ old ++ t ∷ [] → new ≡ mid ++ part → all ≡ t ∷ (part ++ more) → new ++ more ≡ old ++ all
-field_written old mid new part more all t e f g = part_written mid new part more (part ++ more) f refl ∙ part_written old mid (t ∷ []) (part ++ more) all e g
-
-pub field_tokens : (t c : Plain) (i : ℕ) (k : List ℕ) → kind_of t ≡ kind.Dict → key_at i t ≡ Some k → child_at i t ≡ Some c → fields_tokens i t ≡ Token.key k ∷ (json_tokens (json c) ++ fields_tokens (i + 1) t)
-field_tokens t c i k is key child = ap (λ fs. members_tokens (fields_json fs)) (dict_step t i k c is key child)
-
-pub item_tokens : (t c : Plain) (i : ℕ) → kind_of t ≡ kind.List → child_at i t ≡ Some c → children_tokens i t ≡ json_tokens (json c) ++ children_tokens (i + 1) t
-item_tokens t c i is child = ap (λ ts. items_tokens (items_json ts)) (list_step t i c is child)
-
-pub dict_closed : (t : Plain) (n : ℕ) (old new : List Token) → kind_of t ≡ kind.Dict → n ≡ child_count t → new ≡ old ++ Token.end_object ∷ [] → new ≡ old ++ fields_tokens n t
-dict_closed t n old new is count e = e ∙ ap (λ fs. old ++ members_tokens (fields_json fs)) (sym (dict_end t n is count))
-
-pub list_closed : (t : Plain) (n : ℕ) (old new : List Token) → kind_of t ≡ kind.List → n ≡ child_count t → new ≡ old ++ Token.end_array ∷ [] → new ≡ old ++ children_tokens n t
-list_closed t n old new is count e = e ∙ ap (λ ts. old ++ items_tokens (items_json ts)) (sym (list_end t n is count))
+list_child null i is within none = cc

@@ -1,4 +1,4 @@
--- What holds at the place of a key among the entries of a dict.
+-- What holds at the position of a key among the entries of a dict.
 use Rattle.std.specs.Prelude.{◌≡◌, ℕ, ◌<◌, ◌≤◌, List, length, Some, None, Result, MatchResult, slice_index_or, slice_set, insert}
 use Rattle.path_tree.specs.Plain.{Plain}
 use Rattle.path_tree.specs.declared.tree.Entry.{Entry}
@@ -8,11 +8,13 @@ use Rattle.path_tree.specs.Put.{put_field}
 use Rattle.path_tree.specs.Remove.{remove_field}
 use Rattle.std.specs.List.{remove}
 
--- what holds where a key stands at place i
+-- what holds where a key stands at index i
 pub record Stands (k : List ℕ) (es : List Entry) (i : ℕ) : Type 0 where
   pub within : i < length es
   pub found : (d : Entry) → find_field k (fields_of es) ≡ Some (slice_index_or es i d).value
-  pub put : (d : Entry) (t : Plain) → fields_of (slice_set es i (record (slice_index_or es i d) { value = t })) ≡ put_field k t (fields_of es)
+  pub put : (d : Entry) (t : Plain)
+      → fields_of (slice_set es i (record (slice_index_or es i d) { value = t }))
+      ≡ put_field k t (fields_of es)
   pub removed : fields_of (remove es i) ≡ remove_field k (fields_of es)
 
 -- what holds where it would stand there
@@ -21,5 +23,5 @@ pub record Lacks (k : List ℕ) (es : List Entry) (i : ℕ) : Type 0 where
   pub found : find_field k (fields_of es) ≡ None
   pub put : (e : Entry) → e.key ≡ k → fields_of (insert es i e) ≡ put_field k e.value (fields_of es)
 
-abbrev pub IsPlace : List ℕ → List Entry → Result ℕ ℕ → Type 0
-IsPlace k es r = MatchResult r (Stands k es) (Lacks k es)
+abbrev pub IsPosition : List ℕ → List Entry → Result ℕ ℕ → Type 0
+IsPosition k es r = MatchResult r (Stands k es) (Lacks k es)
