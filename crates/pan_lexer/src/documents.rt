@@ -16,9 +16,9 @@ fn label_end(bytes: &[u8]) -> Option<usize>
     let [first, rest @ ..] = bytes else {
         return Some(0);
     };
-    if *first == 10 {
+    if *first == b'\n' {
         Some(1)
-    } else if *first == 13 && starts(10, rest) {
+    } else if *first == b'\r' && starts(b'\n', rest) {
         Some(2)
     } else {
         None
@@ -54,7 +54,7 @@ fn lines(label: &[u8], bytes: &[u8]) -> Option<(usize, usize)>
                 return Some((i, k));
             }
         }
-        at_start = bytes[i] == 10;
+        at_start = bytes[i] == b'\n';
         i += 1;
     }
     None
@@ -68,9 +68,9 @@ fn line_end(bytes: &[u8]) -> Option<usize>
     let [first, rest @ ..] = bytes else {
         return None;
     };
-    if *first == 10 {
+    if *first == b'\n' {
         Some(1)
-    } else if *first == 13 && starts(10, rest) {
+    } else if *first == b'\r' && starts(b'\n', rest) {
         Some(2)
     } else {
         None
@@ -81,7 +81,8 @@ fn line_end(bytes: &[u8]) -> Option<usize>
 fn document_of<'a>(label: &[u8], gap: usize, bytes: &'a [u8]) -> Front<'a>
     requires label { length label.now < 2 ^ 32 }
     requires gap { gap + length bytes.now < 2 ^ 32 }
-    ensures value { as_front result ≡ document_of (length label.now) gap bytes.now (lines label.now true bytes.now) }
+    ensures value { as_front result ≡ document_of (length label.now) gap bytes.now
+        (lines label.now true bytes.now) }
     ensures fits { Fits (length label.now + 3 + gap + length bytes.now) (as_front result) }
 {
     match lines(label, bytes) {
@@ -94,7 +95,8 @@ fn document_of<'a>(label: &[u8], gap: usize, bytes: &'a [u8]) -> Front<'a>
 fn document_lines<'a>(label: &[u8], bytes: &'a [u8]) -> Front<'a>
     requires label { length label.now < 2 ^ 32 }
     requires bytes { length bytes.now < 2 ^ 32 }
-    ensures value { as_front result ≡ document_lines label.now (prefix_len is_tab bytes.now) bytes.now }
+    ensures value { as_front result ≡ document_lines label.now (prefix_len is_tab bytes.now)
+        bytes.now }
     ensures fits { Fits (length label.now + 3 + length bytes.now) (as_front result) }
 {
     let gap = tab_len(bytes);
