@@ -129,10 +129,15 @@ text_of (Closed v n) = Text v (n + 1)
 text_of Open = Bad OpenText 0
 text_of (BadAt d) = Bad BadCharacter (d + 1)
 
--- Here-documents. The line end after a label: the end of the file too
+-- Here-documents. A line end: its bytes
+abbrev pub line_end : List ℕ → Option ℕ
+line_end [] = None
+line_end (b ∷ bs) = if b == line_feed then Some 1 else (if (b == carriage_return) && starts line_feed bs then Some 2 else None)
+
+-- the line end after a label: the end of the file too
 abbrev pub label_end : List ℕ → Option ℕ
 label_end [] = Some 0
-label_end (b ∷ bs) = if b == line_feed then Some 1 else (if (b == carriage_return) && starts line_feed bs then Some 2 else None)
+label_end (b ∷ bs) = line_end (b ∷ bs)
 
 -- the bytes of the label's line, if it stands at the front
 abbrev pub more : ℕ → Option ℕ → Option ℕ
@@ -155,11 +160,6 @@ line_at (Some k) next = Some (0, k)
 abbrev pub lines : List ℕ → Bool → List ℕ → Option (ℕ × ℕ)
 lines label at_start [] = None
 lines label at_start (b ∷ bs) = line_at (if at_start then label_line label (b ∷ bs) else None) (lines label (b == line_feed) bs)
-
--- after `;`: the spaces, tabs and line end before the lines
-abbrev pub line_end : List ℕ → Option ℕ
-line_end [] = None
-line_end (b ∷ bs) = if b == line_feed then Some 1 else (if (b == carriage_return) && starts line_feed bs then Some 2 else None)
 
 -- a label of n bytes, k bytes from `;` to the lines, and the lines
 abbrev pub document_of : ℕ → ℕ → List ℕ → Option (ℕ × ℕ) → Front
