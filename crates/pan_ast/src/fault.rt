@@ -266,7 +266,7 @@ fn push_printed_byte(line: &mut Vec<u8>, byte: u8) -> Result<(), AllocError>
 {
     if byte == b'\\' {
         line.extend_from_slice(b"\\\\")
-    } else if 32 <= byte && byte <= 126 {
+    } else if b' ' <= byte && byte <= b'~' {
         line.push(byte)?;
         Ok(())
     } else {

@@ -1,4 +1,5 @@
 ghost use Rattle.std.specs.Prelude.{◌≡◌, ◌∷◌, ◌≤◌, ◌<◌, ◌↔◌, [], length, true};
+ghost use Rattle.pan_ast.specs.Signs.{equals_sign};
 ghost use Rattle.pan_ast.specs.Sorts.{at, code, is_one_of, is_plain, is_type_name, is_word, look_up, quoted, signs, sort_of, type_words, words};
 ghost use Rattle.pan_ast.specs.declared.sort.Sort.TheVariants.{Word, NoSign};
 
@@ -269,7 +270,7 @@ fn single_sign(byte: u8) -> Sort
 }
 
 fn with_equals(first: u8) -> Sort
-    ensures { result ≡ look_up NoSign (first ∷ 61 ∷ []) signs }
+    ensures { result ≡ look_up NoSign (first ∷ equals_sign ∷ []) signs }
 {
     match first {
         b'?' => Sort::ConditionalAssign,

@@ -98,7 +98,7 @@ at_front file p b bs ts next (suc n) is o e =
 at_front file p b bs ts next zero is o e =
     let w = word_here (b ∷ bs) o in
     let t = token file kinds.Word p 6 (take 6 (b ∷ bs)) in
-    let object : sort t ≡ sorts.Object = rw w.0 refl in
+    let object : sort t ≡ sorts.Object = subst (λ (v : List ℕ). sort (token file kinds.Word p 6 v) ≡ sorts.Object) (sym w.0) refl in
     before_starts t _ ts object (read_at file p b bs ts (Written kinds.Word 6) w.1 e)
 
 object_first : (file : List ℕ) (bs : List ℕ) (n : ℕ) (p : At) (ts : List Token) → object_after n bs ≡ true → lexed file n Before p bs ≡ Ok ts → StartsWith sorts.Object ts

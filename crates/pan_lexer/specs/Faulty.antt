@@ -1,13 +1,15 @@
 -- Which fault a file has, by what may stand at the front of a text. Reading goes from the left and ends at the
 -- first piece that is none; a fault stands so many bytes behind the start of that piece.
 use Rattle.std.specs.Prelude.{◌≡◌, ◌≢◌, ℕ, ◌+◌, ◌<◌, ◌≤◌, ◌^◌, ◌⊎◌, Bool, true, false, ◌&&◌, List, [], ◌∷◌, Some, None, length, take, drop}
+use Rattle.base.specs.Characters.{digit_0, lower_x, open_brace}
+use Rattle.pan_ast.specs.Signs.{at_sign, backslash, double_quote, less_sign, semicolon, single_quote}
 use Rattle.std.specs.Str.{IsUtf8, IsValidUpTo}
 use Rattle.pan_ast.specs.declared.fault.Code.{Code}
 use Rattle.pan_ast.specs.declared.fault.Code.TheVariants.{BadCharacter, NotUtf8, OpenText, Double, IntegerTooLarge}
 use Rattle.pan_ast.specs.declared.fault.Fault.{Fault}
 use Rattle.pan_ast.specs.declared.token.TokenKind.{TokenKind}
 use Rattle.pan_ast.specs.declared.token.TokenKind.TheVariants as kinds
-use Rattle.pan_lexer.specs.Bytes.{is_digit, is_octal, is_word_start, is_word_byte, is_name_byte, is_hex, is_tab, is_in_annotation, starts, starts_twice, begins}
+use Rattle.pan_lexer.specs.Bytes.{is_digit, is_octal_digit, is_word_start, is_word_byte, is_name_byte, is_hexadecimal_digit, is_tab, is_in_annotation, starts, starts_twice, begins}
 use Rattle.pan_lexer.specs.Fronts.{digits_value, is_double, escape_of, escape}
 use Rattle.pan_lexer.specs.Lexed.{place_after, is_naming, mode_after, fault, origin}
 use Rattle.pan_lexer.specs.Spelled.{IsRun, IsLineEnd, AreLines, IsFront}
@@ -19,49 +21,49 @@ use Rattle.pan_lexer.specs.Parts.{Front, Skip, Written, Int, Text, Document}
 
 -- an octal or decimal form of n digits, with its base
 pub data IsPlain : ℕ → List ℕ → ℕ → Type 0 where
-  octal_digits : {z n : ℕ} {bs : List ℕ} → z ≡ 48 → starts 120 bs ≡ false → IsRun is_digit (z ∷ bs) n → IsRun is_octal (z ∷ bs) n → IsPlain 8 (z ∷ bs) n
-  decimal_digits : {d n : ℕ} {bs : List ℕ} → d ≢ 48 → is_digit d ≡ true → IsRun is_digit (d ∷ bs) n → IsPlain 10 (d ∷ bs) n
+  octal_digits : {z n : ℕ} {bs : List ℕ} → z ≡ digit_0 → starts lower_x bs ≡ false → IsRun is_digit (z ∷ bs) n → IsRun is_octal_digit (z ∷ bs) n → IsPlain 8 (z ∷ bs) n
+  decimal_digits : {d n : ℕ} {bs : List ℕ} → d ≢ digit_0 → is_digit d ≡ true → IsRun is_digit (d ∷ bs) n → IsPlain 10 (d ∷ bs) n
 
 -- numbers
 pub data IsBadInt : List ℕ → Code → ℕ → Type 0 where
-  no_hex_digit : {z x : ℕ} {bs : List ℕ} → z ≡ 48 → x ≡ 120 → begins is_hex bs ≡ false → IsBadInt (z ∷ x ∷ bs) BadCharacter 1
-  high_digit : {z n : ℕ} {bs : List ℕ} → z ≡ 48 → starts 120 bs ≡ false → IsRun is_octal (z ∷ bs) n → begins is_digit (drop n (z ∷ bs)) ≡ true → IsBadInt (z ∷ bs) BadCharacter n
+  no_hex_digit : {z x : ℕ} {bs : List ℕ} → z ≡ digit_0 → x ≡ lower_x → begins is_hexadecimal_digit bs ≡ false → IsBadInt (z ∷ x ∷ bs) BadCharacter 1
+  high_digit : {z n : ℕ} {bs : List ℕ} → z ≡ digit_0 → starts lower_x bs ≡ false → IsRun is_octal_digit (z ∷ bs) n → begins is_digit (drop n (z ∷ bs)) ≡ true → IsBadInt (z ∷ bs) BadCharacter n
   fraction : {base n : ℕ} {bs : List ℕ} → IsPlain base bs n → is_double (drop n bs) ≡ true → IsBadInt bs Double 0
-  large_hex : {z x n : ℕ} {bs : List ℕ} → z ≡ 48 → x ≡ 120 → 0 < n → IsRun is_hex bs n → 2 ^ 63 ≤ digits_value 16 (take n bs) → IsBadInt (z ∷ x ∷ bs) IntegerTooLarge 0
+  large_hex : {z x n : ℕ} {bs : List ℕ} → z ≡ digit_0 → x ≡ lower_x → 0 < n → IsRun is_hexadecimal_digit bs n → 2 ^ 63 ≤ digits_value 16 (take n bs) → IsBadInt (z ∷ x ∷ bs) IntegerTooLarge 0
   large : {base n : ℕ} {bs : List ℕ} → IsPlain base bs n → is_double (drop n bs) ≡ false → 2 ^ 63 ≤ digits_value base (take n bs) → IsBadInt bs IntegerTooLarge 0
-  letter_hex : {z x n : ℕ} {bs : List ℕ} → z ≡ 48 → x ≡ 120 → 0 < n → IsRun is_hex bs n → digits_value 16 (take n bs) < 2 ^ 63 → begins is_word_start (drop n bs) ≡ true → IsBadInt (z ∷ x ∷ bs) BadCharacter (n + 2)
+  letter_hex : {z x n : ℕ} {bs : List ℕ} → z ≡ digit_0 → x ≡ lower_x → 0 < n → IsRun is_hexadecimal_digit bs n → digits_value 16 (take n bs) < 2 ^ 63 → begins is_word_start (drop n bs) ≡ true → IsBadInt (z ∷ x ∷ bs) BadCharacter (n + 2)
   letter : {base n : ℕ} {bs : List ℕ} → IsPlain base bs n → is_double (drop n bs) ≡ false → digits_value base (take n bs) < 2 ^ 63 → begins is_word_start (drop n bs) ≡ true → IsBadInt bs BadCharacter n
 
 -- a single-quoted text that no quote closes
 pub data IsOpenSingle : List ℕ → Type 0 where
   single_ends : IsOpenSingle []
-  single_pair : {q r : ℕ} {bs : List ℕ} → q ≡ 39 → r ≡ 39 → IsOpenSingle bs → IsOpenSingle (q ∷ r ∷ bs)
-  single_byte : {b : ℕ} {bs : List ℕ} → b ≢ 39 → IsOpenSingle bs → IsOpenSingle (b ∷ bs)
+  single_pair : {q r : ℕ} {bs : List ℕ} → q ≡ single_quote → r ≡ single_quote → IsOpenSingle bs → IsOpenSingle (q ∷ r ∷ bs)
+  single_byte : {b : ℕ} {bs : List ℕ} → b ≢ single_quote → IsOpenSingle bs → IsOpenSingle (b ∷ bs)
 
 -- n bytes of a double-quoted text, none of them its closing quote, and the rest
 pub data IsInside : List ℕ → ℕ → List ℕ → Type 0 where
   inside_none : {bs : List ℕ} → IsInside bs 0 bs
-  inside_byte : {b n : ℕ} {bs rest : List ℕ} → b ≢ 34 → b ≢ 92 → IsInside bs n rest → IsInside (b ∷ bs) (1 + n) rest
-  inside_letter : {s c x n : ℕ} {bs rest : List ℕ} → s ≡ 92 → c ≢ 120 → escape_of c ≡ Some x → IsInside bs n rest → IsInside (s ∷ c ∷ bs) (2 + n) rest
-  inside_number : {s x h l n : ℕ} {bs rest : List ℕ} → s ≡ 92 → x ≡ 120 → is_hex h ≡ true → is_hex l ≡ true → IsInside bs n rest → IsInside (s ∷ x ∷ h ∷ l ∷ bs) (4 + n) rest
+  inside_byte : {b n : ℕ} {bs rest : List ℕ} → b ≢ double_quote → b ≢ backslash → IsInside bs n rest → IsInside (b ∷ bs) (1 + n) rest
+  inside_letter : {s c x n : ℕ} {bs rest : List ℕ} → s ≡ backslash → c ≢ lower_x → escape_of c ≡ Some x → IsInside bs n rest → IsInside (s ∷ c ∷ bs) (2 + n) rest
+  inside_number : {s x h l n : ℕ} {bs rest : List ℕ} → s ≡ backslash → x ≡ lower_x → is_hexadecimal_digit h ≡ true → is_hexadecimal_digit l ≡ true → IsInside bs n rest → IsInside (s ∷ x ∷ h ∷ l ∷ bs) (4 + n) rest
 
 -- a here-document, after its `<<`
 pub data IsBadDocument : List ℕ → Code → Type 0 where
   no_label : {bs : List ℕ} → begins is_word_start bs ≡ false → IsBadDocument bs BadCharacter
-  no_semicolon : {bs : List ℕ} {w : ℕ} → begins is_word_start bs ≡ true → IsRun is_word_byte bs w → starts 59 (drop w bs) ≡ false → IsBadDocument bs BadCharacter
-  no_line_end : {bs gap : List ℕ} {w t : ℕ} → begins is_word_start bs ≡ true → IsRun is_word_byte bs w → drop w bs ≡ 59 ∷ gap → IsRun is_tab gap t → ((e : ℕ) → IsLineEnd (drop t gap) e → ⊥) → IsBadDocument bs BadCharacter
-  no_label_line : {bs gap : List ℕ} {w t e : ℕ} → begins is_word_start bs ≡ true → IsRun is_word_byte bs w → drop w bs ≡ 59 ∷ gap → IsRun is_tab gap t → IsLineEnd (drop t gap) e → ((n k : ℕ) → AreLines (take w bs) true (drop (t + e) gap) n k → ⊥) → IsBadDocument bs OpenText
+  no_semicolon : {bs : List ℕ} {w : ℕ} → begins is_word_start bs ≡ true → IsRun is_word_byte bs w → starts semicolon (drop w bs) ≡ false → IsBadDocument bs BadCharacter
+  no_line_end : {bs gap : List ℕ} {w t : ℕ} → begins is_word_start bs ≡ true → IsRun is_word_byte bs w → drop w bs ≡ semicolon ∷ gap → IsRun is_tab gap t → ((e : ℕ) → IsLineEnd (drop t gap) e → ⊥) → IsBadDocument bs BadCharacter
+  no_label_line : {bs gap : List ℕ} {w t e : ℕ} → begins is_word_start bs ≡ true → IsRun is_word_byte bs w → drop w bs ≡ semicolon ∷ gap → IsRun is_tab gap t → IsLineEnd (drop t gap) e → ((n k : ℕ) → AreLines (take w bs) true (drop (t + e) gap) n k → ⊥) → IsBadDocument bs OpenText
 
 -- the fault at the front of a text
 pub data IsBad (naming : Bool) : List ℕ → Code → ℕ → Type 0 where
-  no_brace : {a w t : ℕ} {bs : List ℕ} → a ≡ 64 → IsRun is_word_byte bs w → IsRun is_tab (drop w bs) t → starts 123 (drop t (drop w bs)) ≡ false → IsBad naming (a ∷ bs) BadCharacter 0
-  open_annotation : {a o w t : ℕ} {bs body : List ℕ} → a ≡ 64 → IsRun is_word_byte bs w → IsRun is_tab (drop w bs) t → drop t (drop w bs) ≡ o ∷ body → o ≡ 123 → IsRun is_in_annotation body (length body) → IsBad naming (a ∷ bs) OpenText 0
+  no_brace : {a w t : ℕ} {bs : List ℕ} → a ≡ at_sign → IsRun is_word_byte bs w → IsRun is_tab (drop w bs) t → starts open_brace (drop t (drop w bs)) ≡ false → IsBad naming (a ∷ bs) BadCharacter 0
+  open_annotation : {a o w t : ℕ} {bs body : List ℕ} → a ≡ at_sign → IsRun is_word_byte bs w → IsRun is_tab (drop w bs) t → drop t (drop w bs) ≡ o ∷ body → o ≡ open_brace → IsRun is_in_annotation body (length body) → IsBad naming (a ∷ bs) OpenText 0
   bad_int : {b d : ℕ} {bs : List ℕ} {code : Code} → naming && is_name_byte b ≡ false → IsBadInt (b ∷ bs) code d → IsBad naming (b ∷ bs) code d
-  open_single : {q : ℕ} {bs : List ℕ} → q ≡ 39 → IsOpenSingle bs → IsBad naming (q ∷ bs) OpenText 0
-  open_double : {q n : ℕ} {bs : List ℕ} → q ≡ 34 → IsInside bs n [] → IsBad naming (q ∷ bs) OpenText 0
-  bad_escape : {q n : ℕ} {bs rest : List ℕ} → q ≡ 34 → IsInside bs n (92 ∷ rest) → escape rest ≡ None → IsBad naming (q ∷ bs) BadCharacter (n + 1)
-  bad_document : {a c : ℕ} {bs : List ℕ} {code : Code} → a ≡ 60 → c ≡ 60 → IsBadDocument bs code → IsBad naming (a ∷ c ∷ bs) code 0
-  other_character : {b : ℕ} {bs : List ℕ} → b ≢ 64 → is_digit b ≡ false → b ≢ 39 → b ≢ 34 → starts_twice 60 (b ∷ bs) ≡ false → ((f : Front) → IsFront naming (b ∷ bs) f → ⊥) → IsBad naming (b ∷ bs) BadCharacter 0
+  open_single : {q : ℕ} {bs : List ℕ} → q ≡ single_quote → IsOpenSingle bs → IsBad naming (q ∷ bs) OpenText 0
+  open_double : {q n : ℕ} {bs : List ℕ} → q ≡ double_quote → IsInside bs n [] → IsBad naming (q ∷ bs) OpenText 0
+  bad_escape : {q n : ℕ} {bs rest : List ℕ} → q ≡ double_quote → IsInside bs n (backslash ∷ rest) → escape rest ≡ None → IsBad naming (q ∷ bs) BadCharacter (n + 1)
+  bad_document : {a c : ℕ} {bs : List ℕ} {code : Code} → a ≡ less_sign → c ≡ less_sign → IsBadDocument bs code → IsBad naming (a ∷ c ∷ bs) code 0
+  other_character : {b : ℕ} {bs : List ℕ} → b ≢ at_sign → is_digit b ≡ false → b ≢ single_quote → b ≢ double_quote → starts_twice less_sign (b ∷ bs) ≡ false → ((f : Front) → IsFront naming (b ∷ bs) f → ⊥) → IsBad naming (b ∷ bs) BadCharacter 0
 
 -- the fault of a text that begins at a place: that of its front, or one behind it
 pub data IsFaulty (file : List ℕ) : Mode → At → List ℕ → Fault → Type 0 where

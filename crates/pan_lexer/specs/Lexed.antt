@@ -1,8 +1,10 @@
 -- The tokens of a file, or its fault.
 use Rattle.std.specs.Prelude.{ℕ, zero, suc, ◌+◌, ◌-◌, Bool, true, false, ◌&&◌, ◌==◌, nat_le, if◌then◌else◌, List, [], ◌∷◌, ◌++◌, Result, Ok, Err, fold, take, length, codes, decimal}
+use Rattle.base.specs.Characters.{line_feed}
+use Rattle.pan_ast.specs.Signs.{semicolon}
 use Rattle.std.specs.Cmp.Lexicographic.{pointwise}
 use Rattle.std.specs.Str.Lossy.{utf8_valid_len}
-use Rattle.pan_ast.specs.Detail.{fault_at}
+use Rattle.pan_ast.specs.Detail.{fault_at, is_continuation}
 use Rattle.pan_ast.specs.declared.place.Place.{Place}
 use Rattle.pan_ast.specs.declared.fault.Code.{Code}
 use Rattle.pan_ast.specs.declared.fault.Code.TheVariants.{NotUtf8}
@@ -19,8 +21,8 @@ use Rattle.pan_lexer.specs.Parts.{Front, Skip, Written, Int, Text, Document, Bad
 -- A line feed begins a line. A byte from 128 to 191 goes on with a character.
 abbrev pub advance : At → ℕ → At
 advance p b =
-    if b == 10 then record { start = p.start + 1; line = p.line + 1; column = 1 }
-    else (if nat_le 128 b && nat_le b 191 then record p { start = p.start + 1 } else record p { start = p.start + 1; column = p.column + 1 })
+    if b == line_feed then record { start = p.start + 1; line = p.line + 1; column = 1 }
+    else (if is_continuation b then record p { start = p.start + 1 } else record p { start = p.start + 1; column = p.column + 1 })
 
 abbrev pub place_after : At → List ℕ → At
 place_after p bytes = fold advance p bytes
@@ -70,7 +72,7 @@ taken file m p bs (Int v n) next = before (token file kinds.Int p n (decimal v) 
 taken file m p bs (Text v n) next = before (token file kinds.Text p n v ∷ []) (next (n - 1) (mode_after m kinds.Text []))
 taken file m p bs (Document v n k) next =
     let q = place_after p (take n bs) in
-    before (token file kinds.Text p n v ∷ token file kinds.Sign q 1 (59 ∷ []) ∷ []) (next (n + k) (mode_after m kinds.Text []))
+    before (token file kinds.Text p n v ∷ token file kinds.Sign q 1 (semicolon ∷ []) ∷ []) (next (n + k) (mode_after m kinds.Text []))
 taken file m p bs (Bad code d) next = Err (fault file code (place_after p (take d bs)))
 
 -- The tokens of a text whose first n bytes belong to a piece that was read.

@@ -1,5 +1,6 @@
 -- Whether a file is an object template, by its first word.
 use Rattle.std.specs.Prelude.{ℕ, zero, suc, ◌+◌, Bool, false, not, ◌&&◌, ◌==◌, if◌then◌else◌, List, [], ◌∷◌, drop, codes}
+use Rattle.pan_ast.specs.Signs.{at_sign, number_sign}
 use Rattle.std.specs.List.{starts_with, prefix_len}
 use Rattle.pan_lexer.specs.Bytes.{is_word_byte, is_blank, is_in_comment, begins}
 use Rattle.pan_lexer.specs.Fronts.{annotation}
@@ -23,8 +24,8 @@ abbrev pub skipped_len : List ℕ → ℕ
 skipped_len [] = 0
 skipped_len (b ∷ bs) =
     if is_blank b then 1 + prefix_len is_blank bs
-    else (if b == 35 then 1 + prefix_len is_in_comment bs
-    else (if b == 64 then annotation_len (annotation bs) else 0))
+    else (if b == number_sign then 1 + prefix_len is_in_comment bs
+    else (if b == at_sign then annotation_len (annotation bs) else 0))
 
 -- behind n skipped bytes, or here where there are none
 abbrev pub object_behind : ℕ → Bool → (ℕ → Bool) → Bool

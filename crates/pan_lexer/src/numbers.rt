@@ -1,6 +1,6 @@
 ghost use Rattle.std.specs.Prelude.{◌≡◌, ◌≤◌, ◌<◌, ◌+◌, ◌^◌, length, true};
 ghost use Rattle.std.specs.List.{prefix_len};
-ghost use Rattle.pan_lexer.specs.Bytes.{is_digit, is_octal, is_hex, begins};
+ghost use Rattle.pan_lexer.specs.Bytes.{is_digit, is_octal_digit, is_hexadecimal_digit, begins};
 ghost use Rattle.pan_lexer.specs.Fronts.{digits_value, small, ended_int, is_double, plain_int, hex_int, octal_int, int, Fits};
 ghost use Rattle.pan_lexer.specs.Views.{as_front};
 
@@ -71,7 +71,8 @@ fn plain_int(base: u64, n: usize, bytes: &[u8]) -> Front<'_>
 /// A hexadecimal form, after its `0x`.
 fn hex_int(bytes: &[u8]) -> Front<'_>
     requires { length bytes.now < 2 ^ 32 }
-    ensures value { as_front result ≡ hex_int (prefix_len is_hex bytes.now) bytes.now }
+    ensures value { as_front result ≡ hex_int (prefix_len is_hexadecimal_digit bytes.now)
+        bytes.now }
     ensures fits { Fits (2 + length bytes.now) (as_front result) }
 {
     let n = hex_len(bytes);
@@ -85,7 +86,8 @@ fn hex_int(bytes: &[u8]) -> Front<'_>
 /// A form that begins with `0` and is not hexadecimal.
 fn octal_int(bytes: &[u8]) -> Front<'_>
     requires { begins is_digit bytes.now ≡ true }
-    ensures value { as_front result ≡ octal_int (prefix_len is_digit bytes.now) (prefix_len is_octal bytes.now) bytes.now }
+    ensures value { as_front result ≡ octal_int (prefix_len is_digit bytes.now)
+        (prefix_len is_octal_digit bytes.now) bytes.now }
     ensures fits { Fits (length bytes.now) (as_front result) }
 {
     let n = digits_len(bytes);

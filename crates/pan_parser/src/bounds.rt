@@ -24,7 +24,8 @@ fn negative(token: &Token) -> i64
 
 /// A whole number, perhaps with `-` before it.
 fn signed(tokens: &[Token]) -> Result<(i64, &[Token]), Stopped<'_>>
-    ensures read { (next : ℤ → State) → Goes result (λ r. run r.1.now (next r.0)) (run tokens.now (NeedSigned next)) }
+    ensures read { (next : ℤ → State) → Goes result (λ r. run r.1.now (next r.0))
+        (run tokens.now (NeedSigned next)) }
     ensures shorter { IfOk result (λ r. length r.1.now < length tokens.now) }
 {
     let Some(after) = next_is(Sort::Minus, tokens) else {
@@ -37,7 +38,8 @@ fn signed(tokens: &[Token]) -> Result<(i64, &[Token]), Stopped<'_>>
 
 /// Bounds, and the sign that closes them.
 pub(crate) fn bounds(sign: Sort, tokens: &[Token]) -> Result<(Bounds, &[Token]), Stopped<'_>>
-    ensures read { (k : Closing) (next : Bounds → State) → closing k ≡ sign → Goes result (λ r. run r.1.now (next r.0)) (run tokens.now (NeedBounds k next)) }
+    ensures read { (k : Closing) (next : Bounds → State) → closing k ≡ sign → Goes result
+        (λ r. run r.1.now (next r.0)) (run tokens.now (NeedBounds k next)) }
     ensures shorter { IfOk result (λ r. length r.1.now < length tokens.now) }
 {
     let Some((first, _)) = cut(tokens) else {
@@ -59,7 +61,8 @@ fn after_low<'a>(
     low: i64,
     tokens: &'a [Token],
 ) -> Result<(Bounds, &'a [Token]), Stopped<'a>>
-    ensures read { (k : Closing) (next : Bounds → State) → closing k ≡ sign → Goes result (λ r. run r.1.now (next r.0)) (run tokens.now (HasLow k place.now low next)) }
+    ensures read { (k : Closing) (next : Bounds → State) → closing k ≡ sign → Goes result
+        (λ r. run r.1.now (next r.0)) (run tokens.now (HasLow k place.now low next)) }
     ensures shorter { IfOk result (λ r. length r.1.now < length tokens.now) }
 {
     if let Some(after) = next_is(sign, tokens) {
@@ -78,7 +81,8 @@ fn after_range<'a>(
     low: i64,
     tokens: &'a [Token],
 ) -> Result<(Bounds, &'a [Token]), Stopped<'a>>
-    ensures read { (k : Closing) (next : Bounds → State) → closing k ≡ sign → Goes result (λ r. run r.1.now (next r.0)) (run tokens.now (RangeRead k place.now low next)) }
+    ensures read { (k : Closing) (next : Bounds → State) → closing k ≡ sign → Goes result
+        (λ r. run r.1.now (next r.0)) (run tokens.now (RangeRead k place.now low next)) }
     ensures shorter { IfOk result (λ r. length r.1.now < length tokens.now) }
 {
     if let Some(after) = next_is(sign, tokens) {
@@ -91,7 +95,8 @@ fn after_range<'a>(
 
 /// Bounds or none, and the sign that closes them.
 fn range(sign: Sort, tokens: &[Token]) -> Result<(Option<Bounds>, &[Token]), Stopped<'_>>
-    ensures read { (k : Closing) (next : Option Bounds → State) → closing k ≡ sign → Goes result (λ r. run r.1.now (next r.0)) (run tokens.now (RangeOpen k next)) }
+    ensures read { (k : Closing) (next : Option Bounds → State) → closing k ≡ sign → Goes result
+        (λ r. run r.1.now (next r.0)) (run tokens.now (RangeOpen k next)) }
     ensures shorter { IfOk result (λ r. length r.1.now < length tokens.now) }
 {
     if let Some(after) = next_is(sign, tokens) {
@@ -103,8 +108,10 @@ fn range(sign: Sort, tokens: &[Token]) -> Result<(Option<Bounds>, &[Token]), Sto
 
 /// The suffix of a type that stands at the front, if one does.
 fn next_suffix(tokens: &[Token]) -> Result<Option<(Suffix, &[Token])>, Stopped<'_>>
-    ensures read { (h : Head) (ss : List Suffix) (s : FullStack) → Goes result (λ o. suffixed o h ss s tokens.now) (run tokens.now (HasHead h ss s)) }
-    ensures none { IfOk result (λ o. MatchOption o (NoSuffix tokens.now) (λ r. length r.1.now < length tokens.now)) }
+    ensures read { (h : Head) (ss : List Suffix) (s : FullStack) → Goes result
+        (λ o. suffixed o h ss s tokens.now) (run tokens.now (HasHead h ss s)) }
+    ensures none { IfOk result (λ o. MatchOption o (NoSuffix tokens.now)
+        (λ r. length r.1.now < length tokens.now)) }
 {
     if let Some(after) = next_is(Sort::OpenBracket, tokens) {
         let (bounds, rest) = range(Sort::CloseBracket, after)?;
@@ -125,7 +132,8 @@ pub(crate) fn suffixes(
     alloc: Global,
     tokens: &[Token],
 ) -> Result<(Vec<Suffix>, &[Token]), Stopped<'_>>
-    ensures read { (h : Head) (s : FullStack) → Goes result (λ r. run r.1.now (HasHead h r.0.items s)) (run tokens.now (HasHead h [] s)) }
+    ensures read { (h : Head) (s : FullStack) → Goes result
+        (λ r. run r.1.now (HasHead h r.0.items s)) (run tokens.now (HasHead h [] s)) }
     ensures ended { IfOk result (λ r. NoSuffix r.1.now) }
     ensures shorter { IfOk result (λ r. length r.1.now ≤ length tokens.now) }
 {

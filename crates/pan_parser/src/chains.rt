@@ -30,7 +30,9 @@ pub(crate) fn chain_item(
 ) -> Result<(Item, &[Token]), Stopped<'_>>
     requires room { depth ≤ MAX_NESTING }
     requires operand { Within 1 depth (left_pointers first) }
-    ensures read { (s : ItemStack) → suc (holders s) ≡ depth → Goes result (λ r. run r.1.now (HasItem (item_seen r.0) s)) (run tokens.now (HasNode (node_seen first) (down 9 (Chained s)))) }
+    ensures read { (s : ItemStack) → suc (holders s) ≡ depth → Goes result
+        (λ r. run r.1.now (HasItem (item_seen r.0) s))
+        (run tokens.now (HasNode (node_seen first) (down 9 (Chained s)))) }
     ensures shorter { IfOk result (λ r. length r.1.now ≤ length tokens.now) }
     ensures pointers { IfOk result (λ r. Within 11 depth (item_pointers r.0)) }
 {
@@ -50,7 +52,9 @@ fn chain(
     requires room { depth ≤ MAX_NESTING }
     requires lines { line ≤ 9 }
     requires operand { Within 1 depth (left_pointers first) }
-    ensures read { (n : NodeStack line) → node_holders n ≡ depth → Goes result (λ r. run r.1.now (HasNode (node_seen r.0) n)) (run tokens.now (HasNode (node_seen first) (down line n))) }
+    ensures read { (n : NodeStack line) → node_holders n ≡ depth → Goes result
+        (λ r. run r.1.now (HasNode (node_seen r.0) n))
+        (run tokens.now (HasNode (node_seen first) (down line n))) }
     ensures shorter { IfOk result (λ r. length r.1.now ≤ length tokens.now) }
     ensures pointers { IfOk result (λ r. Within (1 + line) depth (left_pointers r.0)) }
 {
@@ -80,7 +84,8 @@ fn operand(
 ) -> Result<(Node, &[Token]), Stopped<'_>>
     requires room { depth ≤ MAX_NESTING }
     requires lines { line ≤ 9 }
-    ensures read { (n : NodeStack line) → node_holders n ≡ depth → Goes result (λ r. run r.1.now (HasNode (node_seen r.0) n)) (run tokens.now (NeedUnary (down line n))) }
+    ensures read { (n : NodeStack line) → node_holders n ≡ depth → Goes result
+        (λ r. run r.1.now (HasNode (node_seen r.0) n)) (run tokens.now (NeedUnary (down line n))) }
     ensures shorter { IfOk result (λ r. length r.1.now < length tokens.now) }
     ensures pointers { IfOk result (λ r. Within (1 + line) depth (left_pointers r.0)) }
 {
@@ -97,7 +102,8 @@ pub(crate) fn unary(
     tokens: &[Token],
 ) -> Result<(Node, &[Token]), Stopped<'_>>
     requires { depth ≤ MAX_NESTING }
-    ensures read { (n : NodeStack zero) → node_holders n ≡ depth → Goes result (λ r. run r.1.now (HasNode (node_seen r.0) n)) (run tokens.now (NeedUnary n)) }
+    ensures read { (n : NodeStack zero) → node_holders n ≡ depth → Goes result
+        (λ r. run r.1.now (HasNode (node_seen r.0) n)) (run tokens.now (NeedUnary n)) }
     ensures shorter { IfOk result (λ r. length r.1.now < length tokens.now) }
     ensures pointers { IfOk result (λ r. Within 1 depth (left_pointers r.0)) }
 {
@@ -120,7 +126,8 @@ pub(crate) fn unary(
 fn primary(alloc: Global, depth: usize, tokens: &[Token]) -> Result<(Node, &[Token]), Stopped<'_>>
     requires room { depth ≤ MAX_NESTING }
     requires sign { NoSign tokens.now }
-    ensures read { (n : NodeStack zero) → node_holders n ≡ depth → Goes result (λ r. run r.1.now (HasPrimary (node_seen r.0) n)) (run tokens.now (NeedUnary n)) }
+    ensures read { (n : NodeStack zero) → node_holders n ≡ depth → Goes result
+        (λ r. run r.1.now (HasPrimary (node_seen r.0) n)) (run tokens.now (NeedUnary n)) }
     ensures shorter { IfOk result (λ r. length r.1.now < length tokens.now) }
     ensures pointers { IfOk result (λ r. Within 1 depth (left_pointers r.0)) }
 {
@@ -150,7 +157,8 @@ fn named<'a>(
     tokens: &'a [Token],
 ) -> Result<(Node, &'a [Token]), Stopped<'a>>
     requires { depth ≤ MAX_NESTING }
-    ensures read { (n : NodeStack zero) → node_holders n ≡ depth → Goes result (λ r. run r.1.now (HasPrimary (node_seen r.0) n)) (run tokens.now (WordRead word.now n)) }
+    ensures read { (n : NodeStack zero) → node_holders n ≡ depth → Goes result
+        (λ r. run r.1.now (HasPrimary (node_seen r.0) n)) (run tokens.now (WordRead word.now n)) }
     ensures shorter { IfOk result (λ r. length r.1.now ≤ length tokens.now) }
     ensures pointers { IfOk result (λ r. Within 1 depth (left_pointers r.0)) }
 {
@@ -171,7 +179,9 @@ pub(crate) fn arguments<'a>(
     tokens: &'a [Token],
 ) -> Result<(Vec<Item>, &'a [Token]), Stopped<'a>>
     requires { depth ≤ MAX_NESTING }
-    ensures read { (n : NodeStack zero) → node_holders n ≡ depth → Goes result (λ r. run r.1.now (HasPrimary (called word.now (map item_seen r.0.items)) n)) (run tokens.now (CallOpen word.now n)) }
+    ensures read { (n : NodeStack zero) → node_holders n ≡ depth → Goes result
+        (λ r. run r.1.now (HasPrimary (called word.now (map item_seen r.0.items)) n))
+        (run tokens.now (CallOpen word.now n)) }
     ensures shorter { IfOk result (λ r. length r.1.now < length tokens.now) }
     ensures pointers { IfOk result (λ r. Within 0 depth (items_pointers r.0.items)) }
 {
@@ -201,7 +211,9 @@ pub(crate) fn indexes(
 ) -> Result<(Node, &[Token]), Stopped<'_>>
     requires room { depth ≤ MAX_NESTING }
     requires operand { Within 1 depth (left_pointers first) }
-    ensures read { (n : NodeStack zero) → node_holders n ≡ depth → Goes result (λ r. run r.1.now (HasNode (node_seen r.0) n)) (run tokens.now (HasPrimary (node_seen first) n)) }
+    ensures read { (n : NodeStack zero) → node_holders n ≡ depth → Goes result
+        (λ r. run r.1.now (HasNode (node_seen r.0) n))
+        (run tokens.now (HasPrimary (node_seen first) n)) }
     ensures shorter { IfOk result (λ r. length r.1.now ≤ length tokens.now) }
     ensures pointers { IfOk result (λ r. Within 1 depth (left_pointers r.0)) }
 {
@@ -225,7 +237,10 @@ pub(crate) fn reference_indexes<'a>(
     tokens: &'a [Token],
 ) -> Result<(Vec<Item>, &'a [Token]), Stopped<'a>>
     requires { depth ≤ MAX_NESTING }
-    ensures read { (s : ItemStack) → suc (holders s) ≡ depth → Goes result (λ r. run r.1.now (HasReference word.now (map item_seen r.0.items) (indexed (name word.now) (map item_seen r.0.items)) s)) (run tokens.now (HasReference word.now [] (name word.now) s)) }
+    ensures read { (s : ItemStack) → suc (holders s) ≡ depth → Goes result
+        (λ r. run r.1.now (HasReference word.now (map item_seen r.0.items)
+        (indexed (name word.now) (map item_seen r.0.items)) s))
+        (run tokens.now (HasReference word.now [] (name word.now) s)) }
     ensures ended { IfOk result (λ r. NotAt OpenBracket r.1.now) }
     ensures shorter { IfOk result (λ r. length r.1.now ≤ length tokens.now) }
     ensures pointers { IfOk result (λ r. Within 0 depth (items_pointers r.0.items)) }

@@ -26,7 +26,8 @@ use std::alloc::{AllocError, Global};
 
 /// The fault where an item is wanted that as many constructs would hold as may.
 fn at_limit(tokens: &[Token]) -> Stopped<'_>
-    ensures { (s : ItemStack) → holders s ≡ MAX_NESTING → Fails result (run tokens.now (NeedItem s)) }
+    ensures { (s : ItemStack) → holders s ≡ MAX_NESTING → Fails result
+        (run tokens.now (NeedItem s)) }
 {
     let Some((first, _)) = cut(tokens) else {
         return Stopped::Bad(tokens);
@@ -42,7 +43,9 @@ fn at_limit(tokens: &[Token]) -> Stopped<'_>
 /// the way through all lines of chains.
 #[tactic(auto, using(pan_ast::proofs::Pointers::node_below))]
 fn lone_literal(first: &Token, rest: &[Token]) -> Result<Option<Item>, AllocError>
-    ensures read { IfOk result (λ o. IfSome o (λ y. (s : ItemStack) → over (suc (holders s)) ≡ false → run (first.now ∷ rest.now) (NeedItem s) ≡ run rest.now (HasItem (item_seen y) s))) }
+    ensures read { IfOk result (λ o. IfSome o
+        (λ y. (s : ItemStack) → over (suc (holders s)) ≡ false → run (first.now ∷ rest.now)
+        (NeedItem s) ≡ run rest.now (HasItem (item_seen y) s))) }
     ensures pointers { IfOk result (λ o. IfSome o (λ y. item_pointers y ≤ 1)) }
 {
     let None = next_is(Sort::OpenBracket, rest) else {
@@ -65,7 +68,8 @@ pub(crate) fn item(
     tokens: &[Token],
 ) -> Result<(Item, &[Token]), Stopped<'_>>
     requires { depth ≤ MAX_NESTING }
-    ensures read { (s : ItemStack) → holders s ≡ depth → Goes result (λ r. run r.1.now (HasItem (item_seen r.0) s)) (run tokens.now (NeedItem s)) }
+    ensures read { (s : ItemStack) → holders s ≡ depth → Goes result
+        (λ r. run r.1.now (HasItem (item_seen r.0) s)) (run tokens.now (NeedItem s)) }
     ensures shorter { IfOk result (λ r. length r.1.now < length tokens.now) }
     ensures pointers { IfOk result (λ r. Within 0 depth (item_pointers r.0)) }
 {
@@ -107,7 +111,9 @@ pub(crate) fn block_items<'a>(
     tokens: &'a [Token],
 ) -> Result<(Vec<Item>, &'a [Token]), Stopped<'a>>
     requires { depth ≤ MAX_NESTING }
-    ensures read { (s : ItemStack) → suc (holders s) ≡ depth → Goes result (λ r. run r.1.now (HasItem (block place.now (map item_seen r.0.items)) s)) (run tokens.now (BlockOpen place.now [] s)) }
+    ensures read { (s : ItemStack) → suc (holders s) ≡ depth → Goes result
+        (λ r. run r.1.now (HasItem (block place.now (map item_seen r.0.items)) s))
+        (run tokens.now (BlockOpen place.now [] s)) }
     ensures shorter { IfOk result (λ r. length r.1.now < length tokens.now) }
     ensures pointers { IfOk result (λ r. Within 0 depth (items_pointers r.0.items)) }
 {
@@ -135,7 +141,8 @@ fn boxed_item(
     tokens: &[Token],
 ) -> Result<(Box<Item>, &[Token]), Stopped<'_>>
     requires { depth ≤ MAX_NESTING }
-    ensures read { (s : ItemStack) → holders s ≡ depth → Goes result (λ r. run r.1.now (HasItem (item_seen r.0.value) s)) (run tokens.now (NeedItem s)) }
+    ensures read { (s : ItemStack) → holders s ≡ depth → Goes result
+        (λ r. run r.1.now (HasItem (item_seen r.0.value) s)) (run tokens.now (NeedItem s)) }
     ensures shorter { IfOk result (λ r. length r.1.now < length tokens.now) }
     ensures pointers { IfOk result (λ r. Within 0 depth (item_pointers r.0.value)) }
 {
@@ -152,7 +159,10 @@ fn item_before(
     tokens: &[Token],
 ) -> Result<(Box<Item>, &[Token]), Stopped<'_>>
     requires { depth ≤ MAX_NESTING }
-    ensures read { (k : Divider) (next : Seen → Parts) (s : ItemStack) → divider k ≡ sign → suc (holders s) ≡ depth → Goes result (λ r. run r.1.now (NeedItem (InParts (next (item_seen r.0.value)) s))) (run tokens.now (NeedItem (InParts (Further k next) s))) }
+    ensures read { (k : Divider) (next : Seen → Parts) (s : ItemStack) → divider k ≡ sign → suc
+        (holders s) ≡ depth → Goes result (λ r. run r.1.now
+        (NeedItem (InParts (next (item_seen r.0.value)) s)))
+        (run tokens.now (NeedItem (InParts (Further k next) s))) }
     ensures shorter { IfOk result (λ r. length r.1.now < length tokens.now) }
     ensures pointers { IfOk result (λ r. Within 0 depth (item_pointers r.0.value)) }
 {
@@ -170,7 +180,8 @@ fn if_item<'a>(
     tokens: &'a [Token],
 ) -> Result<(Item, &'a [Token]), Stopped<'a>>
     requires { depth ≤ MAX_NESTING }
-    ensures read { (s : ItemStack) → suc (holders s) ≡ depth → Goes result (λ r. run r.1.now (HasItem (item_seen r.0) s)) (run tokens.now (if_read place.now s)) }
+    ensures read { (s : ItemStack) → suc (holders s) ≡ depth → Goes result
+        (λ r. run r.1.now (HasItem (item_seen r.0) s)) (run tokens.now (if_read place.now s)) }
     ensures shorter { IfOk result (λ r. length r.1.now < length tokens.now) }
     ensures pointers { IfOk result (λ r. Within 11 depth (item_pointers r.0)) }
 {
@@ -193,7 +204,8 @@ fn while_item<'a>(
     tokens: &'a [Token],
 ) -> Result<(Item, &'a [Token]), Stopped<'a>>
     requires { depth ≤ MAX_NESTING }
-    ensures read { (s : ItemStack) → suc (holders s) ≡ depth → Goes result (λ r. run r.1.now (HasItem (item_seen r.0) s)) (run tokens.now (while_read place.now s)) }
+    ensures read { (s : ItemStack) → suc (holders s) ≡ depth → Goes result
+        (λ r. run r.1.now (HasItem (item_seen r.0) s)) (run tokens.now (while_read place.now s)) }
     ensures shorter { IfOk result (λ r. length r.1.now < length tokens.now) }
     ensures pointers { IfOk result (λ r. Within 11 depth (item_pointers r.0)) }
 {
@@ -212,7 +224,8 @@ fn for_item<'a>(
     tokens: &'a [Token],
 ) -> Result<(Item, &'a [Token]), Stopped<'a>>
     requires { depth ≤ MAX_NESTING }
-    ensures read { (s : ItemStack) → suc (holders s) ≡ depth → Goes result (λ r. run r.1.now (HasItem (item_seen r.0) s)) (run tokens.now (for_read place.now s)) }
+    ensures read { (s : ItemStack) → suc (holders s) ≡ depth → Goes result
+        (λ r. run r.1.now (HasItem (item_seen r.0) s)) (run tokens.now (for_read place.now s)) }
     ensures shorter { IfOk result (λ r. length r.1.now < length tokens.now) }
     ensures pointers { IfOk result (λ r. Within 11 depth (item_pointers r.0)) }
 {
@@ -226,7 +239,10 @@ fn for_item<'a>(
 
 /// After `foreach`: the words for key and value, through the second `;`.
 fn foreach_words(tokens: &[Token]) -> Result<(&Token, &Token, &[Token]), Stopped<'_>>
-    ensures read { (next : Token → Token → State) → Goes result (λ r. run r.2.now (next r.0.now r.1.now)) (run tokens.now (Takes AnOpen (λ o. Takes AWord (λ k. Takes ASemicolon (λ s1. Takes AWord (λ v. Takes ASemicolon (λ s2. next k v))))))) }
+    ensures read { (next : Token → Token → State) → Goes result
+        (λ r. run r.2.now (next r.0.now r.1.now))
+        (run tokens.now (Takes AnOpen (λ o. Takes AWord
+        (λ k. Takes ASemicolon (λ s1. Takes AWord (λ v. Takes ASemicolon (λ s2. next k v))))))) }
     ensures shorter { IfOk result (λ r. length r.2.now < length tokens.now) }
 {
     let (_, rest) = expect(Expected::Sort(Sort::Open), tokens)?;
@@ -246,7 +262,8 @@ fn foreach_item<'a>(
     tokens: &'a [Token],
 ) -> Result<(Item, &'a [Token]), Stopped<'a>>
     requires { depth ≤ MAX_NESTING }
-    ensures read { (s : ItemStack) → suc (holders s) ≡ depth → Goes result (λ r. run r.1.now (HasItem (item_seen r.0) s)) (run tokens.now (foreach_read place.now s)) }
+    ensures read { (s : ItemStack) → suc (holders s) ≡ depth → Goes result
+        (λ r. run r.1.now (HasItem (item_seen r.0) s)) (run tokens.now (foreach_read place.now s)) }
     ensures shorter { IfOk result (λ r. length r.1.now < length tokens.now) }
     ensures pointers { IfOk result (λ r. Within 11 depth (item_pointers r.0)) }
 {
@@ -268,7 +285,8 @@ fn word_item<'a>(
     tokens: &'a [Token],
 ) -> Result<(Item, &'a [Token]), Stopped<'a>>
     requires { depth ≤ MAX_NESTING }
-    ensures read { (s : ItemStack) → suc (holders s) ≡ depth → Goes result (λ r. run r.1.now (HasItem (item_seen r.0) s)) (run tokens.now (ItemWord word.now s)) }
+    ensures read { (s : ItemStack) → suc (holders s) ≡ depth → Goes result
+        (λ r. run r.1.now (HasItem (item_seen r.0) s)) (run tokens.now (ItemWord word.now s)) }
     ensures shorter { IfOk result (λ r. length r.1.now ≤ length tokens.now) }
     ensures pointers { IfOk result (λ r. Within 11 depth (item_pointers r.0)) }
 {
@@ -294,7 +312,10 @@ fn reference_item<'a>(
     requires room { depth ≤ MAX_NESTING }
     requires ended { NotAt OpenBracket tokens.now }
     requires indexes { Within 0 depth (items_pointers items.items) }
-    ensures read { (s : ItemStack) → suc (holders s) ≡ depth → Goes result (λ r. run r.1.now (HasItem (item_seen r.0) s)) (run tokens.now (HasReference word.now (map item_seen items.items) (indexed (name word.now) (map item_seen items.items)) s)) }
+    ensures read { (s : ItemStack) → suc (holders s) ≡ depth → Goes result
+        (λ r. run r.1.now (HasItem (item_seen r.0) s))
+        (run tokens.now (HasReference word.now (map item_seen items.items)
+        (indexed (name word.now) (map item_seen items.items)) s)) }
     ensures shorter { IfOk result (λ r. length r.1.now ≤ length tokens.now) }
     ensures pointers { IfOk result (λ r. Within 11 depth (item_pointers r.0)) }
 {

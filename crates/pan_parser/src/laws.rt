@@ -10,14 +10,10 @@ ghost use Rattle.pan_grammar.specs.Parsed.{parsed};
 /// the grammar says. They spell a template where they parse and nothing in them is nested over the limit, and one
 /// at most; else they have the one fault that the grammar names.
 pub fn parsed_tokens()
-    ensures template {
-        (tokens : List Token) (z : Template) → (parsed tokens ≡ Ok z) ↔ ParsesWhere (DeepInLast 0) tokens z
-    }
-    ensures one {
-        (tokens : List Token) (y z : Template) → Parses tokens y → Parses tokens z → y ≡ z
-    }
-    ensures faults {
-        (tokens : List Token) (f : Fault) → EndsInEnd tokens → (parsed tokens ≡ Err f) ↔ IsFault tokens f
-    }
-{
-}
+    ensures template { (tokens : List Token) (z : Template) → (parsed tokens ≡ Ok z) ↔ ParsesWhere
+        (DeepInLast 0) tokens z }
+    ensures one { (tokens : List Token) (y z : Template) → Parses tokens y → Parses tokens z → y ≡
+        z }
+    ensures faults { (tokens : List Token) (f : Fault) → EndsInEnd tokens →
+        (parsed tokens ≡ Err f) ↔ IsFault tokens f }
+{}

@@ -40,7 +40,9 @@ fn kind_of(sort: Sort) -> Option<TemplateKind>
 
 /// The token of a template's name, and the tokens after it.
 fn expect_name(alloc: Global, tokens: &[Token]) -> Result<(Name, &Token, &[Token]), Stopped<'_>>
-    ensures read { (s : State) (next : Token → State) → Wants s (λ t. at sorts.Name (sort t) && is_name t.value) next → Goes result (λ r. run r.2.now (next r.1.now)) (run tokens.now s) }
+    ensures read { (s : State) (next : Token → State) → Wants s
+        (λ t. at sorts.Name (sort t) && is_name t.value) next → Goes result
+        (λ r. run r.2.now (next r.1.now)) (run tokens.now s) }
     ensures name { IfOk result (λ r. r.0 ≡ r.1.now.value) }
 {
     let Some((first, rest)) = cut(tokens) else {
@@ -63,7 +65,8 @@ fn named_template<'a>(
     place: &Place,
     tokens: &'a [Token],
 ) -> Result<(Template, &'a [Token]), Stopped<'a>>
-    ensures read { Goes result (λ r. run r.1.now (Done (template_seen r.0))) (run tokens.now (name_wanted kind place.now)) }
+    ensures read { Goes result (λ r. run r.1.now (Done (template_seen r.0)))
+        (run tokens.now (name_wanted kind place.now)) }
     ensures pointers { IfOk result (λ r. Within 3 0 (template_pointers r.0)) }
 {
     let (name, token, rest) = expect_name(alloc, tokens)?;
@@ -85,7 +88,8 @@ fn named_template<'a>(
 
 /// A template, and the tokens after its End.
 fn template(alloc: Global, tokens: &[Token]) -> Result<(Template, &[Token]), Stopped<'_>>
-    ensures read { Goes result (λ r. run r.1.now (Done (template_seen r.0))) (run tokens.now Start) }
+    ensures read { Goes result (λ r. run r.1.now (Done (template_seen r.0)))
+        (run tokens.now Start) }
     ensures pointers { IfOk result (λ r. Within 3 0 (template_pointers r.0)) }
 {
     let Some((first, rest)) = cut(tokens) else {

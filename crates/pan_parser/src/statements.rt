@@ -33,7 +33,9 @@ const USUAL_TOKENS: usize = 4;
 
 /// An item and the `;` after it.
 fn item_of(alloc: Global, tokens: &[Token]) -> Result<(Item, &[Token]), Stopped<'_>>
-    ensures read { (h : Header) (ss : List Shown) (make : Seen → Shown) → Goes result (λ r. run r.1.now (Statements h (ss ++ make (item_seen r.0) ∷ []))) (run tokens.now (item_of h ss make)) }
+    ensures read { (h : Header) (ss : List Shown) (make : Seen → Shown) → Goes result
+        (λ r. run r.1.now (Statements h (ss ++ make (item_seen r.0) ∷ [])))
+        (run tokens.now (item_of h ss make)) }
     ensures shorter { IfOk result (λ r. length r.1.now < length tokens.now) }
     ensures pointers { IfOk result (λ r. Within 0 0 (item_pointers r.0)) }
 {
@@ -44,7 +46,9 @@ fn item_of(alloc: Global, tokens: &[Token]) -> Result<(Item, &[Token]), Stopped<
 
 /// `=`, an item, and the `;` after it.
 fn right_side(alloc: Global, tokens: &[Token]) -> Result<(Item, &[Token]), Stopped<'_>>
-    ensures read { (h : Header) (ss : List Shown) (make : Seen → Shown) → Goes result (λ r. run r.1.now (Statements h (ss ++ make (item_seen r.0) ∷ []))) (run tokens.now (Takes AnAssign (λ e. item_of h ss make))) }
+    ensures read { (h : Header) (ss : List Shown) (make : Seen → Shown) → Goes result
+        (λ r. run r.1.now (Statements h (ss ++ make (item_seen r.0) ∷ [])))
+        (run tokens.now (Takes AnAssign (λ e. item_of h ss make))) }
     ensures shorter { IfOk result (λ r. length r.1.now < length tokens.now) }
     ensures pointers { IfOk result (λ r. Within 0 0 (item_pointers r.0)) }
 {
@@ -54,7 +58,9 @@ fn right_side(alloc: Global, tokens: &[Token]) -> Result<(Item, &[Token]), Stopp
 
 /// `=`, a type, and the `;` after it.
 fn type_of(alloc: Global, tokens: &[Token]) -> Result<(FullType, &[Token]), Stopped<'_>>
-    ensures read { (h : Header) (ss : List Shown) (make : SeenType → Shown) → Goes result (λ r. run r.1.now (Statements h (ss ++ make (full_seen r.0) ∷ []))) (run tokens.now (Takes AnAssign (λ e. full_of h ss make))) }
+    ensures read { (h : Header) (ss : List Shown) (make : SeenType → Shown) → Goes result
+        (λ r. run r.1.now (Statements h (ss ++ make (full_seen r.0) ∷ [])))
+        (run tokens.now (Takes AnAssign (λ e. full_of h ss make))) }
     ensures shorter { IfOk result (λ r. length r.1.now < length tokens.now) }
     ensures pointers { IfOk result (λ r. Within 1 0 (full_pointers r.0)) }
 {
@@ -68,7 +74,9 @@ fn type_of(alloc: Global, tokens: &[Token]) -> Result<(FullType, &[Token]), Stop
 
 /// `=` or `?=`, an item, and the `;` after it; and whether it was `?=`.
 fn set_to(alloc: Global, tokens: &[Token]) -> Result<(bool, Item, &[Token]), Stopped<'_>>
-    ensures read { (h : Header) (ss : List Shown) (make : Bool → Seen → Shown) → Goes result (λ r. run r.2.now (Statements h (ss ++ make r.0 (item_seen r.1) ∷ []))) (run tokens.now (Takes ASetting (λ a. item_of h ss (make (conditional a))))) }
+    ensures read { (h : Header) (ss : List Shown) (make : Bool → Seen → Shown) → Goes result
+        (λ r. run r.2.now (Statements h (ss ++ make r.0 (item_seen r.1) ∷ [])))
+        (run tokens.now (Takes ASetting (λ a. item_of h ss (make (conditional a))))) }
     ensures shorter { IfOk result (λ r. length r.2.now < length tokens.now) }
     ensures pointers { IfOk result (λ r. Within 0 0 (item_pointers r.1)) }
 {
@@ -84,7 +92,9 @@ fn path_form<'a>(
     path: &Token,
     tokens: &'a [Token],
 ) -> Result<(StatementForm, &'a [Token]), Stopped<'a>>
-    ensures read { (p : Place) (h : Header) (ss : List Shown) → Goes result (λ r. run r.1.now (Statements h (ss ++ stated p (form_seen r.0) ∷ []))) (run tokens.now (path_read p last h ss path.now)) }
+    ensures read { (p : Place) (h : Header) (ss : List Shown) → Goes result
+        (λ r. run r.1.now (Statements h (ss ++ stated p (form_seen r.0) ∷ [])))
+        (run tokens.now (path_read p last h ss path.now)) }
     ensures shorter { IfOk result (λ r. length r.1.now < length tokens.now) }
     ensures pointers { IfOk result (λ r. Within 2 0 (form_pointers r.0)) }
 {
@@ -101,7 +111,9 @@ fn variable_form(
     last: bool,
     tokens: &[Token],
 ) -> Result<(StatementForm, &[Token]), Stopped<'_>>
-    ensures read { (p : Place) (h : Header) (ss : List Shown) → Goes result (λ r. run r.1.now (Statements h (ss ++ stated p (form_seen r.0) ∷ []))) (run tokens.now (variable_read p last h ss)) }
+    ensures read { (p : Place) (h : Header) (ss : List Shown) → Goes result
+        (λ r. run r.1.now (Statements h (ss ++ stated p (form_seen r.0) ∷ [])))
+        (run tokens.now (variable_read p last h ss)) }
     ensures shorter { IfOk result (λ r. length r.1.now < length tokens.now) }
     ensures pointers { IfOk result (λ r. Within 2 0 (form_pointers r.0)) }
 {
@@ -115,7 +127,9 @@ fn variable_form(
 
 /// After `function`.
 fn function_form(alloc: Global, tokens: &[Token]) -> Result<(StatementForm, &[Token]), Stopped<'_>>
-    ensures read { (p : Place) (h : Header) (ss : List Shown) → Goes result (λ r. run r.1.now (Statements h (ss ++ stated p (form_seen r.0) ∷ []))) (run tokens.now (function_read p h ss)) }
+    ensures read { (p : Place) (h : Header) (ss : List Shown) → Goes result
+        (λ r. run r.1.now (Statements h (ss ++ stated p (form_seen r.0) ∷ [])))
+        (run tokens.now (function_read p h ss)) }
     ensures shorter { IfOk result (λ r. length r.1.now < length tokens.now) }
     ensures pointers { IfOk result (λ r. Within 2 0 (form_pointers r.0)) }
 {
@@ -126,7 +140,9 @@ fn function_form(alloc: Global, tokens: &[Token]) -> Result<(StatementForm, &[To
 
 /// After `type`.
 fn type_form(alloc: Global, tokens: &[Token]) -> Result<(StatementForm, &[Token]), Stopped<'_>>
-    ensures read { (p : Place) (h : Header) (ss : List Shown) → Goes result (λ r. run r.1.now (Statements h (ss ++ stated p (form_seen r.0) ∷ []))) (run tokens.now (type_read p h ss)) }
+    ensures read { (p : Place) (h : Header) (ss : List Shown) → Goes result
+        (λ r. run r.1.now (Statements h (ss ++ stated p (form_seen r.0) ∷ [])))
+        (run tokens.now (type_read p h ss)) }
     ensures shorter { IfOk result (λ r. length r.1.now < length tokens.now) }
     ensures pointers { IfOk result (λ r. Within 2 0 (form_pointers r.0)) }
 {
@@ -137,7 +153,9 @@ fn type_form(alloc: Global, tokens: &[Token]) -> Result<(StatementForm, &[Token]
 
 /// After `bind`.
 fn bind_form(alloc: Global, tokens: &[Token]) -> Result<(StatementForm, &[Token]), Stopped<'_>>
-    ensures read { (p : Place) (h : Header) (ss : List Shown) → Goes result (λ r. run r.1.now (Statements h (ss ++ stated p (form_seen r.0) ∷ []))) (run tokens.now (bind_read p h ss)) }
+    ensures read { (p : Place) (h : Header) (ss : List Shown) → Goes result
+        (λ r. run r.1.now (Statements h (ss ++ stated p (form_seen r.0) ∷ [])))
+        (run tokens.now (bind_read p h ss)) }
     ensures shorter { IfOk result (λ r. length r.1.now < length tokens.now) }
     ensures pointers { IfOk result (λ r. Within 2 0 (form_pointers r.0)) }
 {
@@ -148,7 +166,9 @@ fn bind_form(alloc: Global, tokens: &[Token]) -> Result<(StatementForm, &[Token]
 
 /// After `valid`.
 fn valid_form(alloc: Global, tokens: &[Token]) -> Result<(StatementForm, &[Token]), Stopped<'_>>
-    ensures read { (p : Place) (h : Header) (ss : List Shown) → Goes result (λ r. run r.1.now (Statements h (ss ++ stated p (form_seen r.0) ∷ []))) (run tokens.now (valid_read p h ss)) }
+    ensures read { (p : Place) (h : Header) (ss : List Shown) → Goes result
+        (λ r. run r.1.now (Statements h (ss ++ stated p (form_seen r.0) ∷ [])))
+        (run tokens.now (valid_read p h ss)) }
     ensures shorter { IfOk result (λ r. length r.1.now < length tokens.now) }
     ensures pointers { IfOk result (λ r. Within 2 0 (form_pointers r.0)) }
 {
@@ -159,7 +179,9 @@ fn valid_form(alloc: Global, tokens: &[Token]) -> Result<(StatementForm, &[Token
 
 /// After `prefix`.
 fn prefix_form(tokens: &[Token]) -> Result<(StatementForm, &[Token]), Stopped<'_>>
-    ensures read { (p : Place) (h : Header) (ss : List Shown) → Goes result (λ r. run r.1.now (Statements h (ss ++ stated p (form_seen r.0) ∷ []))) (run tokens.now (prefix_read p h ss)) }
+    ensures read { (p : Place) (h : Header) (ss : List Shown) → Goes result
+        (λ r. run r.1.now (Statements h (ss ++ stated p (form_seen r.0) ∷ [])))
+        (run tokens.now (prefix_read p h ss)) }
     ensures shorter { IfOk result (λ r. length r.1.now < length tokens.now) }
     ensures pointers { IfOk result (λ r. Within 2 0 (form_pointers r.0)) }
 {
@@ -171,7 +193,9 @@ fn prefix_form(tokens: &[Token]) -> Result<(StatementForm, &[Token]), Stopped<'_
 /// After `include`.
 #[tactic(auto, using(pan_ast::proofs::Pointers::node_below))]
 fn include_form(alloc: Global, tokens: &[Token]) -> Result<(StatementForm, &[Token]), Stopped<'_>>
-    ensures read { (p : Place) (h : Header) (ss : List Shown) → Goes result (λ r. run r.1.now (Statements h (ss ++ stated p (form_seen r.0) ∷ []))) (run tokens.now (IncludeRead p h ss)) }
+    ensures read { (p : Place) (h : Header) (ss : List Shown) → Goes result
+        (λ r. run r.1.now (Statements h (ss ++ stated p (form_seen r.0) ∷ [])))
+        (run tokens.now (IncludeRead p h ss)) }
     ensures shorter { IfOk result (λ r. length r.1.now < length tokens.now) }
     ensures pointers { IfOk result (λ r. Within 2 0 (form_pointers r.0)) }
 {
@@ -199,7 +223,9 @@ fn setting_form(
     last: bool,
     tokens: &[Token],
 ) -> Result<(StatementForm, &[Token]), Stopped<'_>>
-    ensures read { (p : Place) (h : Header) (ss : List Shown) → Goes result (λ r. run r.1.now (Statements h (ss ++ stated p (form_seen r.0) ∷ []))) (on_front (setting_at p last h ss) tokens.now) }
+    ensures read { (p : Place) (h : Header) (ss : List Shown) → Goes result
+        (λ r. run r.1.now (Statements h (ss ++ stated p (form_seen r.0) ∷ [])))
+        (on_front (setting_at p last h ss) tokens.now) }
     ensures shorter { IfOk result (λ r. length r.1.now < length tokens.now) }
     ensures pointers { IfOk result (λ r. Within 2 0 (form_pointers r.0)) }
 {
@@ -222,7 +248,9 @@ fn form<'a>(
 ) -> Result<(StatementForm, &'a [Token]), Stopped<'a>>
     requires parts { tokens.now ≡ first.now ∷ rest.now }
     requires open { at End (sort first.now) ≡ false }
-    ensures read { (h : Header) (ss : List Shown) → Goes result (λ r. run r.1.now (Statements h (ss ++ stated first.now.place (form_seen r.0) ∷ []))) (run tokens.now (Statements h ss)) }
+    ensures read { (h : Header) (ss : List Shown) → Goes result
+        (λ r. run r.1.now (Statements h (ss ++ stated first.now.place (form_seen r.0) ∷ [])))
+        (run tokens.now (Statements h ss)) }
     ensures shorter { IfOk result (λ r. length r.1.now < length tokens.now) }
     ensures pointers { IfOk result (λ r. Within 2 0 (form_pointers r.0)) }
 {
@@ -241,7 +269,9 @@ fn form<'a>(
 /// A statement.
 fn statement(alloc: Global, tokens: &[Token]) -> Result<(Statement, &[Token]), Stopped<'_>>
     requires { NotAt End tokens.now }
-    ensures read { (h : Header) (ss : List Shown) → Goes result (λ r. run r.1.now (Statements h (ss ++ statement_seen r.0 ∷ []))) (run tokens.now (Statements h ss)) }
+    ensures read { (h : Header) (ss : List Shown) → Goes result
+        (λ r. run r.1.now (Statements h (ss ++ statement_seen r.0 ∷ [])))
+        (run tokens.now (Statements h ss)) }
     ensures shorter { IfOk result (λ r. length r.1.now < length tokens.now) }
     ensures pointers { IfOk result (λ r. Within 2 0 (statement_pointers r.0)) }
 {
@@ -258,7 +288,9 @@ pub(crate) fn statements(
     alloc: Global,
     tokens: &[Token],
 ) -> Result<(Vec<Statement>, &[Token]), Stopped<'_>>
-    ensures read { (h : Header) → Goes result (λ r. run r.1.now (Done (template h (map statement_seen r.0.items)))) (run tokens.now (Statements h [])) }
+    ensures read { (h : Header) → Goes result
+        (λ r. run r.1.now (Done (template h (map statement_seen r.0.items))))
+        (run tokens.now (Statements h [])) }
     ensures pointers { IfOk result (λ r. Within 2 0 (statements_pointers r.0.items)) }
 {
     let mut statements = Vec::with_capacity(alloc, tokens.len() / USUAL_TOKENS)?;

@@ -81,7 +81,8 @@ fn operator_of(sort: Sort) -> Operator
 
 /// The operator of a line of chains that stands at the front, and the tokens after it.
 pub(crate) fn next_operator(line: u8, tokens: &[Token]) -> Option<(Operator, &[Token])>
-    ensures { MatchOption result (NoOperator line tokens.now) (λ r. IsOperator line tokens.now (op_seen r.0) r.1.now) }
+    ensures { MatchOption result (NoOperator line tokens.now)
+        (λ r. IsOperator line tokens.now (op_seen r.0) r.1.now) }
 {
     let Some((first, rest)) = cut(tokens) else {
         return None;
@@ -112,8 +113,10 @@ pub(crate) fn join(
     left: Node,
     right: Node,
 ) -> Result<Node, AllocError>
-    ensures seen { IfOk result (λ y. node_seen y ≡ joined (op_seen operator) (node_seen left) (node_seen right)) }
-    ensures pointers { IfOk result (λ y. left_pointers y ≤ max (left_pointers left) (1 + left_pointers right)) }
+    ensures seen { IfOk result (λ y. node_seen y ≡ joined (op_seen operator) (node_seen left)
+        (node_seen right)) }
+    ensures pointers { IfOk result (λ y. left_pointers y ≤ max (left_pointers left)
+        (1 + left_pointers right)) }
 {
     match operator {
         Operator::Of(operator) => make_binary(alloc, operator, left, right),
@@ -190,7 +193,8 @@ pub(crate) fn indexed_name(
     token: &Token,
     indexes: Vec<Item>,
 ) -> Result<Node, AllocError>
-    ensures seen { IfOk result (λ y. node_seen y ≡ indexed (name token.now) (map item_seen indexes.items)) }
+    ensures seen { IfOk result (λ y. node_seen y ≡ indexed (name token.now)
+        (map item_seen indexes.items)) }
     ensures pointers { IfOk result (λ y. left_pointers y ≤ items_pointers indexes.items) }
 {
     let mut node = make_name(token.place(), token.value())?;

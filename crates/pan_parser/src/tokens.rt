@@ -63,8 +63,12 @@ impl Expected {
 }
 
 /// The token that is expected, and the tokens after it.
-pub(crate) fn expect(expected: Expected, tokens: &[Token]) -> Result<(&Token, &[Token]), Stopped<'_>>
-    ensures read { (s : State) (next : Token → State) → Wants s (λ t. takes expected (sort t)) next → Goes result (λ r. run r.1.now (next r.0.now)) (run tokens.now s) }
+pub(crate) fn expect(
+    expected: Expected,
+    tokens: &[Token],
+) -> Result<(&Token, &[Token]), Stopped<'_>>
+    ensures read { (s : State) (next : Token → State) → Wants s (λ t. takes expected (sort t))
+        next → Goes result (λ r. run r.1.now (next r.0.now)) (run tokens.now s) }
     ensures shorter { IfOk result (λ r. length r.1.now < length tokens.now) }
 {
     let Some((first, rest)) = cut(tokens) else {

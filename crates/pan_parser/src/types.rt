@@ -30,7 +30,8 @@ use std::alloc::{AllocError, Global};
 
 /// The key that the token of a text is, or None where it is none.
 fn key_of(alloc: Global, token: &Token) -> Result<Option<Key>, AllocError>
-    ensures { IfOk result (λ o. MatchOption o (is_key_text token.now ≡ false) (λ k. (is_key_text token.now ≡ true) × (k ≡ token.now.value))) }
+    ensures { IfOk result (λ o. MatchOption o (is_key_text token.now ≡ false)
+        (λ k. (is_key_text token.now ≡ true) × (k ≡ token.now.value))) }
 {
     if !Sort::Text.is(token.sort()) {
         return Ok(None);
@@ -49,7 +50,9 @@ fn default_of(
     tokens: &[Token],
 ) -> Result<(Option<Item>, &[Token]), Stopped<'_>>
     requires { depth ≤ MAX_NESTING }
-    ensures read { (f : Formed) (s : FullStack) → full_holders s ≡ depth → Goes result (λ r. on_front (has_default f (option_seen r.0) s) r.1.now) (on_front (has_form f s) tokens.now) }
+    ensures read { (f : Formed) (s : FullStack) → full_holders s ≡ depth → Goes result
+        (λ r. on_front (has_default f (option_seen r.0) s) r.1.now)
+        (on_front (has_form f s) tokens.now) }
     ensures shorter { IfOk result (λ r. length r.1.now ≤ length tokens.now) }
     ensures pointers { IfOk result (λ r. Within 0 depth (option_pointers r.0)) }
 {
@@ -67,7 +70,9 @@ fn test_of(
     tokens: &[Token],
 ) -> Result<(Option<Item>, &[Token]), Stopped<'_>>
     requires { depth ≤ MAX_NESTING }
-    ensures read { (f : Formed) (e : Option Seen) (s : FullStack) → full_holders s ≡ depth → Goes result (λ r. on_front (has_full s (Full f e (option_seen r.0))) r.1.now) (on_front (has_default f e s) tokens.now) }
+    ensures read { (f : Formed) (e : Option Seen) (s : FullStack) → full_holders s ≡ depth → Goes
+        result (λ r. on_front (has_full s (Full f e (option_seen r.0))) r.1.now)
+        (on_front (has_default f e s) tokens.now) }
     ensures shorter { IfOk result (λ r. length r.1.now ≤ length tokens.now) }
     ensures pointers { IfOk result (λ r. Within 1 depth (test_pointers r.0)) }
 {
@@ -87,7 +92,9 @@ fn whole_type(
 ) -> Result<(FullType, &[Token]), Stopped<'_>>
     requires room { depth ≤ MAX_NESTING }
     requires form { Within 1 depth (type_pointers form) }
-    ensures read { (s : FullStack) → full_holders s ≡ depth → Goes result (λ r. on_front (has_full s (full_seen r.0)) r.1.now) (on_front (has_form (type_seen form) s) tokens.now) }
+    ensures read { (s : FullStack) → full_holders s ≡ depth → Goes result
+        (λ r. on_front (has_full s (full_seen r.0)) r.1.now)
+        (on_front (has_form (type_seen form) s) tokens.now) }
     ensures shorter { IfOk result (λ r. length r.1.now ≤ length tokens.now) }
     ensures pointers { IfOk result (λ r. Within 1 depth (full_pointers r.0)) }
 {
@@ -98,7 +105,8 @@ fn whole_type(
 
 /// After `choice`: the texts through `)`.
 fn choice(alloc: Global, tokens: &[Token]) -> Result<(Head, &[Token]), Stopped<'_>>
-    ensures read { (s : FullStack) → Goes result (λ r. run r.1.now (HasHead (head_seen r.0) [] s)) (run tokens.now (choice_read s)) }
+    ensures read { (s : FullStack) → Goes result (λ r. run r.1.now (HasHead (head_seen r.0) [] s))
+        (run tokens.now (choice_read s)) }
     ensures shorter { IfOk result (λ r. length r.1.now < length tokens.now) }
     ensures pointers { IfOk result (λ r. head_pointers r.0 ≡ 1) }
 {
@@ -112,7 +120,9 @@ fn choice(alloc: Global, tokens: &[Token]) -> Result<(Head, &[Token]), Stopped<'
 
 /// After a text of a choice: the texts through `)`, after those before.
 fn more_texts(texts: Vec<Text>, tokens: &[Token]) -> Result<(Vec<Text>, &[Token]), Stopped<'_>>
-    ensures read { (s : FullStack) → Goes result (λ r. run r.1.now (HasHead (plain.Choice r.0.items) [] s)) (run tokens.now (TextsOpen texts.items s)) }
+    ensures read { (s : FullStack) → Goes result
+        (λ r. run r.1.now (HasHead (plain.Choice r.0.items) [] s))
+        (run tokens.now (TextsOpen texts.items s)) }
     ensures shorter { IfOk result (λ r. length r.1.now < length tokens.now) }
 {
     let mut texts = texts;
@@ -132,7 +142,8 @@ fn more_texts(texts: Vec<Text>, tokens: &[Token]) -> Result<(Vec<Text>, &[Token]
 
 /// After the name of a type.
 fn named<'a>(name: &Token, tokens: &'a [Token]) -> Result<(Head, &'a [Token]), Stopped<'a>>
-    ensures read { (s : FullStack) → Goes result (λ r. run r.1.now (HasHead (head_seen r.0) [] s)) (run tokens.now (NameRead name.now s)) }
+    ensures read { (s : FullStack) → Goes result (λ r. run r.1.now (HasHead (head_seen r.0) [] s))
+        (run tokens.now (NameRead name.now s)) }
     ensures shorter { IfOk result (λ r. length r.1.now ≤ length tokens.now) }
     ensures pointers { IfOk result (λ r. head_pointers r.0 ≡ 0) }
 {
@@ -145,7 +156,8 @@ fn named<'a>(name: &Token, tokens: &'a [Token]) -> Result<(Head, &'a [Token]), S
 
 /// The fault where a type is wanted that as many constructs would hold as may.
 fn at_limit(tokens: &[Token]) -> Stopped<'_>
-    ensures { (s : FullStack) → full_holders s ≡ MAX_NESTING → Fails result (run tokens.now (NeedFull s)) }
+    ensures { (s : FullStack) → full_holders s ≡ MAX_NESTING → Fails result
+        (run tokens.now (NeedFull s)) }
 {
     let Some((first, _)) = cut(tokens) else {
         return Stopped::Bad(tokens);
@@ -165,7 +177,8 @@ pub(crate) fn full_type(
     tokens: &[Token],
 ) -> Result<(FullType, &[Token]), Stopped<'_>>
     requires { depth ≤ MAX_NESTING }
-    ensures read { (s : FullStack) → full_holders s ≡ depth → Goes result (λ r. on_front (has_full s (full_seen r.0)) r.1.now) (run tokens.now (NeedFull s)) }
+    ensures read { (s : FullStack) → full_holders s ≡ depth → Goes result
+        (λ r. on_front (has_full s (full_seen r.0)) r.1.now) (run tokens.now (NeedFull s)) }
     ensures shorter { IfOk result (λ r. length r.1.now < length tokens.now) }
     ensures pointers { IfOk result (λ r. Within 1 depth (full_pointers r.0)) }
 {
@@ -181,7 +194,8 @@ pub(crate) fn full_type(
 #[cycle(types)]
 fn head(alloc: Global, depth: usize, tokens: &[Token]) -> Result<(Head, &[Token]), Stopped<'_>>
     requires { depth < MAX_NESTING }
-    ensures read { (s : FullStack) → full_holders s ≡ depth → Goes result (λ r. run r.1.now (HasHead (head_seen r.0) [] s)) (run tokens.now (NeedFull s)) }
+    ensures read { (s : FullStack) → full_holders s ≡ depth → Goes result
+        (λ r. run r.1.now (HasHead (head_seen r.0) [] s)) (run tokens.now (NeedFull s)) }
     ensures shorter { IfOk result (λ r. length r.1.now < length tokens.now) }
     ensures pointers { IfOk result (λ r. Within 1 depth (head_pointers r.0)) }
 {
@@ -217,9 +231,15 @@ fn head(alloc: Global, depth: usize, tokens: &[Token]) -> Result<(Head, &[Token]
 /// After `{`: the fields through `}`.
 #[tactic(auto, using(pan_ast::proofs::Pointers::fields_push))]
 #[cycle(types)]
-fn fields(alloc: Global, depth: usize, tokens: &[Token]) -> Result<(Vec<Field>, &[Token]), Stopped<'_>>
+fn fields(
+    alloc: Global,
+    depth: usize,
+    tokens: &[Token],
+) -> Result<(Vec<Field>, &[Token]), Stopped<'_>>
     requires { depth ≤ MAX_NESTING }
-    ensures read { (e : Bool) (s : FullStack) → suc (suc (full_holders s)) ≡ depth → Goes result (λ r. run r.1.now (HasHead (recorded e (map field_seen r.0.items)) [] s)) (run tokens.now (FieldsOpen e [] s)) }
+    ensures read { (e : Bool) (s : FullStack) → suc (suc (full_holders s)) ≡ depth → Goes result
+        (λ r. run r.1.now (HasHead (recorded e (map field_seen r.0.items)) [] s))
+        (run tokens.now (FieldsOpen e [] s)) }
     ensures shorter { IfOk result (λ r. length r.1.now < length tokens.now) }
     ensures pointers { IfOk result (λ r. Within 1 depth (fields_pointers r.0.items)) }
 {
@@ -239,7 +259,9 @@ fn fields(alloc: Global, depth: usize, tokens: &[Token]) -> Result<(Vec<Field>, 
 fn field(alloc: Global, depth: usize, tokens: &[Token]) -> Result<(Field, &[Token]), Stopped<'_>>
     requires room { depth ≤ MAX_NESTING }
     requires open { NotAt CloseBrace tokens.now }
-    ensures read { (e : Bool) (fs : List Shown) (s : FullStack) → suc (suc (full_holders s)) ≡ depth → Goes result (λ r. run r.1.now (FieldsOpen e (fs ++ field_seen r.0 ∷ []) s)) (run tokens.now (FieldsOpen e fs s)) }
+    ensures read { (e : Bool) (fs : List Shown) (s : FullStack) → suc (suc (full_holders s)) ≡
+        depth → Goes result (λ r. run r.1.now (FieldsOpen e (fs ++ field_seen r.0 ∷ []) s))
+        (run tokens.now (FieldsOpen e fs s)) }
     ensures shorter { IfOk result (λ r. length r.1.now < length tokens.now) }
     ensures pointers { IfOk result (λ r. Within 1 depth (field_pointers r.0)) }
 {
