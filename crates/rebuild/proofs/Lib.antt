@@ -1,0 +1,15 @@
+pub mod ByName
+pub mod Words
+pub mod Settles
+pub mod Runs
+pub mod Comparisons
+pub mod Judges
+pub mod Checked
+pub mod Openings
+pub mod Readies
+pub mod Engines
+pub mod Takings
+pub mod Taken
+pub mod Renewals
+pub mod EngineTakes
+pub mod New

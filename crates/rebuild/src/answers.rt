@@ -1,0 +1,110 @@
+//! What the engine answers.
+
+ghost use Rattle.std.specs.Prelude.{◌≡◌, option_copied};
+ghost use Rattle.rebuild.specs.Answers.{seen_answer, answer_of_row, answer_in, seen_why, why_in, count_rows};
+ghost use Rattle.rebuild.specs.Places.{row_in};
+
+use crate::rows::{Cause, Row};
+use pan_ast::Fault;
+use path_tree::Tree;
+use read_sets::Key;
+
+/// The answer for a name: its profile's tree, its fault, that it is not settled, or that it is no object.
+pub enum Answer<'a> {
+    Profile(&'a Tree),
+    Fault(&'a Fault),
+    Pending,
+    NoObject,
+}
+
+/// The row of a name.
+fn row_of_text<'a, H>(rows: &'a [Row<H>], name: &str) -> Option<&'a Row<H>>
+    ensures { option_copied result ≡ row_in name.now rows.now }
+{
+    for row in rows {
+        if row.name.as_str() == name {
+            return Some(row);
+        }
+    }
+    None
+}
+
+/// The answer of a row.
+fn answer_of_row<H>(row: &Row<H>) -> Answer<'_>
+    ensures { seen_answer result ≡ answer_of_row row.now }
+{
+    if row.open_build || row.open_check {
+        return Answer::Pending;
+    }
+    match &row.last {
+        None => Answer::Pending,
+        Some(last) => match &last.result {
+            Err(fault) => Answer::Fault(fault),
+            Ok(tree) => match &row.check {
+                None => Answer::Pending,
+                Some(check) => match &check.verdict {
+                    Some(fault) => Answer::Fault(fault),
+                    None => Answer::Profile(tree),
+                },
+            },
+        },
+    }
+}
+
+/// The answer for a name.
+pub(crate) fn answer_in<'a, H>(rows: &'a [Row<H>], name: &str) -> Answer<'a>
+    ensures { seen_answer result ≡ answer_in rows.now name.now }
+{
+    match row_of_text(rows, name) {
+        None => Answer::NoObject,
+        Some(row) => answer_of_row(row),
+    }
+}
+
+/// Why a name was run last.
+pub enum Why<'a> {
+    NotRun,
+    NoRecord,
+    Changed(&'a Key),
+    NoObject,
+}
+
+/// Why a name was run last.
+pub(crate) fn why_in<'a, H>(rows: &'a [Row<H>], name: &str) -> Why<'a>
+    ensures { seen_why result ≡ why_in rows.now name.now }
+{
+    match row_of_text(rows, name) {
+        None => Why::NoObject,
+        Some(row) => match &row.cause {
+            Cause::NotRun => Why::NotRun,
+            Cause::NoRecord => Why::NoRecord,
+            Cause::Changed(key) => Why::Changed(key),
+        },
+    }
+}
+
+/// How many build parts are unsettled.
+pub(crate) fn open_builds<H>(rows: &[Row<H>]) -> usize
+    ensures { result ≡ count_rows (λ r. r.open_build) rows.now }
+{
+    let mut count = 0;
+    for row in rows {
+        if row.open_build {
+            count += 1;
+        }
+    }
+    count
+}
+
+/// How many check parts are unsettled.
+pub(crate) fn open_checks<H>(rows: &[Row<H>]) -> usize
+    ensures { result ≡ count_rows (λ r. r.open_check) rows.now }
+{
+    let mut count = 0;
+    for row in rows {
+        if row.open_check {
+            count += 1;
+        }
+    }
+    count
+}

@@ -1,0 +1,102 @@
+//! The rows of a Take.
+
+ghost use Rattle.std.specs.Prelude.{◌≡◌, ◌<◌, true, IfOk, OnOk, OnErr, length, map, get_or, slice_set};
+ghost use Rattle.rebuild.specs.Places.{names};
+ghost use Rattle.rebuild.specs.Ready.{are_once, IsReady};
+ghost use Rattle.rebuild.specs.Taking.{new_row, taken_rows};
+ghost use Rattle.rebuild.specs.Renewing.{reopened, IsRenewed, IsTaken};
+
+use crate::core_data::Core;
+use crate::rows::{Cause, Row, row_place};
+use crate::taking::{TakeError, number_files};
+use foreign_values::Chain;
+use outside::PictureFile;
+use path_tree::Name;
+use std::alloc::Global;
+
+/// A fresh row for each object.
+pub(crate) fn fresh_rows<H: Drop>(alloc: Global, objects: &[Name]) -> Result<Vec<Row<H>>, TakeError>
+    ensures { IfOk result (λ rows. rows.items ≡ map new_row objects.now) }
+{
+    let mut rows = Vec::new(alloc);
+    for object in objects {
+        let name = object.share()?;
+        rows.push(Row {
+            name,
+            last: None,
+            build: None,
+            check: None,
+            open_build: true,
+            open_check: true,
+            held: None,
+            run: false,
+            cause: Cause::NotRun,
+        })?;
+    }
+    Ok(rows)
+}
+
+/// Both parts of an object become unsettled.
+fn reopen<H: Drop>(row: &mut Row<H>)
+    ensures { row.new ≡ reopened row.old }
+{
+    row.open_build = true;
+    row.open_check = true;
+    row.held = None;
+}
+
+/// A fresh row takes what was kept of its object, and leaves itself in its place.
+fn renew<H: Drop>(fresh: &mut Row<H>, old: &mut Row<H>)
+    ensures fresh { fresh.new ≡ reopened old.old }
+    ensures old { old.new ≡ fresh.old }
+{
+    std::mem::swap(fresh, old);
+    reopen(fresh);
+}
+
+/// The fresh row at this place takes what was kept of its object.
+fn renew_at<H: Drop>(fresh: &mut Vec<Row<H>>, at: usize, old: &mut Vec<Row<H>>)
+    requires { at < length fresh.old.items }
+    ensures { IsRenewed at fresh.old.items old.old.items fresh.new.items old.new.items }
+{
+    if let Some(place) = row_place(old, &fresh[at].name) {
+        renew(&mut fresh[at], &mut old[place]);
+    }
+}
+
+/// Fresh rows take what was kept of their objects.
+pub(crate) fn renew_all<H: Drop>(fresh: &mut Vec<Row<H>>, old: &mut Vec<Row<H>>, objects: &[Name])
+    requires once { are_once objects.now ≡ true }
+    requires fresh { fresh.old.items ≡ map new_row objects.now }
+    ensures { fresh.new.items ≡ taken_rows old.old.items objects.now }
+{
+    let count = objects.len();
+    let mut at = 0;
+    while at < count {
+        renew_at(fresh, at, old);
+        at += 1;
+    }
+}
+
+/// The data after a picture with these files and objects was taken.
+pub(crate) fn take_core<H: Drop>(
+    alloc: Global,
+    core: &mut Core<H>,
+    files: &[PictureFile],
+    objects: &[Name],
+) -> Result<(), TakeError>
+    requires ready { IsReady core.old }
+    requires once { are_once objects.now ≡ true }
+    ensures taken { OnOk result (IsTaken files.now objects.now core.old core.new) }
+    ensures before { OnErr result (core.new ≡ core.old) }
+{
+    let mut counter = core.counter;
+    let numbered = number_files(alloc, &core.files, files, &mut counter)?;
+    let mut rows = fresh_rows(alloc, objects)?;
+    renew_all(&mut rows, &mut core.rows, objects);
+    core.counter = counter;
+    core.files = numbered;
+    core.rows = rows;
+    core.chain = Chain::new(alloc);
+    Ok(())
+}
