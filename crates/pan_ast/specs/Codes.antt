@@ -1,7 +1,7 @@
--- How fault codes are printed.
+-- The fault codes: their numbers, and how they are printed.
 use Rattle.std.specs.Prelude.{ℕ, List, codes}
 use Rattle.pan_ast.specs.declared.fault.Code.{Code}
-use Rattle.pan_ast.specs.declared.fault.Code.TheVariants.{BadCharacter, NotUtf8, OpenText, Double, IntegerTooLarge, BadSyntax, TooDeep, TooLarge, BadPath, WrongTemplate, NotBuilt}
+use Rattle.pan_ast.specs.declared.fault.Code.TheVariants.{BadCharacter, NotUtf8, OpenText, Double, IntegerTooLarge, BadSyntax, TooDeep, TypeClash, Overflow, ZeroDivisor, BadArgument, BadPattern, BadIndex, TooLarge, Final, BadPath, GlobalChange, NoVariable, NoFunction, Iterations, CallDepth, WorkSpent, UserError, NotBoolean, SelfChange, NoPath, NoObject, ForeignFailed, Circular, NoType, Redefined, BadRange, WrongType, OutOfRange, MissingField, ExtraField, FalseTest, FalseValid, UndefLeft, NoBoundPath, NoTemplate, WrongKind, WrongStatement, WrongTemplate, IncludeDepth, FileTooLong, NotSupported}
 
 abbrev pub code_text : Code → List ℕ
 code_text BadCharacter = codes "F01"
@@ -11,7 +11,92 @@ code_text Double = codes "F04"
 code_text IntegerTooLarge = codes "F05"
 code_text BadSyntax = codes "F06"
 code_text TooDeep = codes "F07"
+code_text TypeClash = codes "F10"
+code_text Overflow = codes "F11"
+code_text ZeroDivisor = codes "F12"
+code_text BadArgument = codes "F13"
+code_text BadPattern = codes "F14"
+code_text BadIndex = codes "F15"
 code_text TooLarge = codes "F16"
+code_text Final = codes "F17"
 code_text BadPath = codes "F18"
+code_text GlobalChange = codes "F19"
+code_text NoVariable = codes "F20"
+code_text NoFunction = codes "F21"
+code_text Iterations = codes "F22"
+code_text CallDepth = codes "F23"
+code_text WorkSpent = codes "F24"
+code_text UserError = codes "F25"
+code_text NotBoolean = codes "F26"
+code_text SelfChange = codes "F27"
+code_text NoPath = codes "F28"
+code_text NoObject = codes "F29"
+code_text ForeignFailed = codes "F30"
+code_text Circular = codes "F31"
+code_text NoType = codes "F32"
+code_text Redefined = codes "F33"
+code_text BadRange = codes "F34"
+code_text WrongType = codes "F35"
+code_text OutOfRange = codes "F36"
+code_text MissingField = codes "F37"
+code_text ExtraField = codes "F38"
+code_text FalseTest = codes "F39"
+code_text FalseValid = codes "F40"
+code_text UndefLeft = codes "F41"
+code_text NoBoundPath = codes "F42"
+code_text NoTemplate = codes "F43"
+code_text WrongKind = codes "F44"
+code_text WrongStatement = codes "F45"
 code_text WrongTemplate = codes "F46"
-code_text NotBuilt = codes "F99"
+code_text IncludeDepth = codes "F47"
+code_text FileTooLong = codes "F48"
+code_text NotSupported = codes "F99"
+
+abbrev pub code_number : Code → ℕ
+code_number BadCharacter = 1
+code_number NotUtf8 = 2
+code_number OpenText = 3
+code_number Double = 4
+code_number IntegerTooLarge = 5
+code_number BadSyntax = 6
+code_number TooDeep = 7
+code_number TypeClash = 10
+code_number Overflow = 11
+code_number ZeroDivisor = 12
+code_number BadArgument = 13
+code_number BadPattern = 14
+code_number BadIndex = 15
+code_number TooLarge = 16
+code_number Final = 17
+code_number BadPath = 18
+code_number GlobalChange = 19
+code_number NoVariable = 20
+code_number NoFunction = 21
+code_number Iterations = 22
+code_number CallDepth = 23
+code_number WorkSpent = 24
+code_number UserError = 25
+code_number NotBoolean = 26
+code_number SelfChange = 27
+code_number NoPath = 28
+code_number NoObject = 29
+code_number ForeignFailed = 30
+code_number Circular = 31
+code_number NoType = 32
+code_number Redefined = 33
+code_number BadRange = 34
+code_number WrongType = 35
+code_number OutOfRange = 36
+code_number MissingField = 37
+code_number ExtraField = 38
+code_number FalseTest = 39
+code_number FalseValid = 40
+code_number UndefLeft = 41
+code_number NoBoundPath = 42
+code_number NoTemplate = 43
+code_number WrongKind = 44
+code_number WrongStatement = 45
+code_number WrongTemplate = 46
+code_number IncludeDepth = 47
+code_number FileTooLong = 48
+code_number NotSupported = 99

@@ -18,9 +18,9 @@ printed_byte b =
 abbrev pub printed : List ℕ → List ℕ
 printed bytes = flat_map printed_byte bytes
 
--- FILE:LINE:COLUMN
+-- FILE:LINE:COLUMN, the file as it is
 abbrev pub place_text : Place → List ℕ
-place_text p = printed p.file ++ 58 ∷ [] ++ decimal p.line ++ 58 ∷ [] ++ decimal p.column
+place_text p = p.file ++ 58 ∷ [] ++ decimal p.line ++ 58 ∷ [] ++ decimal p.column
 
 -- a space and the detail, where it is not empty
 abbrev pub detail_text : List ℕ → List ℕ

@@ -68,7 +68,7 @@ tree_after (a ∷ more) tree = and_then (assigned a tree) (tree_after more)
 
 -- a construct that is not built
 abbrev pub not_built : Place → Fault
-not_built place = record { code = code.NotBuilt; place = place; detail = [] }
+not_built place = record { code = code.NotSupported; place = place; detail = [] }
 
 -- what statements make of a tree; a construct that is not built comes before all other faults
 abbrev pub tree_of_read : Read (List Assignment) → Plain → Result Plain Fault

@@ -116,7 +116,7 @@ fn not_built(alloc: Global, unbuilt: Unbuilt) -> CompileError
     ensures { (read : Read (List Assignment)) (tree : Plain) → IsRefused read unbuilt → IsFault (tree_of_read read tree) result }
 {
     match unbuilt {
-        Unbuilt::At(place) => match fault_at(alloc, Code::NotBuilt, place) {
+        Unbuilt::At(place) => match fault_at(alloc, Code::NotSupported, place) {
             Ok(fault) => CompileError::Fault(fault),
             Err(AllocError) => CompileError::Memory,
         },
