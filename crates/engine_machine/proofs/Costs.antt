@@ -7,7 +7,8 @@ use Rattle.questions.specs.declared.key.Key.{Key}
 use Rattle.questions.specs.Contents.{Content}
 use Rattle.questions.specs.Laws.{MayAsk}
 use Rattle.questions.specs.Told.{RunLaws, more_than_asked}
-use Rattle.runner.specs.Ends.{Built, End, Verdict, is_circular_end, is_circular_verdict}
+use Rattle.runner.specs.Ends.{End, Verdict, is_circular_end, is_circular_verdict}
+use Rattle.runner.specs.declared.ends.Built.{Built}
 use Rattle.runner.specs.Meaning.{Meaning, IsLawful}
 use Rattle.engine_laws.specs.Names.{Name}
 use Rattle.engine_laws.specs.Runner.{IsTrail}
@@ -32,11 +33,11 @@ module _ {R : Type 0} (may : Key → Type 0) (is_circular : R → Bool) (run : L
   pub soon : (qs : List (Key × Content)) (k : Key) → IsTrail run tell qs → run qs ≡ Asks k → length qs + 1 < 2000001
   soon qs k trail asks = let all = within ((k, tell k) ∷ qs) (trail, asks, refl) in omega (arith, all)
 
-module _ {More : Type 0} (m : Meaning More) (laws : IsLawful m) (files : List PictureFile) (objects : List Name) where
+module _ {T : Type 0} (m : Meaning T) (laws : IsLawful m) (files : List PictureFile) (objects : List Name) where
   build_laws : (o : Name) → CostLaws (m.build o) (m.build_work o) (content (runner_of m.build) (picture_in files objects)) MAX_WORK
   build_laws o = cost_laws (MayAsk o) is_circular_end (m.build o) (m.build_work o) (laws.builds o) (content (runner_of m.build) (picture_in files objects))
 
-  check_laws : (r : End More) → CostLaws (check_end m.check r) (check_work m r) (content (runner_of m.build) (picture_in files objects)) MAX_WORK
+  check_laws : (r : End T) → CostLaws (check_end m.check r) (check_work m r) (content (runner_of m.build) (picture_in files objects)) MAX_WORK
   check_laws (Ok b) = cost_laws (MayAsk b.object) is_circular_verdict (m.check b) (m.check_work b) (laws.checks b) (content (runner_of m.build) (picture_in files objects))
   check_laws (Err f) = record { grows = λ qs k trail asks. omega arith; short = fault_short }
     where
@@ -50,7 +51,7 @@ module _ {More : Type 0} (m : Meaning More) (laws : IsLawful m) (files : List Pi
   build_soon : (o : Name) (qs : List (Key × Content)) (k : Key) → IsTrail (m.build o) (content (runner_of m.build) (picture_in files objects)) qs → m.build o qs ≡ Asks k → length qs + 1 < 2000001
   build_soon o = soon (MayAsk o) is_circular_end (m.build o) (m.build_work o) (laws.builds o) (content (runner_of m.build) (picture_in files objects))
 
-  check_soon : (r : End More) (qs : List (Key × Content)) (k : Key) → IsTrail (check_end m.check r) (content (runner_of m.build) (picture_in files objects)) qs → check_end m.check r qs ≡ Asks k → length qs + 1 < 2000001
+  check_soon : (r : End T) (qs : List (Key × Content)) (k : Key) → IsTrail (check_end m.check r) (content (runner_of m.build) (picture_in files objects)) qs → check_end m.check r qs ≡ Asks k → length qs + 1 < 2000001
   check_soon (Ok b) qs k trail asks = soon (MayAsk b.object) is_circular_verdict (m.check b) (m.check_work b) (laws.checks b) (content (runner_of m.build) (picture_in files objects)) qs k trail asks
   check_soon (Err f) qs k trail asks = absurd (let clash : ◌≡◌ {A = Answer Key Verdict} (Ends _) (Asks k) = asks in cc)
 

@@ -9,7 +9,8 @@ use Rattle.questions.specs.Contents.{Content, Circular}
 use Rattle.questions.specs.Keys.{object_of}
 use Rattle.questions.specs.Laws.{MayAsk, is_circular}
 use Rattle.questions.proofs.Short.{short}
-use Rattle.runner.specs.Ends.{Built, End, is_circular_end}
+use Rattle.runner.specs.Ends.{End, is_circular_end}
+use Rattle.runner.specs.declared.ends.Built.{Built}
 use Rattle.runner.specs.Meaning.{Meaning, IsLawful}
 use Rattle.engine_laws.specs.Names.{Name, equal}
 use Rattle.engine_laws.proofs.Names.{equal-true}
@@ -40,18 +41,18 @@ circular_fault : (b : Bool) → is_circle (fault_grade b) ≡ true → failed_co
 circular_fault true e = refl
 circular_fault false e = absurd (let clash : false ≡ true = e in cc)
 
-circular_seen : {More : Type 0} → (k : Key) (r : End More) → is_circle (grade (keep r)) ≡ true → seen k (keep r) ≡ circular_content k
+circular_seen : {T : Type 0} → (k : Key) (r : End T) → is_circle (grade (keep r)) ≡ true → seen k (keep r) ≡ circular_content k
 circular_seen (File f) r e = refl
 circular_seen (Under p terms) (Ok b) e = absurd (let clash : false ≡ true = e in cc)
 circular_seen (Under p terms) (Err f) e = circular_fault (is_circular f.code) e
 
 -- an end by a circular object
-circle_end : {More : Type 0} → (r : End More) → is_circular_end r ≡ true → is_circle (grade (keep r)) ≡ true
+circle_end : {T : Type 0} → (r : End T) → is_circular_end r ≡ true → is_circle (grade (keep r)) ≡ true
 circle_end (Ok b) e = absurd (let clash : false ≡ true = e in cc)
 circle_end (Err f) e = ap (λ b. is_circle (fault_grade b)) e
 
-module _ {More : Type 0} (m : Meaning More) (laws : IsLawful m) (files : List PictureFile) (objects : List Name) where
-  circle_at : (o : Name) (asked : List (Key × Content)) (k : Key) (p : Name) → m.build o asked ≡ Asks k → target_in objects k ≡ Some p → (s : End More) × (m.build o ((k, circular_content k) ∷ asked) ≡ Ends s) × (is_circle (grade (keep s)) ≡ true)
+module _ {T : Type 0} (m : Meaning T) (laws : IsLawful m) (files : List PictureFile) (objects : List Name) where
+  circle_at : (o : Name) (asked : List (Key × Content)) (k : Key) (p : Name) → m.build o asked ≡ Asks k → target_in objects k ≡ Some p → (s : End T) × (m.build o ((k, circular_content k) ∷ asked) ≡ Ends s) × (is_circle (grade (keep s)) ≡ true)
   circle_at o asked (File f) p a e = absurd (let clash : ◌≡◌ {A = Option Name} None (Some p) = e in cc)
   circle_at o asked (Under q terms) p a e = let r = (laws.builds o).circular asked (Under q terms) Circular a refl in (r.0, r.1, circle_end r.0 r.2)
 
@@ -64,7 +65,7 @@ module _ {More : Type 0} (m : Meaning More) (laws : IsLawful m) (files : List Pi
     among = λ k p e. is_in p objects (target_among objects k p e).0;
   }
 
-circle_kept : {More : Type 0} → (r : End More) → is_circle (grade (keep r)) ≡ true → grade (keep r) ≡ Circle
+circle_kept : {T : Type 0} → (r : End T) → is_circle (grade (keep r)) ≡ true → grade (keep r) ≡ Circle
 circle_kept r e = at (grade (keep r)) e
   where
     at : (g : Grade) → is_circle g ≡ true → g ≡ Circle
@@ -87,7 +88,7 @@ small_circular : (k : Key) (p : Name) → object_of k ≡ Some p → small k 2 �
 small_circular (File f) p e = refl
 small_circular (Under q terms) p e = refl
 
-pub keep_laws_of : {More : Type 0} → (build : Builds More) (files : List PictureFile) (objects : List Name) → KeepLaws (runner_of build) keeping (picture_in files objects)
+pub keep_laws_of : {T : Type 0} → (build : Builds T) (files : List PictureFile) (objects : List Name) → KeepLaws (runner_of build) keeping (picture_in files objects)
 keep_laws_of build files objects = record {
   seen_kept = λ k r. refl;
   circle_kept = circle_kept;

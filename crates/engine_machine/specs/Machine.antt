@@ -13,7 +13,8 @@ use Rattle.questions.specs.Keys.{object_of}
 use Rattle.questions.specs.Contents.{Content, Missing, TooLong, Absent, Failed, Circular}
 use Rattle.questions.specs.Laws.{is_circular}
 use Rattle.questions.specs.Told.{more_than_asked}
-use Rattle.runner.specs.Ends.{Built, End, Verdict}
+use Rattle.runner.specs.Ends.{End, Verdict}
+use Rattle.runner.specs.declared.ends.Built.{Built}
 use Rattle.runner.specs.Words.{value_content}
 use Rattle.runner.specs.Meaning.{Meaning}
 use Rattle.engine_laws.specs.Names.{Name}
@@ -26,7 +27,7 @@ use Rattle.engine_machine.specs.Trees.{same_tree}
 abbrev pub Kept : Type 0
 Kept = Result Plain Fault
 
-abbrev pub keep : {More : Type 0} → End More → Kept
+abbrev pub keep : {T : Type 0} → End T → Kept
 keep (Ok b) = Ok b.tree
 keep (Err f) = Err f
 
@@ -91,13 +92,13 @@ nowhere = record { code = code.Circular; place = record { file = []; line = 0; c
 
 -- a build by name
 abbrev pub Builds : Type 0 → Type 0
-Builds More = Name → List (Key × Content) → Answer Key (End More)
+Builds T = Name → List (Key × Content) → Answer Key (End T)
 
 -- a check of what was built
 abbrev pub Checks : Type 0 → Type 0
-Checks More = Built More → List (Key × Content) → Answer Key Verdict
+Checks T = Built T → List (Key × Content) → Answer Key Verdict
 
-abbrev pub runner_of : {More : Type 0} → Builds More → Runner Key Content (End More)
+abbrev pub runner_of : {T : Type 0} → Builds T → Runner Key Content (End T)
 runner_of build = record {
   build = build;
   seen = λ k r. seen k (keep r);
@@ -107,25 +108,25 @@ runner_of build = record {
   limit = more_than_asked;
 }
 
-abbrev pub keeping : {More : Type 0} → Keeping Key Content (End More) Kept
+abbrev pub keeping : {T : Type 0} → Keeping Key Content (End T) Kept
 keeping = record { keep = keep; seen = seen; grade = grade; same = same_kept; names = object_of; small = small }
 
 -- a fault is not checked
-abbrev pub check_end : {More : Type 0} → Checks More → End More → List (Key × Content) → Answer Key Verdict
+abbrev pub check_end : {T : Type 0} → Checks T → End T → List (Key × Content) → Answer Key Verdict
 check_end check (Ok b) asked = check b asked
 check_end check (Err f) asked = Ends (Some f)
 
-abbrev pub fault_of : {More : Type 0} → End More → Verdict
+abbrev pub fault_of : {T : Type 0} → End T → Verdict
 fault_of (Ok b) = None
 fault_of (Err f) = Some f
 
-abbrev pub judge_of : {More : Type 0} → Checks More → Judge Key Content (End More) Verdict
+abbrev pub judge_of : {T : Type 0} → Checks T → Judge Key Content (End T) Verdict
 judge_of check = record { check = check_end check; none = None; fault = fault_of }
 
-abbrev pub check_work : {More : Type 0} → Meaning More → End More → List (Key × Content) → ℕ
+abbrev pub check_work : {T : Type 0} → Meaning T → End T → List (Key × Content) → ℕ
 check_work m (Ok b) asked = m.check_work b asked
 check_work m (Err f) asked = 0
 
 -- the work of a meaning's runs
-abbrev pub costs_of : {More : Type 0} → Meaning More → Costs Key Content (End More)
+abbrev pub costs_of : {T : Type 0} → Meaning T → Costs Key Content (End T)
 costs_of m = record { build = m.build_work; check = check_work m }

@@ -7,7 +7,7 @@ use Rattle.foreign_values.specs.Chains.{below}
 use Rattle.questions.specs.declared.key.Key.{Key}
 use Rattle.read_sets.specs.Items.{key_of, pairs_of}
 use Rattle.questions.specs.Contents.{Content}
-use Rattle.runner.specs.Ends.{Built, End, Verdict}
+use Rattle.runner.specs.declared.ends.Built.{Built}
 use Rattle.runner.specs.Words.{words}
 use Rattle.engine_laws.specs.Names.{Name}
 use Rattle.asking.specs.Asked.{Answer, Ran, Finished, Stops, ran}
@@ -19,6 +19,7 @@ use Rattle.rebuild.specs.declared.rows.Last.{Last}
 use Rattle.rebuild.specs.declared.rows.Row.{Row}
 use Rattle.rebuild.specs.declared.core_data.Core.{Core}
 use Rattle.engine_machine.specs.Machine.{Kept, runner_of, keeping, judge_of, fault_grade, Builds, Checks}
+use Rattle.runner.specs.Ends.{End, Verdict}
 use Rattle.questions.specs.Laws.{is_circular}
 use Rattle.rebuild.specs.Places.{column, file_number_in}
 use Rattle.rebuild.specs.Told.{seen_in, core_number_of}
@@ -33,18 +34,18 @@ use Rattle.rebuild.proofs.Comparisons.{telling, FoundAs, finds}
 use Rattle.rebuild.proofs.Judges.{here, named, cause_is, alone}
 use Rattle.questions.specs.Told.{more_than_asked}
 
-module _ {X : Type 0} (build : Builds X) (check : Checks X) (c : Core (Built X)) (at : ℕ) (ready : IsReady c) (top : IsCheckTop c at) (r : Row (Built X)) (is : r ≡ get_or c.rows.items at r) (files : List PictureFile) (pic : files ≡ pictured c.files.items) where
+module _ {T : Type 0} (build : Builds T) (check : Checks T) (c : Core T) (at : ℕ) (ready : IsReady c) (top : IsCheckTop c at) (r : Row T) (is : r ≡ get_or c.rows.items at r) (files : List PictureFile) (pic : files ≡ pictured c.files.items) where
   -- the state in which the check part runs
-  abbrev begun : Why Key → EngineState (Built X)
+  abbrev begun : Why Key → EngineState T
   begun y = entered (runner_of build) keeping (judge_of check) (core_picture c) (popped c) (top_name c.chain) y
 
-  abbrev by_held : Why Key → Option (End X) → EngineState (Built X)
+  abbrev by_held : Why Key → Option (End T) → EngineState T
   by_held y = check_held (runner_of build) keeping (judge_of check) (core_picture c) (begun y) (top_name c.chain)
 
-  abbrev by_end : Why Key → Ran Key Verdict → EngineState (Built X)
+  abbrev by_end : Why Key → Ran Key Verdict → EngineState T
   by_end y = after_check (runner_of build) keeping (judge_of check) (core_picture c) (begun y) (top_name c.chain)
 
-  abbrev by_rerun : Why Key → Ran Key (End X) → EngineState (Built X)
+  abbrev by_rerun : Why Key → Ran Key (End T) → EngineState T
   by_rerun y = after_rerun (runner_of build) keeping (judge_of check) (core_picture c) (begun y) (top_name c.chain)
 
   abbrev knows : {X : Type 0} → (List (Key × Content) → Answer Key X) → Ran Key X
@@ -57,18 +58,18 @@ module _ {X : Type 0} (build : Builds X) (check : Checks X) (c : Core (Built X))
   none_held e = held_here ∙ ap (option_map held_end) e
 
   -- a held value is checked
-  pub held_ends : (b : Built X) → r.held ≡ Some b → (x : Ran Key Verdict) → knows (check b) ≡ x → (y : Why Key) → ended_turn c y x ≡ run_check_state build check c y
+  pub held_ends : (b : Built T) → r.held ≡ Some b → (x : Ran Key Verdict) → knows (check b) ≡ x → (y : Why Key) → ended_turn c y x ≡ run_check_state build check c y
   held_ends b e x run y =
       sym (ap (by_held y) (held_here ∙ ap (option_map held_end) e)
       ∙ ap (by_end y) (ran_known build c ready (check b) files pic x run))
 
   -- a value that is built anew is checked
-  rerun_is : column held_of None c.rows.items (top_name c.chain) ≡ None → (x : Ran Key (End X)) → knows (build r.name) ≡ x → (y : Why Key) → run_check_state build check c y ≡ by_rerun y x
+  rerun_is : column held_of None c.rows.items (top_name c.chain) ≡ None → (x : Ran Key (End T)) → knows (build r.name) ≡ x → (y : Why Key) → run_check_state build check c y ≡ by_rerun y x
   rerun_is none x run y =
       ap (by_held y) none
       ∙ ap (by_rerun y) (ap (λ n. ran (build n) (tells (runner_of build) keeping (core_picture c) (core_state c)) more_than_asked []) (sym (named c at ready top r is)) ∙ ran_known build c ready (build r.name) files pic x run)
 
-  pub rerun_ends : column held_of None c.rows.items (top_name c.chain) ≡ None → (items : List (Key × ℕ)) (b : Built X) → knows (build r.name) ≡ Finished items (Ok b) → (x : Ran Key Verdict) → knows (check b) ≡ x → (y : Why Key) → ended_turn c y x ≡ run_check_state build check c y
+  pub rerun_ends : column held_of None c.rows.items (top_name c.chain) ≡ None → (items : List (Key × ℕ)) (b : Built T) → knows (build r.name) ≡ Finished items (Ok b) → (x : Ran Key Verdict) → knows (check b) ≡ x → (y : Why Key) → ended_turn c y x ≡ run_check_state build check c y
   rerun_ends none items b run x checks y =
       sym (rerun_is none (Finished items (Ok b)) run y
       ∙ ap (by_end y) (ran_known build c ready (check b) files pic x checks))
@@ -83,10 +84,10 @@ module _ {X : Type 0} (build : Builds X) (check : Checks X) (c : Core (Built X))
   pub rerun_stops : column held_of None c.rows.items (top_name c.chain) ≡ None → (q : Name) → knows (build r.name) ≡ Stops q → (y : Why Key) → judged_run_turn c y [] None ≡ run_check_state build check c y
   rerun_stops none q run y = sym (rerun_is none (Stops q) run y)
 
-  abbrev by_record : Option (List (Key × ℕ) × Verdict) → EngineState (Built X)
+  abbrev by_record : Option (List (Key × ℕ) × Verdict) → EngineState T
   by_record = with_check (runner_of build) keeping (judge_of check) (core_picture c) (popped c) (top_name c.chain)
 
-  abbrev by_compared : Compared Key → EngineState (Built X)
+  abbrev by_compared : Compared Key → EngineState T
   by_compared = after_check_compare (runner_of build) keeping (judge_of check) (core_picture c) (popped c) (top_name c.chain)
 
   by_row : (b : Option CheckRecord) → r.check ≡ b → by_record (option_map check_pair b) ≡ with_check_state build check c
@@ -114,7 +115,7 @@ module _ {X : Type 0} (build : Builds X) (check : Checks X) (c : Core (Built X))
   pub follows : (f : Found) → f ≡ found_of (core_number_of c) (option_map check_reads r.check) → Follows f
   follows f e = subst Follows (sym e) (follows_at r.check refl)
 
-  abbrev by_last : Option (ℕ × Kept) → EngineState (Built X)
+  abbrev by_last : Option (ℕ × Kept) → EngineState T
   by_last = check_last (runner_of build) keeping (judge_of check) (core_picture c) (popped c) (top_name c.chain)
 
   -- what follows the kind of the last result
@@ -142,5 +143,5 @@ module _ {X : Type 0} (build : Builds X) (check : Checks X) (c : Core (Built X))
   follows_kind k e = subst FollowsKind (sym e) (kind_at r.last refl)
 
 -- a check part leaves the chain
-pub popped_is : {X : Type 0} → (c : Core (Built X)) (at : ℕ) → IsReady c → IsCheckTop c at → state_of c.counter c.files.items c.rows.items (below c.chain) ≡ popped c
+pub popped_is : {T : Type 0} → (c : Core T) (at : ℕ) → IsReady c → IsCheckTop c at → state_of c.counter c.files.items c.rows.items (below c.chain) ≡ popped c
 popped_is c at ready top i = record (core_state c) { chain = (alone c.chain top.top ready.chain).0 i; checking = (alone c.chain top.top ready.chain).1 i }

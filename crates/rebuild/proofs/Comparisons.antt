@@ -22,7 +22,7 @@ use Rattle.rebuild.specs.declared.core_data.Core.{Core}
 use Rattle.rebuild.specs.declared.comparing.Found.{Found}
 use Rattle.rebuild.specs.declared.comparing.Found.TheVariants as found
 use Rattle.engine_machine.specs.Machine.{runner_of, keeping, Builds}
-use Rattle.runner.specs.Ends.{End, Built}
+use Rattle.runner.specs.Ends.{End}
 use Rattle.rebuild.specs.Places.{names, file_number_in}
 use Rattle.rebuild.specs.Told.{seen_in, core_number_of}
 use Rattle.rebuild.specs.Compared.{waits_for, found_at, found_in, found_of}
@@ -72,7 +72,7 @@ agrees {C} num t tie j (x ∷ xs) = at_word (t x.key) refl (agrees num t tie (su
         let now : P (Tells n c) (Some n) = at_test n (nat_eq x.number n) h in
         subst (λ n. P (t x.key) n) (sym (tie x.key)) (subst (λ w. P w (told_number w)) (sym is) now)
 
-module _ {X : Type 0} (build : Builds X) (c : Core (Built X)) (ready : IsReady c) where
+module _ {T : Type 0} (build : Builds T) (c : Core T) (ready : IsReady c) where
   abbrev pub telling : Key → Word Content
   telling = tells (runner_of build) keeping (core_picture c) (core_state c)
 
@@ -161,12 +161,12 @@ unread_why cause.NotRun = refl
 unread_why cause.NoRecord = refl
 unread_why (cause.Changed k) = refl
 
-module _ {X : Type 0} (build : Builds X) (c : Core (Built X)) (at : ℕ) (ready : IsReady c) (top : IsBuildTop c at) (r : Row (Built X)) (is : r ≡ get_or c.rows.items at r) where
+module _ {T : Type 0} (build : Builds T) (c : Core T) (at : ℕ) (ready : IsReady c) (top : IsBuildTop c at) (r : Row T) (is : r ≡ get_or c.rows.items at r) where
   -- the turn, by the record of the row
-  abbrev by_record : Option (List (Key × ℕ)) → EngineState (Built X)
+  abbrev by_record : Option (List (Key × ℕ)) → EngineState T
   by_record = with_record (runner_of build) keeping (core_picture c) (core_state c) (top_name c.chain) (chain_of (below c.chain))
 
-  abbrev by_compared : Compared Key → EngineState (Built X)
+  abbrev by_compared : Compared Key → EngineState T
   by_compared = after_compare (runner_of build) keeping (core_picture c) (core_state c) (top_name c.chain) (chain_of (below c.chain))
 
   by_row : (b : Option (List Item)) → r.build ≡ b → by_record (option_map pairs_of b) ≡ build_turn build c

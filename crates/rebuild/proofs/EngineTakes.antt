@@ -4,7 +4,6 @@ use Rattle.std.proofs.Math.Logic.{∥∥₁_map}
 use Rattle.outside.specs.declared.picture.PictureFile.{PictureFile}
 use Rattle.pan_ast.specs.declared.work.Limits.{Limits}
 use Rattle.questions.specs.declared.key.Key.TheVariants.{File}
-use Rattle.runner.specs.Ends.{Built}
 use Rattle.runner.specs.Meaning.{IsLawful}
 use Rattle.engine_laws.specs.Names.{Name}
 use Rattle.engine_laws.specs.Engine.{Take, AreNumbered}
@@ -30,11 +29,11 @@ pub pictured_numbered : (old : List FileRow) (counter : ℕ) (files : List Pictu
 pictured_numbered old counter [] = refl
 pictured_numbered old counter (f ∷ fs) = ap (λ gs. f ∷ gs) (pictured_numbered old (counter_or counter (old_or_none old f.name f.content)) fs)
 
-module _ {X : Type 0} (m : Meanings X) (lawful : (dirs : List (List ℕ)) (limits : Limits) → IsLawful (m dirs limits)) where
-  take_situation : (files : List PictureFile) (objects : List Name) (c n : Core (Built X)) → IsTaken files objects c n → situation_of n ≡ after_take m (value_of c) files objects
+module _ {T : Type 0} (m : Meanings T) (lawful : (dirs : List (List ℕ)) (limits : Limits) → IsLawful (m dirs limits)) where
+  take_situation : (files : List PictureFile) (objects : List Name) (c n : Core T) → IsTaken files objects c n → situation_of n ≡ after_take m (value_of c) files objects
   take_situation files objects c n t i = record { picture = (ap (λ f. picture_of f (names n.rows.items)) t.files_are ∙ ap (λ os. picture_of (numbered c.files.items c.counter files) os) t.objects_are ∙ ap (λ f. picture_in f objects) (pictured_numbered c.files.items c.counter files)) i; state = t.state i }
 
-  engine_taken : (files : List PictureFile) (objects : List Name) (c n : Core (Built X)) → IsReady c → IsTaken files objects c n → IsEngine m (value_of c) → IsEngine m (value_of n)
+  engine_taken : (files : List PictureFile) (objects : List Name) (c n : Core T) → IsReady c → IsTaken files objects c n → IsEngine m (value_of c) → IsEngine m (value_of n)
   engine_taken files objects c n ready t e =
       let run = runner_of (m c.dirs c.limits).build in
       let jd = judge_of (m c.dirs c.limits).check in
@@ -43,16 +42,16 @@ module _ {X : Type 0} (m : Meanings X) (lawful : (dirs : List (List ℕ)) (limit
       let numbers = subst (λ f. AreNumbered keeping (core_picture c) (picture_in f objects) (number_in c.files.items) (number_in (numbered c.files.items c.counter files)) c.counter (counter_after c.files.items c.counter files)) (pictured_numbered c.files.items c.counter files) given in
       let laws = laws_of (m c.dirs c.limits) (lawful c.dirs c.limits) files objects in
       let next = leads_on run keeping jd (situation_of c) e (take_of c.files.items c.counter files objects) (laws, keep_laws_of (m c.dirs c.limits).build files objects, numbers) in
-      let P : Limits → List (List ℕ) → EngineSituation X → Type 0 = λ l d x. IsReached (runner_of (m d l).build) keeping (judge_of (m d l).check) x in
+      let P : Limits → List (List ℕ) → EngineSituation T → Type 0 = λ l d x. IsReached (runner_of (m d l).build) keeping (judge_of (m d l).check) x in
       subst (λ l. P l n.dirs (situation_of n)) (sym t.limits) (subst (λ d. P c.limits d (situation_of n)) (sym t.dirs) (subst (P c.limits c.dirs) (sym (take_situation files objects c n t)) next))
 
-  pub record AfterTake (files : List PictureFile) (objects : List Name) (c n : Core (Built X)) {A : Type 0} (r : Result A TakeError) : Type 0 where
+  pub record AfterTake (files : List PictureFile) (objects : List Name) (c n : Core T) {A : Type 0} (r : Result A TakeError) : Type 0 where
     pub ready : is_ready n ≡ true
     pub reached : ∥ IsEngine m (value_of n) ∥₁
     pub state : OnOk r (situation_of n ≡ after_take m (value_of c) files objects)
     pub before : OnErr r (value_of n ≡ value_of c)
 
-  pub take_facts : {A : Type 0} (files : List PictureFile) (objects : List Name) (c n : Core (Built X)) (r : Result A TakeError) → OnOk r (IsTaken files objects c n) → OnErr r (n ≡ c) → is_ready c ≡ true → ∥ IsEngine m (value_of c) ∥₁ → AfterTake files objects c n r
+  pub take_facts : {A : Type 0} (files : List PictureFile) (objects : List Name) (c n : Core T) (r : Result A TakeError) → OnOk r (IsTaken files objects c n) → OnErr r (n ≡ c) → is_ready c ≡ true → ∥ IsEngine m (value_of c) ∥₁ → AfterTake files objects c n r
   take_facts files objects c n (Ok a) t before ready kept = record {
     ready = is_ready_of n t.ready;
     reached = ∥∥₁_map kept (λ e. engine_taken files objects c n (ready_is c ready) t e);

@@ -3,7 +3,6 @@ use Rattle.std.proofs.Common.{◌≡◌, ℕ, List, true, Result, Ok, Err, OnOk,
 use Rattle.std.proofs.Math.Logic.{∥∥₁_map}
 use Rattle.std.proofs.lemmas.Bool.{le-leb, leb-true}
 use Rattle.pan_ast.specs.declared.work.Limits.{Limits}
-use Rattle.runner.specs.Ends.{Built}
 use Rattle.engine_laws.specs.Engine.{Turn}
 use Rattle.engine_laws.specs.Reached.{IsReached}
 use Rattle.engine_laws.proofs.Reached.{leads_on, reached_scratch}
@@ -19,7 +18,7 @@ use Rattle.rebuild.specs.Turning.{turned}
 use Rattle.rebuild.specs.Engines.{EngineSituation, Meanings, situation_of, value_of, is_ready, IsEngine, after_turn, IsTrue}
 use Rattle.rebuild.proofs.Readies.{both_true}
 
-pub ready_is : {B : Type 0} → (c : Core B) → is_ready c ≡ true → IsReady c
+pub ready_is : {T : Type 0} → (c : Core T) → is_ready c ≡ true → IsReady c
 ready_is c e =
     let a = both (nat_le 3 c.counter) _ e in
     let b = both (are_once (names c.rows.items)) _ a.1 in
@@ -27,32 +26,32 @@ ready_is c e =
     let f = both (is_chain c.chain) _ d.1 in
     record { three = leb-true 3 c.counter a.0; once = b.0; graded = d.0; chain = f.0; known = f.1 }
 
-pub is_ready_of : {B : Type 0} → (c : Core B) → IsReady c → is_ready c ≡ true
+pub is_ready_of : {T : Type 0} → (c : Core T) → IsReady c → is_ready c ≡ true
 is_ready_of c r =
     both_true (nat_le 3 c.counter) _ (le-leb 3 c.counter r.three)
     (both_true (are_once (names c.rows.items)) _ r.once (both_true (are_graded c.rows.items) _ r.graded (both_true (is_chain c.chain) _ r.chain r.known)))
 
-module _ {X : Type 0} (m : Meanings X) where
-  pub turn_situation : (c n : Core (Built X)) (dirs : List (List ℕ)) → dirs ≡ c.dirs → core_state n ≡ turned (m dirs c.limits).build (m dirs c.limits).check c → StaysReady c n → situation_of n ≡ after_turn m (value_of c)
+module _ {T : Type 0} (m : Meanings T) where
+  pub turn_situation : (c n : Core T) (dirs : List (List ℕ)) → dirs ≡ c.dirs → core_state n ≡ turned (m dirs c.limits).build (m dirs c.limits).check c → StaysReady c n → situation_of n ≡ after_turn m (value_of c)
   turn_situation c n dirs same state stays i = record {
     picture = picture_of (stays.files i) (stays.objects i);
     state = (state ∙ ap (λ d. turned (m d c.limits).build (m d c.limits).check c) same) i;
   }
 
-  engine_after : (c n : Core (Built X)) → StaysReady c n → situation_of n ≡ after_turn m (value_of c) → IsEngine m (value_of c) → IsEngine m (value_of n)
+  engine_after : (c n : Core T) → StaysReady c n → situation_of n ≡ after_turn m (value_of c) → IsEngine m (value_of c) → IsEngine m (value_of n)
   engine_after c n stays is e =
       let next = leads_on (runner_of (m c.dirs c.limits).build) keeping (judge_of (m c.dirs c.limits).check) (situation_of c) e Turn tt in
-      let P : Limits → List (List ℕ) → EngineSituation X → Type 0 = λ l d x. IsReached (runner_of (m d l).build) keeping (judge_of (m d l).check) x in
+      let P : Limits → List (List ℕ) → EngineSituation T → Type 0 = λ l d x. IsReached (runner_of (m d l).build) keeping (judge_of (m d l).check) x in
       subst (λ l. P l n.dirs (situation_of n)) (sym stays.limits) (subst (λ d. P c.limits d (situation_of n)) (sym stays.dirs) (subst (P c.limits c.dirs) (sym is) next))
 
   -- what holds of the engine after the turn, refused or not
-  pub record AfterTurn (c n : Core (Built X)) (r : Result Turned TurnError) : Type 0 where
+  pub record AfterTurn (c n : Core T) (r : Result Turned TurnError) : Type 0 where
     pub ready : is_ready n ≡ true
     pub reached : ∥ IsEngine m (value_of n) ∥₁
     pub state : OnOk r (situation_of n ≡ after_turn m (value_of c))
     pub before : OnErr r (value_of n ≡ value_of c)
 
-  pub turn_facts : (c n : Core (Built X)) (dirs : List (List ℕ)) → dirs ≡ c.dirs → (r : Result Turned TurnError) → OnOk r (core_state n ≡ turned (m dirs c.limits).build (m dirs c.limits).check c) → OnOk r (StaysReady c n) → OnErr r (n ≡ c) → is_ready c ≡ true → ∥ IsEngine m (value_of c) ∥₁ → AfterTurn c n r
+  pub turn_facts : (c n : Core T) (dirs : List (List ℕ)) → dirs ≡ c.dirs → (r : Result Turned TurnError) → OnOk r (core_state n ≡ turned (m dirs c.limits).build (m dirs c.limits).check c) → OnOk r (StaysReady c n) → OnErr r (n ≡ c) → is_ready c ≡ true → ∥ IsEngine m (value_of c) ∥₁ → AfterTurn c n r
   turn_facts c n dirs same (Ok t) state stays before ready kept =
       let is = turn_situation c n dirs same state stays in
       record {

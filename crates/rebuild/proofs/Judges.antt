@@ -9,7 +9,7 @@ use Rattle.engine_laws.specs.Engine.{NotRun, NoRecord, put, why_checked}
 use Rattle.rebuild.specs.declared.rows.Cause.{Cause}
 use Rattle.rebuild.specs.declared.rows.Row.{Row}
 use Rattle.rebuild.specs.declared.core_data.Core.{Core}
-use Rattle.runner.specs.Ends.{Verdict, Built}
+use Rattle.runner.specs.Ends.{Verdict}
 use Rattle.rebuild.specs.Places.{of_row, column}
 use Rattle.rebuild.specs.Changes.{judged_row, judged_kept_row, entered_row, entered_cause, check_cause}
 use Rattle.rebuild.specs.States.{number_in, last_of, reads_of, checked_of, why_by, why_of, held_of, chain_of, checking_of, state_of}
@@ -28,20 +28,20 @@ entered_why : (run : Bool) (old new : Cause) → why_by (entered_cause run old n
 entered_why true old new = refl
 entered_why false old new = refl
 
-module _ {X : Type 0} (c : Core (Built X)) (at : ℕ) (ready : IsReady c) (top : IsCheckTop c at) (r : Row (Built X)) (is : r ≡ get_or c.rows.items at r) where
+module _ {T : Type 0} (c : Core T) (at : ℕ) (ready : IsReady c) (top : IsCheckTop c at) (r : Row T) (is : r ≡ get_or c.rows.items at r) where
   a : IsAt (top_name c.chain) c.rows.items at
   a = placed (top_name c.chain) c.rows.items at top.place
 
   pub named : r.name ≡ top_name c.chain
   named = ap (λ z. z.name) is ∙ row_named (top_name c.chain) c.rows.items (get_or c.rows.items at r) (a.here r)
 
-  pub here : {A : Type 0} (get : Row (Built X) → A) (d : A) → column get d c.rows.items (top_name c.chain) ≡ get r
+  pub here : {A : Type 0} (get : Row T → A) (d : A) → column get d c.rows.items (top_name c.chain) ≡ get r
   here get d = column_at get d (top_name c.chain) c.rows.items at a r ∙ ap get (sym is)
 
-  new : {A : Type 0} (get : Row (Built X) → A) (d : A) (r' : Row (Built X)) → r'.name ≡ r.name → (v : A) → get r' ≡ v → column get d (slice_set c.rows.items at r') ≡ put (column get d c.rows.items) (top_name c.chain) v
+  new : {A : Type 0} (get : Row T → A) (d : A) (r' : Row T) → r'.name ≡ r.name → (v : A) → get r' ≡ v → column get d (slice_set c.rows.items at r') ≡ put (column get d c.rows.items) (top_name c.chain) v
   new get d r' same v e = changed get d (top_name c.chain) c.rows.items at a r' (same ∙ named) v e
 
-  old : {A : Type 0} (get : Row (Built X) → A) (d : A) (r' : Row (Built X)) → r'.name ≡ r.name → get r' ≡ get r → column get d (slice_set c.rows.items at r') ≡ column get d c.rows.items
+  old : {A : Type 0} (get : Row T → A) (d : A) (r' : Row T) → r'.name ≡ r.name → get r' ≡ get r → column get d (slice_set c.rows.items at r') ≡ column get d c.rows.items
   old get d r' same e = kept get d (top_name c.chain) c.rows.items at a r' r (same ∙ named) (e ∙ ap get is)
 
   pub cause_is : (differs : Option ℕ) → why_by (check_cause differs r.check) ≡ top_check_cause differs c
@@ -95,7 +95,7 @@ module _ {X : Type 0} (c : Core (Built X)) (at : ℕ) (ready : IsReady c) (top :
     why = new why_of NotRun r' refl (why_checked (column (λ z. z.run) false c.rows.items (top_name c.chain)) (column why_of NotRun c.rows.items (top_name c.chain)) (top_check_cause differs c)) why i;
   }
     where
-      r' : Row (Built X)
+      r' : Row T
       r' = judged_row items f (entered_row (check_cause differs r.check) r)
 
       why : why_by (entered_cause r.run r.cause (check_cause differs r.check)) ≡ why_checked (column (λ z. z.run) false c.rows.items (top_name c.chain)) (column why_of NotRun c.rows.items (top_name c.chain)) (top_check_cause differs c)

@@ -5,7 +5,7 @@ use Rattle.foreign_values.specs.declared.Part.TheVariants as part
 use Rattle.foreign_values.specs.Chains.{top_of}
 use Rattle.questions.specs.declared.key.Key.{Key}
 use Rattle.questions.specs.Contents.{Content}
-use Rattle.runner.specs.Ends.{Built, End, Verdict}
+use Rattle.runner.specs.declared.ends.Built.{Built}
 use Rattle.engine_laws.specs.Names.{Name, equal}
 use Rattle.engine_laws.proofs.Names.{equal-true, equal-is}
 use Rattle.asking.specs.Asked.{Answer}
@@ -13,6 +13,7 @@ use Rattle.engine_laws.specs.Engine.{least, is_among, open_turn, check_opened}
 use Rattle.rebuild.specs.declared.rows.Row.{Row}
 use Rattle.rebuild.specs.declared.core_data.Core.{Core}
 use Rattle.engine_machine.specs.Machine.{runner_of, keeping, Builds, Checks}
+use Rattle.runner.specs.Ends.{End, Verdict}
 use Rattle.rebuild.specs.Places.{row_place, row_in, of_row, column, name_of, names}
 use Rattle.rebuild.specs.States.{EngineState}
 use Rattle.rebuild.specs.Ready.{core_state, core_picture, top_name, is_build_top, is_check_top, are_known, are_once, IsReady, IsBuildTop, IsCheckTop}
@@ -36,7 +37,7 @@ not_true true e = absurd (let clash : false ≡ true = e in cc)
 not_true false e = refl
 
 -- the least object with an unsettled part is the first row's
-first_least : {X : Type 0} → (test : Row (Built X) → Bool) (d : Bool) (rows : List (Row (Built X))) → are_once (names rows) ≡ true → least (column test d rows) (names rows) ≡ option_map name_of (first_row test rows)
+first_least : {T : Type 0} → (test : Row T → Bool) (d : Bool) (rows : List (Row T)) → are_once (names rows) ≡ true → least (column test d rows) (names rows) ≡ option_map name_of (first_row test rows)
 first_least test d [] once = refl
 first_least test d (r ∷ rows) once =
     ap (λ x. cond (of_row test d x) (Some r.name) (least (column test d (r ∷ rows)) (names rows))) (ap (λ b. cond b (Some r) (row_in r.name rows)) (equal-is r.name r.name refl))
@@ -57,30 +58,30 @@ first_least test d (r ∷ rows) once =
     joined true = refl
     joined false = refl
 
-module _ {X : Type 0} (c : Core (Built X)) (ready : IsReady c) where
-  abbrev by_build : Option Name → EngineState (Built X)
+module _ {T : Type 0} (c : Core T) (ready : IsReady c) where
+  abbrev by_build : Option Name → EngineState T
   by_build = open_turn (runner_of no_build) keeping no_judge (core_picture c) (core_state c)
 
-  abbrev by_check : Option Name → EngineState (Built X)
+  abbrev by_check : Option Name → EngineState T
   by_check = check_opened (runner_of no_build) keeping no_judge (core_picture c) (core_state c)
 
-  build_is : (x : Option (Row (Built X))) → first_open_build c.rows.items ≡ x → by_build (option_map name_of x) ≡ open_state c
+  build_is : (x : Option (Row T)) → first_open_build c.rows.items ≡ x → by_build (option_map name_of x) ≡ open_state c
   build_is x e = ap by_build (ap (option_map name_of) (sym e) ∙ sym (first_least (λ r. r.open_build) true c.rows.items ready.once))
 
-  check_is : first_open_build c.rows.items ≡ None → (x : Option (Row (Built X))) → first_open_check c.rows.items ≡ x → by_check (option_map name_of x) ≡ open_state c
+  check_is : first_open_build c.rows.items ≡ None → (x : Option (Row T)) → first_open_check c.rows.items ≡ x → by_check (option_map name_of x) ≡ open_state c
   check_is none x e = ap by_check (ap (option_map name_of) (sym e) ∙ sym (first_least (λ r. r.open_check) true c.rows.items ready.once)) ∙ build_is None none
 
-  pub opens_build : (r : Row (Built X)) → first_open_build c.rows.items ≡ Some r → pushed_turn c r.name ≡ open_state c
+  pub opens_build : (r : Row T) → first_open_build c.rows.items ≡ Some r → pushed_turn c r.name ≡ open_state c
   opens_build r e = build_is (Some r) e
 
-  pub opens_check : first_open_build c.rows.items ≡ None → (r : Row (Built X)) → first_open_check c.rows.items ≡ Some r → record (core_state c) { checking = Some r.name } ≡ open_state c
+  pub opens_check : first_open_build c.rows.items ≡ None → (r : Row T) → first_open_check c.rows.items ≡ Some r → record (core_state c) { checking = Some r.name } ≡ open_state c
   opens_check none r e = check_is none (Some r) e
 
   pub idles : first_open_build c.rows.items ≡ None → first_open_check c.rows.items ≡ None → core_state c ≡ open_state c
   idles none nothing = check_is none None nothing
 
 -- a part on the chain is one of an object
-pub placed_build : {X : Type 0} → (rows : List (Row (Built X))) (parts : List Part) (p : Name) → are_known (names rows) parts ≡ true → top_of parts ≡ Some (part.Build p) → row_place p 0 rows ≡ None → ⊥
+pub placed_build : {T : Type 0} → (rows : List (Row T)) (parts : List Part) (p : Name) → are_known (names rows) parts ≡ true → top_of parts ≡ Some (part.Build p) → row_place p 0 rows ≡ None → ⊥
 placed_build rows [] p known top none = let clash : ◌≡◌ {A = Option Part} None (Some (part.Build p)) = top in cc
 placed_build rows (part.Build q ∷ ps) p known top none =
     let same : q ≡ p = cc in
@@ -89,7 +90,7 @@ placed_build rows (part.Build q ∷ ps) p known top none =
     let clash : true ≡ false = sym in_rows ∙ ap (λ n. is_among n (names rows)) same ∙ out in cc
 placed_build rows (part.Check q ∷ ps) p known top none = let clash : ◌≡◌ {A = Option Part} (Some (part.Check q)) (Some (part.Build p)) = top in cc
 
-pub placed_check : {X : Type 0} → (rows : List (Row (Built X))) (parts : List Part) (p : Name) → are_known (names rows) parts ≡ true → top_of parts ≡ Some (part.Check p) → row_place p 0 rows ≡ None → ⊥
+pub placed_check : {T : Type 0} → (rows : List (Row T)) (parts : List Part) (p : Name) → are_known (names rows) parts ≡ true → top_of parts ≡ Some (part.Check p) → row_place p 0 rows ≡ None → ⊥
 placed_check rows [] p known top none = let clash : ◌≡◌ {A = Option Part} None (Some (part.Check p)) = top in cc
 placed_check rows (part.Check q ∷ ps) p known top none =
     let same : q ≡ p = cc in
@@ -112,7 +113,7 @@ check_on_top [] p e = absurd (let clash : ◌≡◌ {A = Option Part} None (Some
 check_on_top (part.Check q ∷ ps) p e = let same : q ≡ p = cc in (refl, same)
 check_on_top (part.Build q ∷ ps) p e = absurd (let clash : ◌≡◌ {A = Option Part} (Some (part.Build q)) (Some (part.Check p)) = e in cc)
 
-module _ {X : Type 0} (build : Builds X) (check : Checks X) (c : Core (Built X)) where
+module _ {T : Type 0} (build : Builds T) (check : Checks T) (c : Core T) where
   pub turn_opens : c.chain ≡ [] → open_state c ≡ turned build check c
   turn_opens e = let P : List Part → Type 0 = λ parts. open_state (record c { chain = parts }) ≡ turned build check (record c { chain = parts }) in let here : P [] = refl in subst P (sym e) here
 
@@ -132,18 +133,18 @@ module _ {X : Type 0} (build : Builds X) (check : Checks X) (c : Core (Built X))
       at (part.Check p ∷ ps) e = refl
       at (part.Build p ∷ ps) e = absurd (let clash : false ≡ true = e in cc)
 
-pub build_top_at : {X : Type 0} → (c : Core (Built X)) (p : Name) (i : ℕ) → top_of c.chain ≡ Some (part.Build p) → row_place p 0 c.rows.items ≡ Some i → IsBuildTop c i
+pub build_top_at : {T : Type 0} → (c : Core T) (p : Name) (i : ℕ) → top_of c.chain ≡ Some (part.Build p) → row_place p 0 c.rows.items ≡ Some i → IsBuildTop c i
 build_top_at c p i top place =
     let b = build_on_top c.chain p top in
     record { top = b.0; place = ap (λ n. row_place n 0 c.rows.items) b.1 ∙ place; within = (placed p c.rows.items i place).within }
 
-pub check_top_at : {X : Type 0} → (c : Core (Built X)) (p : Name) (i : ℕ) → top_of c.chain ≡ Some (part.Check p) → row_place p 0 c.rows.items ≡ Some i → IsCheckTop c i
+pub check_top_at : {T : Type 0} → (c : Core T) (p : Name) (i : ℕ) → top_of c.chain ≡ Some (part.Check p) → row_place p 0 c.rows.items ≡ Some i → IsCheckTop c i
 check_top_at c p i top place =
     let b = check_on_top c.chain p top in
     record { top = b.0; place = ap (λ n. row_place n 0 c.rows.items) b.1 ∙ place; within = (placed p c.rows.items i place).within }
 
-pub first_known : {X : Type 0} → (test : Row (Built X) → Bool) (rows : List (Row (Built X))) (r : Row (Built X)) → first_row test rows ≡ Some r → is_among r.name (names rows) ≡ true
-first_known test [] r e = absurd (let clash : ◌≡◌ {A = Option (Row (Built X))} None (Some r) = e in cc)
+pub first_known : {T : Type 0} → (test : Row T → Bool) (rows : List (Row T)) (r : Row T) → first_row test rows ≡ Some r → is_among r.name (names rows) ≡ true
+first_known test [] r e = absurd (let clash : ◌≡◌ {A = Option (Row T)} None (Some r) = e in cc)
 first_known test (x ∷ rows) r e = at (first_known test rows r) (test x) e
   where
     later : (b : Bool) → is_among r.name (names rows) ≡ true → b || is_among r.name (names rows) ≡ true

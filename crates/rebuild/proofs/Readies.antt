@@ -18,7 +18,7 @@ use Rattle.rebuild.specs.declared.rows.Last.{Last}
 use Rattle.engine_machine.specs.Machine.{Kept, same_kept, code_grade}
 use Rattle.engine_machine.proofs.Truths.{both}
 
-pub names_set : {B : Type 0} → (rows : List (Row B)) (i : ℕ) (r e : Row B) → i < length rows → r.name ≡ (get_or rows i e).name → names (slice_set rows i r) ≡ names rows
+pub names_set : {T : Type 0} → (rows : List (Row T)) (i : ℕ) (r e : Row T) → i < length rows → r.name ≡ (get_or rows i e).name → names (slice_set rows i r) ≡ names rows
 names_set [] i r e lt same = refl
 names_set (x ∷ rows) zero r e lt same = ap (λ n. n ∷ names rows) same
 names_set (x ∷ rows) (suc i) r e lt same = ap (λ ns. x.name ∷ ns) (names_set rows i r e (omega (arith, lt)) same)
@@ -27,12 +27,12 @@ pub both_true : (a b : Bool) → a ≡ true → b ≡ true → a && b ≡ true
 both_true true b e f = f
 both_true false b e f = e
 
-pub graded_set : {B : Type 0} → (rows : List (Row B)) (i : ℕ) (r : Row B) → is_graded r.last ≡ true → are_graded rows ≡ true → are_graded (slice_set rows i r) ≡ true
+pub graded_set : {T : Type 0} → (rows : List (Row T)) (i : ℕ) (r : Row T) → is_graded r.last ≡ true → are_graded rows ≡ true → are_graded (slice_set rows i r) ≡ true
 graded_set [] i r g all = refl
 graded_set (x ∷ rows) zero r g all = both_true (is_graded r.last) (are_graded rows) g (both (is_graded x.last) (are_graded rows) all).1
 graded_set (x ∷ rows) (suc i) r g all = let b = both (is_graded x.last) (are_graded rows) all in both_true (is_graded x.last) (are_graded (slice_set rows i r)) b.0 (graded_set rows i r g b.1)
 
-pub graded_at : {B : Type 0} → (rows : List (Row B)) (i : ℕ) (e : Row B) → i < length rows → are_graded rows ≡ true → is_graded (get_or rows i e).last ≡ true
+pub graded_at : {T : Type 0} → (rows : List (Row T)) (i : ℕ) (e : Row T) → i < length rows → are_graded rows ≡ true → is_graded (get_or rows i e).last ≡ true
 graded_at [] i e lt all = absurd (omega (arith, lt))
 graded_at (x ∷ rows) zero e lt all = (both (is_graded x.last) (are_graded rows) all).0
 graded_at (x ∷ rows) (suc i) e lt all = graded_at rows i e (omega (arith, lt)) (both (is_graded x.last) (are_graded rows) all).1
@@ -74,7 +74,7 @@ up m n le = at (nat_eq m n)
     at false = le
 
 -- the top's row is changed, and the top leaves
-pub ready_left : {B : Type 0} → (c : Core B) (at : ℕ) (r e : Row B) → IsReady c → at < length c.rows.items → r.name ≡ (get_or c.rows.items at e).name → is_graded r.last ≡ true → (mid new : Core B) → mid.counter ≡ c.counter → mid.limits ≡ c.limits → mid.dirs ≡ c.dirs → mid.files.items ≡ c.files.items → mid.rows.items ≡ slice_set c.rows.items at r → mid.chain ≡ c.chain → new ≡ record mid { chain = below mid.chain } → StaysReady c new
+pub ready_left : {T : Type 0} → (c : Core T) (at : ℕ) (r e : Row T) → IsReady c → at < length c.rows.items → r.name ≡ (get_or c.rows.items at e).name → is_graded r.last ≡ true → (mid new : Core T) → mid.counter ≡ c.counter → mid.limits ≡ c.limits → mid.dirs ≡ c.dirs → mid.files.items ≡ c.files.items → mid.rows.items ≡ slice_set c.rows.items at r → mid.chain ≡ c.chain → new ≡ record mid { chain = below mid.chain } → StaysReady c new
 ready_left c at r e ready lt same g mid new counter limits dirs files rows chain is =
     subst (StaysReady c) (sym is) (record {
       ready = record {
@@ -94,7 +94,7 @@ ready_left c at r e ready lt same g mid new counter limits dirs files rows chain
     ns = ap names rows ∙ names_set c.rows.items at r e lt same
 
 -- a build part comes on top
-pub ready_above : {B : Type 0} → (c : Core B) (p : Name) → IsReady c → is_check_top c.chain ≡ false → is_among p (names c.rows.items) ≡ true → (new : Core B) → new.counter ≡ c.counter → new.limits ≡ c.limits → new.dirs ≡ c.dirs → new.files.items ≡ c.files.items → names new.rows.items ≡ names c.rows.items → are_graded new.rows.items ≡ true → new.chain ≡ part.Build p ∷ c.chain → StaysReady c new
+pub ready_above : {T : Type 0} → (c : Core T) (p : Name) → IsReady c → is_check_top c.chain ≡ false → is_among p (names c.rows.items) ≡ true → (new : Core T) → new.counter ≡ c.counter → new.limits ≡ c.limits → new.dirs ≡ c.dirs → new.files.items ≡ c.files.items → names new.rows.items ≡ names c.rows.items → are_graded new.rows.items ≡ true → new.chain ≡ part.Build p ∷ c.chain → StaysReady c new
 ready_above c p ready free among new counter limits dirs files ns g chain = record {
   ready = record {
     three = subst (λ n. 3 ≤ n) (sym counter) ready.three;
@@ -110,7 +110,7 @@ ready_above c p ready free among new counter limits dirs files ns g chain = reco
 }
 
 -- a check part comes on top of nothing
-pub ready_check : {B : Type 0} → (c : Core B) (p : Name) → IsReady c → c.chain ≡ [] → is_among p (names c.rows.items) ≡ true → (new : List Part) → new ≡ part.Check p ∷ c.chain → StaysReady c (record c { chain = new })
+pub ready_check : {T : Type 0} → (c : Core T) (p : Name) → IsReady c → c.chain ≡ [] → is_among p (names c.rows.items) ≡ true → (new : List Part) → new ≡ part.Check p ∷ c.chain → StaysReady c (record c { chain = new })
 ready_check c p ready empty among new chain = record {
   ready = record {
     three = ready.three;
@@ -125,11 +125,11 @@ ready_check c p ready empty among new chain = record {
   objects = refl;
 }
 
-pub stays_same : {B : Type 0} → (c : Core B) → IsReady c → StaysReady c c
+pub stays_same : {T : Type 0} → (c : Core T) → IsReady c → StaysReady c c
 stays_same c ready = record { ready = ready; limits = refl; dirs = refl; files = refl; objects = refl }
 
 -- after a number was given
-pub after_given : {B : Type 0} → (c : Core B) (m : ℕ) (mid new : Core B) → mid ≡ record c { counter = next_counter m c.counter } → StaysReady mid new → StaysReady c new
+pub after_given : {T : Type 0} → (c : Core T) (m : ℕ) (mid new : Core T) → mid ≡ record c { counter = next_counter m c.counter } → StaysReady mid new → StaysReady c new
 after_given c m mid new given s = record {
   ready = s.ready;
   limits = s.limits ∙ ap (λ z. z.limits) given;
@@ -139,7 +139,7 @@ after_given c m mid new given s = record {
 }
 
 -- a number was given
-pub ready_counted : {B : Type 0} → (c : Core B) (m : ℕ) → IsReady c → (new : Core B) → new ≡ record c { counter = next_counter m c.counter } → IsReady new
+pub ready_counted : {T : Type 0} → (c : Core T) (m : ℕ) → IsReady c → (new : Core T) → new ≡ record c { counter = next_counter m c.counter } → IsReady new
 ready_counted c m ready new given =
     let here : IsReady (record c { counter = next_counter m c.counter }) = record { three = up m c.counter ready.three; once = ready.once; graded = ready.graded; chain = ready.chain; known = ready.known } in
     subst IsReady (sym given) here

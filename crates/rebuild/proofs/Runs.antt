@@ -10,7 +10,7 @@ use Rattle.asking.specs.Asked.{Answer, Ran, ran}
 use Rattle.engine_laws.specs.Engine.{Why, tells, dropped, after_run}
 use Rattle.rebuild.specs.declared.core_data.Core.{Core}
 use Rattle.engine_machine.specs.Machine.{runner_of, keeping, Builds}
-use Rattle.runner.specs.Ends.{End, Built}
+use Rattle.runner.specs.Ends.{End}
 use Rattle.rebuild.specs.Places.{file_number_in}
 use Rattle.rebuild.specs.Told.{seen_in}
 use Rattle.rebuild.specs.States.{pictured, chain_of}
@@ -19,7 +19,7 @@ use Rattle.rebuild.specs.Turning.{ran_turn}
 use Rattle.rebuild.proofs.Words.{words_told}
 use Rattle.questions.specs.Told.{more_than_asked}
 
-module _ {X : Type 0} (build : Builds X) (c : Core (Built X)) (ready : IsReady c) where
+module _ {T : Type 0} (build : Builds T) (c : Core T) (ready : IsReady c) where
   -- what the engine knows is what the machine tells
   pub known : (files : List PictureFile) → files ≡ pictured c.files.items → words files (file_number_in c.files.items) (seen_in c.rows.items c.chain) ≡ tells (runner_of build) keeping (core_picture c) (core_state c)
   known files is = ap (λ f. words f (file_number_in c.files.items) (seen_in c.rows.items c.chain)) is ∙ (λ i k. words_told build c.counter c.files.items c.rows.items c.chain ready.graded k i)
@@ -28,7 +28,7 @@ module _ {X : Type 0} (build : Builds X) (c : Core (Built X)) (ready : IsReady c
   pub ran_known : {X : Type 0} (ask : List (Key × Content) → Answer Key X) (files : List PictureFile) → files ≡ pictured c.files.items → (x : Ran Key X) → ran ask (words files (file_number_in c.files.items) (seen_in c.rows.items c.chain)) more_than_asked [] ≡ x → ran ask (tells (runner_of build) keeping (core_picture c) (core_state c)) more_than_asked [] ≡ x
   ran_known ask files is x e = ap (λ t. ran ask t more_than_asked []) (sym (known files is)) ∙ e
 
-  pub ran_is : (name : Name) → name ≡ top_name c.chain → (files : List PictureFile) → files ≡ pictured c.files.items → (x : Ran Key (End X)) → ran (build name) (words files (file_number_in c.files.items) (seen_in c.rows.items c.chain)) more_than_asked [] ≡ x → (y : Why Key) → after_run (runner_of build) keeping (core_picture c) (dropped (runner_of build) keeping (core_picture c) (core_state c) (top_name c.chain) y) (top_name c.chain) (chain_of (below c.chain)) x ≡ ran_turn build c y
+  pub ran_is : (name : Name) → name ≡ top_name c.chain → (files : List PictureFile) → files ≡ pictured c.files.items → (x : Ran Key (End T)) → ran (build name) (words files (file_number_in c.files.items) (seen_in c.rows.items c.chain)) more_than_asked [] ≡ x → (y : Why Key) → after_run (runner_of build) keeping (core_picture c) (dropped (runner_of build) keeping (core_picture c) (core_state c) (top_name c.chain) y) (top_name c.chain) (chain_of (below c.chain)) x ≡ ran_turn build c y
   ran_is name named files is x e y =
       sym (ap (λ n. after_run (runner_of build) keeping (core_picture c) (dropped (runner_of build) keeping (core_picture c) (core_state c) (top_name c.chain) y) (top_name c.chain) (chain_of (below c.chain)) (ran (build n) (tells (runner_of build) keeping (core_picture c) (core_state c)) more_than_asked [])) (sym named)
       ∙ ap (after_run (runner_of build) keeping (core_picture c) (dropped (runner_of build) keeping (core_picture c) (core_state c) (top_name c.chain) y) (top_name c.chain) (chain_of (below c.chain))) (ran_known (build name) files is x e))

@@ -6,7 +6,7 @@ use Rattle.foreign_values.specs.declared.Part.TheVariants as part
 use Rattle.foreign_values.specs.Chains.{below}
 use Rattle.read_sets.specs.declared.trace.Item.{Item}
 use Rattle.read_sets.specs.Items.{pairs_of}
-use Rattle.runner.specs.Ends.{Built, End}
+use Rattle.runner.specs.declared.ends.Built.{Built}
 use Rattle.pan_ast.specs.declared.fault.Fault.{Fault}
 use Rattle.path_tree.specs.Plain.{Plain}
 use Rattle.engine_laws.specs.Names.{Name, equal}
@@ -16,6 +16,7 @@ use Rattle.rebuild.specs.declared.rows.Last.{Last}
 use Rattle.rebuild.specs.declared.rows.Row.{Row}
 use Rattle.rebuild.specs.declared.core_data.Core.{Core}
 use Rattle.engine_machine.specs.Machine.{Kept, runner_of, keeping, keep, grade, fault_grade}
+use Rattle.runner.specs.Ends.{End}
 use Rattle.questions.specs.Laws.{is_circular}
 use Rattle.rebuild.specs.Places.{of_row, column}
 use Rattle.rebuild.specs.Changes.{kept_cause, kept_row, dropped_row, settled_row, cause_for}
@@ -54,7 +55,7 @@ put_twice f p u v i q = at (equal q p) i
     at true = refl
     at false = refl
 
-module _ {X : Type 0} (c : Core (Built X)) (at : ℕ) (ready : IsReady c) (top : IsBuildTop c at) (r : Row (Built X)) (is : r ≡ get_or c.rows.items at r) where
+module _ {T : Type 0} (c : Core T) (at : ℕ) (ready : IsReady c) (top : IsBuildTop c at) (r : Row T) (is : r ≡ get_or c.rows.items at r) where
   p : Name
   p = top_name c.chain
 
@@ -67,13 +68,13 @@ module _ {X : Type 0} (c : Core (Built X)) (at : ℕ) (ready : IsReady c) (top :
   pub named : r.name ≡ top_name c.chain
   named = ap (λ z. z.name) is ∙ row_named (top_name c.chain) c.rows.items (get_or c.rows.items at r) (a.here r)
 
-  pub here : {A : Type 0} (get : Row (Built X) → A) (d : A) → column get d c.rows.items (top_name c.chain) ≡ get r
+  pub here : {A : Type 0} (get : Row T → A) (d : A) → column get d c.rows.items (top_name c.chain) ≡ get r
   here get d = column_at get d (top_name c.chain) c.rows.items at a r ∙ ap get (sym is)
 
-  new : {A : Type 0} (get : Row (Built X) → A) (d : A) (r' : Row (Built X)) → r'.name ≡ r.name → (v : A) → get r' ≡ v → column get d (slice_set c.rows.items at r') ≡ put (column get d c.rows.items) (top_name c.chain) v
+  new : {A : Type 0} (get : Row T → A) (d : A) (r' : Row T) → r'.name ≡ r.name → (v : A) → get r' ≡ v → column get d (slice_set c.rows.items at r') ≡ put (column get d c.rows.items) (top_name c.chain) v
   new get d r' same v e = changed get d (top_name c.chain) c.rows.items at a r' (same ∙ named) v e
 
-  old : {A : Type 0} (get : Row (Built X) → A) (d : A) (r' : Row (Built X)) → r'.name ≡ r.name → get r' ≡ get r → column get d (slice_set c.rows.items at r') ≡ column get d c.rows.items
+  old : {A : Type 0} (get : Row T → A) (d : A) (r' : Row T) → r'.name ≡ r.name → get r' ≡ get r → column get d (slice_set c.rows.items at r') ≡ column get d c.rows.items
   old get d r' same e = kept get d (top_name c.chain) c.rows.items at a r' r (same ∙ named) (e ∙ ap get is)
 
   pub kept_is : state_of c.counter c.files.items (slice_set c.rows.items at (kept_row r)) (below c.chain) ≡ kept_turn c
@@ -115,7 +116,7 @@ module _ {X : Type 0} (c : Core (Built X)) (at : ℕ) (ready : IsReady c) (top :
   }
 
   -- settling under the number that the machine gives
-  pub settled_is : (differs : Option ℕ) (m : ℕ) (e : End X) (k : Kept) (v : Option (Built X)) (items : List Item) → keep e ≡ k → held_by (runner_of no_build) keeping (grade (keep e)) e ≡ option_map held_end v → number_by (runner_of no_build) keeping (grade (keep e)) c.counter (keep e) (column last_of None c.rows.items (top_name c.chain)) ≡ m → state_of (next_counter m c.counter) c.files.items (slice_set c.rows.items at (settled_row m k v items (dropped_row (cause_for differs r) r))) (below c.chain) ≡ settled_turn c (top_cause differs c) (pairs_of items) e
+  pub settled_is : (differs : Option ℕ) (m : ℕ) (e : End T) (k : Kept) (v : Option (Built T)) (items : List Item) → keep e ≡ k → held_by (runner_of no_build) keeping (grade (keep e)) e ≡ option_map held_end v → number_by (runner_of no_build) keeping (grade (keep e)) c.counter (keep e) (column last_of None c.rows.items (top_name c.chain)) ≡ m → state_of (next_counter m c.counter) c.files.items (slice_set c.rows.items at (settled_row m k v items (dropped_row (cause_for differs r) r))) (below c.chain) ≡ settled_turn c (top_cause differs c) (pairs_of items) e
   settled_is differs m e k v items kept_e held_e number_e i = record {
     counter = next_counter (sym number_e i) c.counter;
     number = number_in c.files.items;
@@ -131,7 +132,7 @@ module _ {X : Type 0} (c : Core (Built X)) (at : ℕ) (ready : IsReady c) (top :
     why = new why_of NotRun r' refl (top_cause differs c) (cause_is differs) i;
   }
     where
-      r' : Row (Built X)
+      r' : Row T
       r' = settled_row m k v items (dropped_row (cause_for differs r) r)
 
       last_e : put (column last_of None c.rows.items) (top_name c.chain) (Some (m, k)) ≡ put (column last_of None c.rows.items) (top_name c.chain) (Some (number_by (runner_of no_build) keeping (grade (keep e)) c.counter (keep e) (column last_of None c.rows.items (top_name c.chain)), keep e))
@@ -141,7 +142,7 @@ module _ {X : Type 0} (c : Core (Built X)) (at : ℕ) (ready : IsReady c) (top :
   graded_number true t l = refl
   graded_number false t l = refl
 
-  graded_held : (b : Bool) (e : End X) → held_by (runner_of no_build) keeping (fault_grade b) e ≡ None
+  graded_held : (b : Bool) (e : End T) → held_by (runner_of no_build) keeping (fault_grade b) e ≡ None
   graded_held true e = refl
   graded_held false e = refl
 
@@ -163,12 +164,12 @@ module _ {X : Type 0} (c : Core (Built X)) (at : ℕ) (ready : IsReady c) (top :
   pair_number n t None = refl
   pair_number n t (Some l) = refl
 
-  pub value_is : (differs : Option ℕ) (b : Built X) (items : List Item) → let m = number_for c.counter b.tree r.last in state_of (next_counter m c.counter) c.files.items (slice_set c.rows.items at (settled_row m (Ok b.tree) (Some b) items (dropped_row (cause_for differs r) r))) (below c.chain) ≡ settled_turn c (top_cause differs c) (pairs_of items) (Ok b)
+  pub value_is : (differs : Option ℕ) (b : Built T) (items : List Item) → let m = number_for c.counter b.tree r.last in state_of (next_counter m c.counter) c.files.items (slice_set c.rows.items at (settled_row m (Ok b.tree) (Some b) items (dropped_row (cause_for differs r) r))) (below c.chain) ≡ settled_turn c (top_cause differs c) (pairs_of items) (Ok b)
   value_is differs b items =
       settled_is differs (number_for c.counter b.tree r.last) (Ok b) (Ok b.tree) (Some b) items refl refl
       (ap (old_or_drawn (runner_of no_build) keeping c.counter (Ok b.tree)) (here last_of None) ∙ pair_number c.counter b.tree r.last)
 
-pub pushed_is : {X : Type 0} → (c : Core (Built X)) (q : Name) → is_check_top c.chain ≡ false → state_of c.counter c.files.items c.rows.items (part.Build q ∷ c.chain) ≡ pushed_turn c q
+pub pushed_is : {T : Type 0} → (c : Core T) (q : Name) → is_check_top c.chain ≡ false → state_of c.counter c.files.items c.rows.items (part.Build q ∷ c.chain) ≡ pushed_turn c q
 pushed_is c q free i = record {
   counter = c.counter;
   number = number_in c.files.items;
@@ -184,15 +185,15 @@ pushed_is c q free i = record {
   why = column why_of NotRun c.rows.items;
 }
 
-same_row : {X : Type 0} → (c : Core (Built X)) (at : ℕ) → IsReady c → IsBuildTop c at → (r r' : Row (Built X)) → r ≡ get_or c.rows.items at r → r' ≡ get_or c.rows.items at r' → r ≡ r'
+same_row : {T : Type 0} → (c : Core T) (at : ℕ) → IsReady c → IsBuildTop c at → (r r' : Row T) → r ≡ get_or c.rows.items at r → r' ≡ get_or c.rows.items at r' → r ≡ r'
 same_row c at ready top r r' is is' =
     let a = placed (top_name c.chain) c.rows.items at top.place in
-    let both : ◌≡◌ {A = Option (Row (Built X))} (Some (get_or c.rows.items at r)) (Some (get_or c.rows.items at r')) = sym (a.here r) ∙ a.here r' in
+    let both : ◌≡◌ {A = Option (Row T)} (Some (get_or c.rows.items at r)) (Some (get_or c.rows.items at r')) = sym (a.here r) ∙ a.here r' in
     let same : get_or c.rows.items at r ≡ get_or c.rows.items at r' = cc in
     is ∙ same ∙ sym is'
 
 -- a value settles after its number was given
-pub value_after : {X : Type 0} → (c : Core (Built X)) (at : ℕ) → IsReady c → IsBuildTop c at → (new : Core (Built X)) (m : ℕ) → new ≡ record c { counter = next_counter m c.counter } → (r1 : Row (Built X)) → r1 ≡ get_or c.rows.items at r1 → (t : Plain) → m ≡ number_for c.counter t r1.last → (b : Built X) → t ≡ b.tree → (r0 : Row (Built X)) → r0 ≡ get_or new.rows.items at r0 → (differs : Option ℕ) (items : List Item) (r : Row (Built X)) → r ≡ settled_row m (Ok t) (Some b) items (dropped_row (cause_for differs r0) r0) → state_of new.counter new.files.items (slice_set new.rows.items at r) (below new.chain) ≡ settled_turn c (top_cause differs c) (pairs_of items) (Ok b)
+pub value_after : {T : Type 0} → (c : Core T) (at : ℕ) → IsReady c → IsBuildTop c at → (new : Core T) (m : ℕ) → new ≡ record c { counter = next_counter m c.counter } → (r1 : Row T) → r1 ≡ get_or c.rows.items at r1 → (t : Plain) → m ≡ number_for c.counter t r1.last → (b : Built T) → t ≡ b.tree → (r0 : Row T) → r0 ≡ get_or new.rows.items at r0 → (differs : Option ℕ) (items : List Item) (r : Row T) → r ≡ settled_row m (Ok t) (Some b) items (dropped_row (cause_for differs r0) r0) → state_of new.counter new.files.items (slice_set new.rows.items at r) (below new.chain) ≡ settled_turn c (top_cause differs c) (pairs_of items) (Ok b)
 value_after c at ready top new m given r1 is1 t m_is b t_is r0 is0 differs items r r_is =
     ap (λ z. state_of new.counter new.files.items (slice_set new.rows.items at z) (below new.chain)) r_is
     ∙ ap (λ z. state_of new.counter new.files.items (slice_set new.rows.items at (settled_row m (Ok t) (Some b) items (dropped_row (cause_for differs z) z))) (below new.chain)) same

@@ -16,7 +16,7 @@ use Rattle.rebuild.specs.declared.rows.FileRow.{FileRow}
 use Rattle.rebuild.specs.declared.rows.Last.{Last}
 use Rattle.rebuild.specs.declared.rows.Row.{Row}
 use Rattle.engine_machine.specs.Machine.{Kept, runner_of, keeping, kept_content, failed_content, code_grade, Builds}
-use Rattle.runner.specs.Ends.{End, Built}
+use Rattle.runner.specs.Ends.{End}
 use Rattle.rebuild.specs.Places.{row_in, of_row, names, file_number_in}
 use Rattle.rebuild.specs.Told.{seen_result, seen_settled, seen_row, seen_in, seen_found}
 use Rattle.rebuild.specs.States.{pictured, picture_of, last_pair, last_of, chain_of, state_of, failed_number, has_grade, is_graded, are_graded}
@@ -28,8 +28,8 @@ chain_among p [] = refl
 chain_among p (part.Build q ∷ parts) = ap (λ b. equal q p || b) (chain_among p parts)
 chain_among p (part.Check q ∷ parts) = chain_among p parts
 
-pub graded_row : {X : Type 0} → (rows : List (Row (Built X))) (p : Name) (r : Row (Built X)) → are_graded rows ≡ true → row_in p rows ≡ Some r → is_graded r.last ≡ true
-graded_row [] p r g e = absurd (let clash : ◌≡◌ {A = Option (Row (Built X))} None (Some r) = e in cc)
+pub graded_row : {T : Type 0} → (rows : List (Row T)) (p : Name) (r : Row T) → are_graded rows ≡ true → row_in p rows ≡ Some r → is_graded r.last ≡ true
+graded_row [] p r g e = absurd (let clash : ◌≡◌ {A = Option (Row T)} None (Some r) = e in cc)
 graded_row (x ∷ rows) p r g e = at (graded_row rows p r (both (is_graded x.last) (are_graded rows) g).1) (equal x.name p) e
   where
     at : (row_in p rows ≡ Some r → is_graded r.last ≡ true) → (b : Bool) → cond b (Some x) (row_in p rows) ≡ Some r → is_graded r.last ≡ true
@@ -51,17 +51,17 @@ last_seen terms n (Err f) g =
     let is = eqb-true n (failed_number (code_grade f.code)) g in
     ap (λ m. Tells n (object_content m None)) is ∙ ap (Tells n) (failed_seen (code_grade f.code))
 
-module _ {X : Type 0} (build : Builds X) (most counter : ℕ) (files : List FileRow) (rows : List (Row (Built X))) (parts : List Part) where
+module _ {T : Type 0} (build : Builds T) (most counter : ℕ) (files : List FileRow) (rows : List (Row T)) (parts : List Part) where
   told_last : (p : Name) (terms : List Term) (l : Option Last) → is_graded l ≡ true → object_word p (Some (seen_settled terms l)) ≡ tells_last (runner_of build) keeping (Under p terms) (option_map last_pair l)
   told_last p terms None g = refl
   told_last p terms (Some l) g = last_seen terms l.number l.result g
 
-  told_row : (p : Name) (terms : List Term) (r : Row (Built X)) (on unsettled : Bool) → r.open_build ≡ unsettled → is_graded r.last ≡ true → object_word p (cond on (Some (2, None)) (cond unsettled None (Some (seen_settled terms r.last)))) ≡ tells_object (runner_of build) keeping on unsettled p (Under p terms) (last_of r)
+  told_row : (p : Name) (terms : List Term) (r : Row T) (on unsettled : Bool) → r.open_build ≡ unsettled → is_graded r.last ≡ true → object_word p (cond on (Some (2, None)) (cond unsettled None (Some (seen_settled terms r.last)))) ≡ tells_object (runner_of build) keeping on unsettled p (Under p terms) (last_of r)
   told_row p terms r true unsettled e g = refl
   told_row p terms r false true e g = refl
   told_row p terms r false false e g = told_last p terms r.last g
 
-  told_under : are_graded rows ≡ true → (p : Name) (terms : List Term) (x : Option (Row (Built X))) → row_in p rows ≡ x → object_word p (seen_found parts terms x) ≡ tells_at (runner_of build) keeping (picture_of files (names rows)) (state_of counter files rows parts) (Under p terms) (cond (is_among p (names rows)) (Some p) None)
+  told_under : are_graded rows ≡ true → (p : Name) (terms : List Term) (x : Option (Row T)) → row_in p rows ≡ x → object_word p (seen_found parts terms x) ≡ tells_at (runner_of build) keeping (picture_of files (names rows)) (state_of counter files rows parts) (Under p terms) (cond (is_among p (names rows)) (Some p) None)
   told_under g p terms None e = sym (ap (λ b. tells_at (runner_of build) keeping (picture_of files (names rows)) (state_of counter files rows parts) (Under p terms) (cond b (Some p) None)) (no_row p rows e))
   told_under g p terms (Some r) e =
       let named = row_named p rows r e in

@@ -45,14 +45,14 @@ abbrev pub by_last : Option Last → Option CheckRecord → Seen
 by_last None c = pending
 by_last (Some l) c = by_result l.result c
 
-abbrev pub answer_of_row : {B : Type 0} → Row B → Seen
+abbrev pub answer_of_row : {T : Type 0} → Row T → Seen
 answer_of_row r = cond (r.open_build || r.open_check) pending (by_last r.last r.check)
 
-abbrev pub answer_found : {B : Type 0} → Option (Row B) → Seen
+abbrev pub answer_found : {T : Type 0} → Option (Row T) → Seen
 answer_found None = no_object
 answer_found (Some r) = answer_of_row r
 
-abbrev pub answer_in : {B : Type 0} → List (Row B) → Name → Seen
+abbrev pub answer_in : {T : Type 0} → List (Row T) → Name → Seen
 answer_in rows p = answer_found (row_in p rows)
 
 pub data SeenWhy : Type 0 where
@@ -65,11 +65,11 @@ seen_why why.NoRecord = of_object NoRecord
 seen_why (why.Changed k) = of_object (Changed k.now)
 seen_why why.NoObject = of_none
 
-abbrev pub why_found : {B : Type 0} → Option (Row B) → SeenWhy
+abbrev pub why_found : {T : Type 0} → Option (Row T) → SeenWhy
 why_found None = of_none
 why_found (Some r) = of_object (why_of r)
 
-abbrev pub why_in : {B : Type 0} → List (Row B) → Name → SeenWhy
+abbrev pub why_in : {T : Type 0} → List (Row T) → Name → SeenWhy
 why_in rows p = why_found (row_in p rows)
 
 abbrev pub one_of : Bool → ℕ
@@ -77,6 +77,6 @@ one_of true = 1
 one_of false = 0
 
 -- how many rows pass a test
-abbrev pub count_rows : {B : Type 0} → (Row B → Bool) → List (Row B) → ℕ
+abbrev pub count_rows : {T : Type 0} → (Row T → Bool) → List (Row T) → ℕ
 count_rows test [] = 0
 count_rows test (r ∷ rows) = one_of (test r) + count_rows test rows

@@ -5,6 +5,7 @@ use Rattle.pan_ast.specs.declared.fault.Fault.{Fault}
 use Rattle.questions.specs.declared.key.Key.{Key}
 use Rattle.read_sets.specs.declared.trace.Item.{Item}
 use Rattle.read_sets.specs.Items.{key_of}
+use Rattle.runner.specs.declared.ends.Built.{Built}
 use Rattle.rebuild.specs.declared.rows.Cause.{Cause}
 use Rattle.rebuild.specs.declared.rows.Cause.TheVariants as cause
 use Rattle.rebuild.specs.declared.rows.CheckRecord.{CheckRecord}
@@ -15,7 +16,7 @@ kept_cause true c = c
 kept_cause false c = cause.NotRun
 
 -- the build part settles with its record
-abbrev pub kept_row : {B : Type 0} → Row B → Row B
+abbrev pub kept_row : {T : Type 0} → Row T → Row T
 kept_row r = record r { open_build = false; cause = kept_cause r.run r.cause }
 
 abbrev pub unread_cause : Cause → Cause
@@ -24,11 +25,11 @@ unread_cause cause.NoRecord = cause.NoRecord
 unread_cause (cause.Changed k) = cause.Changed k
 
 -- the record is dropped at a run, for this cause
-abbrev pub dropped_row : {B : Type 0} → Cause → Row B → Row B
+abbrev pub dropped_row : {T : Type 0} → Cause → Row T → Row T
 dropped_row c r = record r { build = None; check = None; run = true; cause = c }
 
 -- the build part settles with what a run gave
-abbrev pub settled_row : {B : Type 0} → ℕ → Result Plain Fault → Option (B) → List Item → Row B → Row B
+abbrev pub settled_row : {T : Type 0} → ℕ → Result Plain Fault → Option (Built T) → List Item → Row T → Row T
 settled_row number result held items r = record r { last = Some (record { number = number; result = result }); build = Some items; check = None; open_build = false; held = held }
 
 abbrev pub changed_cause : Option Key → Cause
@@ -44,7 +45,7 @@ changed_by i None c = c
 changed_by i (Some items) c = cause_at i items
 
 -- the cause of a run: there was no record, or it differs at this item
-abbrev pub cause_for : {B : Type 0} → Option ℕ → Row B → Cause
+abbrev pub cause_for : {T : Type 0} → Option ℕ → Row T → Cause
 cause_for None r = unread_cause r.cause
 cause_for (Some i) r = changed_by i r.build r.cause
 
@@ -53,14 +54,14 @@ entered_cause true old new = old
 entered_cause false old new = new
 
 -- the check part is run, for this cause unless the object was run before
-abbrev pub entered_row : {B : Type 0} → Cause → Row B → Row B
+abbrev pub entered_row : {T : Type 0} → Cause → Row T → Row T
 entered_row c r = record r { run = true; cause = entered_cause r.run r.cause c }
 
 -- the check part settles with what a run gave, and with its record
-abbrev pub judged_row : {B : Type 0} → List Item → Option Fault → Row B → Row B
+abbrev pub judged_row : {T : Type 0} → List Item → Option Fault → Row T → Row T
 judged_row items verdict r = record r { check = Some (record { reads = items; verdict = verdict }); open_check = false; held = None }
 
-abbrev pub judged_kept_row : {B : Type 0} → Row B → Row B
+abbrev pub judged_kept_row : {T : Type 0} → Row T → Row T
 judged_kept_row r = record r { open_check = false; held = None }
 
 abbrev pub check_cause : Option ℕ → Option CheckRecord → Cause

@@ -5,7 +5,7 @@ use Rattle.outside.specs.declared.picture.PictureFile.{PictureFile}
 use Rattle.pan_ast.specs.declared.work.Limits.{Limits}
 use Rattle.questions.specs.declared.key.Key.{Key}
 use Rattle.questions.specs.Contents.{Content}
-use Rattle.runner.specs.Ends.{Built, End, Verdict}
+use Rattle.runner.specs.Ends.{End, Verdict}
 use Rattle.runner.specs.Meaning.{Meaning}
 use Rattle.engine_laws.specs.Names.{Name}
 use Rattle.engine_laws.specs.Engine.{Situation, Event, Take, Turn, happens, IsFromScratch}
@@ -20,44 +20,44 @@ use Rattle.rebuild.specs.Taking.{numbered, counter_after}
 use Rattle.rebuild.specs.Ready.{core_state, core_picture, is_chain, are_known, are_once}
 
 abbrev pub EngineSituation : Type 0 → Type 0
-EngineSituation More = Situation Key Content (End More) Kept Verdict
+EngineSituation T = Situation Key Content (End T) Kept Verdict
 
 -- limits and directories, the files of the last take with their numbers, and the machine's picture and state
-pub record EngineValue (More : Type 0) : Type 0 where
+pub record EngineValue (T : Type 0) : Type 0 where
   pub limits : Limits
   pub dirs : List (List ℕ)
   pub files : List FileRow
-  pub situation : EngineSituation More
+  pub situation : EngineSituation T
 
 -- what a runner means, by directories and limits
 abbrev pub Meanings : Type 0 → Type 0
-Meanings More = List (List ℕ) → Limits → Meaning More
+Meanings T = List (List ℕ) → Limits → Meaning T
 
 -- the engine's picture and state
-abbrev pub situation_of : {X : Type 0} → Core (Built X) → EngineSituation X
+abbrev pub situation_of : {T : Type 0} → Core T → EngineSituation T
 situation_of c = record { picture = core_picture c; state = core_state c }
 
-abbrev pub value_of : {X : Type 0} → Core (Built X) → EngineValue X
+abbrev pub value_of : {T : Type 0} → Core T → EngineValue T
 value_of c = record { limits = c.limits; dirs = c.dirs; files = c.files.items; situation = situation_of c }
 
 -- before the first take
-abbrev pub new_situation : {X : Type 0} → EngineSituation X
+abbrev pub new_situation : {T : Type 0} → EngineSituation T
 new_situation = record { picture = picture_in [] []; state = state_of 3 [] [] [] }
 
 -- the data is in order: an invariant as a test
-abbrev pub is_ready : {B : Type 0} → Core B → Bool
+abbrev pub is_ready : {T : Type 0} → Core T → Bool
 is_ready c = nat_le 3 c.counter && (are_once (names c.rows.items) && (are_graded c.rows.items && (is_chain c.chain && are_known (names c.rows.items) c.chain)))
 
 -- some list of events of the machine leads to the engine's situation
-abbrev pub IsEngine : {X : Type 0} → Meanings X → EngineValue X → Type 0
+abbrev pub IsEngine : {T : Type 0} → Meanings T → EngineValue T → Type 0
 IsEngine m e = IsReached (runner_of (m e.dirs e.limits).build) keeping (judge_of (m e.dirs e.limits).check) e.situation
 
 -- what an event makes of it
-abbrev pub after_event : {X : Type 0} → Meanings X → EngineValue X → Event Key Content → EngineSituation X
+abbrev pub after_event : {T : Type 0} → Meanings T → EngineValue T → Event Key Content → EngineSituation T
 after_event m e event = happens (runner_of (m e.dirs e.limits).build) keeping (judge_of (m e.dirs e.limits).check) e.situation event
 
 -- what is settled in it is what compiling the whole picture from scratch gives
-abbrev pub IsTrue : {X : Type 0} → Meanings X → EngineValue X → Type 0
+abbrev pub IsTrue : {T : Type 0} → Meanings T → EngineValue T → Type 0
 IsTrue m e = IsFromScratch (runner_of (m e.dirs e.limits).build) keeping (judge_of (m e.dirs e.limits).check) e.situation
 
 -- a take of these files and objects, after files that had numbers
@@ -65,9 +65,9 @@ abbrev pub take_of : List FileRow → ℕ → List PictureFile → List Name →
 take_of old counter files objects = Take (picture_in files objects) (number_in (numbered old counter files)) (counter_after old counter files)
 
 -- what a take of these files and objects makes of an engine
-abbrev pub after_take : {X : Type 0} → Meanings X → EngineValue X → List PictureFile → List Name → EngineSituation X
+abbrev pub after_take : {T : Type 0} → Meanings T → EngineValue T → List PictureFile → List Name → EngineSituation T
 after_take m e files objects = after_event m e (take_of e.files e.situation.state.counter files objects)
 
 -- what one turn makes of it
-abbrev pub after_turn : {X : Type 0} → Meanings X → EngineValue X → EngineSituation X
+abbrev pub after_turn : {T : Type 0} → Meanings T → EngineValue T → EngineSituation T
 after_turn m e = after_event m e Turn

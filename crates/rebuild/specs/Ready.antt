@@ -11,10 +11,10 @@ use Rattle.rebuild.specs.declared.core_data.Core.{Core}
 use Rattle.rebuild.specs.Places.{names, row_place}
 use Rattle.rebuild.specs.States.{EngineState, state_of, picture_of, are_graded}
 
-abbrev pub core_state : {B : Type 0} → Core B → EngineState B
+abbrev pub core_state : {T : Type 0} → Core T → EngineState T
 core_state c = state_of c.counter c.files.items c.rows.items c.chain
 
-abbrev pub core_picture : {B : Type 0} → Core B → Picture Key Content
+abbrev pub core_picture : {T : Type 0} → Core T → Picture Key Content
 core_picture c = picture_of c.files.items (names c.rows.items)
 
 -- the object of the part on top
@@ -59,7 +59,7 @@ abbrev pub are_once : List Name → Bool
 are_once [] = true
 are_once (x ∷ xs) = not (is_among x xs) && are_once xs
 
-pub record IsReady {B : Type 0} (c : Core B) : Type 0 where
+pub record IsReady {T : Type 0} (c : Core T) : Type 0 where
   pub three : 3 ≤ c.counter
   pub once : are_once (names c.rows.items) ≡ true
   pub graded : are_graded c.rows.items ≡ true
@@ -67,7 +67,7 @@ pub record IsReady {B : Type 0} (c : Core B) : Type 0 where
   pub known : are_known (names c.rows.items) c.chain ≡ true
 
 -- it is ready after a change, which left limits, directories, files and objects
-pub record StaysReady {B : Type 0} (c new : Core B) : Type 0 where
+pub record StaysReady {T : Type 0} (c new : Core T) : Type 0 where
   pub ready : IsReady new
   pub limits : new.limits ≡ c.limits
   pub dirs : new.dirs ≡ c.dirs
@@ -75,12 +75,12 @@ pub record StaysReady {B : Type 0} (c new : Core B) : Type 0 where
   pub objects : names new.rows.items ≡ names c.rows.items
 
 -- the row at this place is the one of the build part on top
-pub record IsBuildTop {B : Type 0} (c : Core B) (at : ℕ) : Type 0 where
+pub record IsBuildTop {T : Type 0} (c : Core T) (at : ℕ) : Type 0 where
   pub top : is_build_top c.chain ≡ true
   pub place : row_place (top_name c.chain) 0 c.rows.items ≡ Some at
   pub within : at < length c.rows.items
 
-pub record IsCheckTop {B : Type 0} (c : Core B) (at : ℕ) : Type 0 where
+pub record IsCheckTop {T : Type 0} (c : Core T) (at : ℕ) : Type 0 where
   pub top : is_check_top c.chain ≡ true
   pub place : row_place (top_name c.chain) 0 c.rows.items ≡ Some at
   pub within : at < length c.rows.items

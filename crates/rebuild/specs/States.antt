@@ -1,11 +1,11 @@
 -- The engine's data as a state of the machine.
-use Rattle.std.specs.Prelude.{ℕ, List, [], ◌∷◌, Bool, true, false, ◌&&◌, nat_eq, nat_le, cond, Option, Some, None, option_map, map, Result, Ok, Err}
+use Rattle.std.specs.Prelude.{ℕ, List, [], ◌∷◌, Bool, true, false, ◌&&◌, nat_eq, nat_le, cond, Option, Some, None, option_map, map, Ok, Err}
 use Rattle.outside.specs.declared.picture.PictureFile.{PictureFile}
 use Rattle.questions.specs.declared.key.Key.{Key}
 use Rattle.questions.specs.declared.key.Key.TheVariants.{File, Under}
 use Rattle.read_sets.specs.Items.{pairs_of}
 use Rattle.questions.specs.Contents.{Content}
-use Rattle.runner.specs.Ends.{Verdict}
+use Rattle.runner.specs.declared.ends.Built.{Built}
 use Rattle.foreign_values.specs.declared.Part.{Part}
 use Rattle.foreign_values.specs.declared.Part.TheVariants as part
 use Rattle.engine_laws.specs.Names.{Name}
@@ -19,16 +19,12 @@ use Rattle.rebuild.specs.declared.rows.Cause.TheVariants as cause
 use Rattle.rebuild.specs.declared.rows.Row.{Row}
 use Rattle.engine_machine.specs.Machine.{Kept, code_grade}
 use Rattle.engine_machine.specs.Pictures.{picture_in}
-use Rattle.pan_ast.specs.declared.fault.Fault.{Fault}
+use Rattle.runner.specs.Ends.{End, Verdict}
 use Rattle.rebuild.specs.Places.{column, file_number_in}
-use Rattle.rebuild.specs.States.{EngineState, EndOf}
-
--- B: what is held of a build for its check
-abbrev pub EndOf : Type 0 → Type 0
-EndOf B = Result B Fault
+use Rattle.rebuild.specs.States.{EngineState}
 
 abbrev pub EngineState : Type 0 → Type 0
-EngineState B = State Key (EndOf B) Kept Verdict
+EngineState T = State Key (End T) Kept Verdict
 
 -- the picture whose files these are
 abbrev pub pictured : List FileRow → List PictureFile
@@ -44,16 +40,16 @@ number_in files (Under p terms) = 0
 abbrev pub last_pair : Last → ℕ × Kept
 last_pair l = (l.number, l.result)
 
-abbrev pub last_of : {B : Type 0} → Row B → Option (ℕ × Kept)
+abbrev pub last_of : {T : Type 0} → Row T → Option (ℕ × Kept)
 last_of r = option_map last_pair r.last
 
-abbrev pub reads_of : {B : Type 0} → Row B → Option (List (Key × ℕ))
+abbrev pub reads_of : {T : Type 0} → Row T → Option (List (Key × ℕ))
 reads_of r = option_map pairs_of r.build
 
 abbrev pub check_pair : CheckRecord → List (Key × ℕ) × Verdict
 check_pair c = (pairs_of c.reads, c.verdict)
 
-abbrev pub checked_of : {B : Type 0} → Row B → Option (List (Key × ℕ) × Verdict)
+abbrev pub checked_of : {T : Type 0} → Row T → Option (List (Key × ℕ) × Verdict)
 checked_of r = option_map check_pair r.check
 
 abbrev pub why_by : Cause → Why Key
@@ -61,13 +57,13 @@ why_by cause.NotRun = NotRun
 why_by cause.NoRecord = NoRecord
 why_by (cause.Changed k) = Changed k
 
-abbrev pub why_of : {B : Type 0} → Row B → Why Key
+abbrev pub why_of : {T : Type 0} → Row T → Why Key
 why_of r = why_by r.cause
 
-abbrev pub held_end : {B : Type 0} → B → EndOf B
+abbrev pub held_end : {T : Type 0} → Built T → End T
 held_end b = Ok b
 
-abbrev pub held_of : {B : Type 0} → Row B → Option (EndOf B)
+abbrev pub held_of : {T : Type 0} → Row T → Option (End T)
 held_of r = option_map held_end r.held
 
 -- the build parts of a chain
@@ -82,7 +78,7 @@ checking_of [] = None
 checking_of (part.Build p ∷ ps) = None
 checking_of (part.Check p ∷ ps) = Some p
 
-abbrev pub state_of : {B : Type 0} → ℕ → List FileRow → List (Row B) → List Part → EngineState B
+abbrev pub state_of : {T : Type 0} → ℕ → List FileRow → List (Row T) → List Part → EngineState T
 state_of counter files rows parts = record {
   counter = counter;
   number = number_in files;
@@ -113,6 +109,6 @@ is_graded None = true
 is_graded (Some l) = has_grade l.number l.result
 
 -- each result has a number of its kind
-abbrev pub are_graded : {B : Type 0} → List (Row B) → Bool
+abbrev pub are_graded : {T : Type 0} → List (Row T) → Bool
 are_graded [] = true
 are_graded (r ∷ rows) = is_graded r.last && are_graded rows

@@ -52,13 +52,13 @@ counter_after old counter [] = counter
 counter_after old counter (f ∷ fs) = counter_after old (counter_or counter (old_or_none old f.name f.content)) fs
 
 -- the row of an object that was none before
-abbrev pub new_row : {B : Type 0} → Name → Row B
+abbrev pub new_row : {T : Type 0} → Name → Row T
 new_row p = record { name = p; last = None; build = None; check = None; open_build = true; open_check = true; held = None; run = false; cause = cause.NotRun }
 
 -- the row of an object after a Take
-abbrev pub taken_row : {B : Type 0} → Name → Option (Row B) → Row B
+abbrev pub taken_row : {T : Type 0} → Name → Option (Row T) → Row T
 taken_row p None = new_row p
 taken_row p (Some r) = record r { open_build = true; open_check = true; held = None }
 
-abbrev pub taken_rows : {B : Type 0} → List (Row B) → List Name → List (Row B)
+abbrev pub taken_rows : {T : Type 0} → List (Row T) → List Name → List (Row T)
 taken_rows rows objects = map (λ p. taken_row p (row_in p rows)) objects

@@ -18,7 +18,7 @@ pub enum Answer<'a> {
 }
 
 /// The row of a name.
-fn row_of_text<'a, H>(rows: &'a [Row<H>], name: &str) -> Option<&'a Row<H>>
+fn row_of_text<'a, T>(rows: &'a [Row<T>], name: &str) -> Option<&'a Row<T>>
     ensures { option_copied result ≡ row_in name.now rows.now }
 {
     for row in rows {
@@ -30,7 +30,7 @@ fn row_of_text<'a, H>(rows: &'a [Row<H>], name: &str) -> Option<&'a Row<H>>
 }
 
 /// The answer of a row.
-fn answer_of_row<H>(row: &Row<H>) -> Answer<'_>
+fn answer_of_row<T>(row: &Row<T>) -> Answer<'_>
     ensures { seen_answer result ≡ answer_of_row row.now }
 {
     if row.open_build || row.open_check {
@@ -52,7 +52,7 @@ fn answer_of_row<H>(row: &Row<H>) -> Answer<'_>
 }
 
 /// The answer for a name.
-pub(crate) fn answer_in<'a, H>(rows: &'a [Row<H>], name: &str) -> Answer<'a>
+pub(crate) fn answer_in<'a, T>(rows: &'a [Row<T>], name: &str) -> Answer<'a>
     ensures { seen_answer result ≡ answer_in rows.now name.now }
 {
     match row_of_text(rows, name) {
@@ -70,7 +70,7 @@ pub enum Why<'a> {
 }
 
 /// Why a name was run last.
-pub(crate) fn why_in<'a, H>(rows: &'a [Row<H>], name: &str) -> Why<'a>
+pub(crate) fn why_in<'a, T>(rows: &'a [Row<T>], name: &str) -> Why<'a>
     ensures { seen_why result ≡ why_in rows.now name.now }
 {
     match row_of_text(rows, name) {
@@ -84,7 +84,7 @@ pub(crate) fn why_in<'a, H>(rows: &'a [Row<H>], name: &str) -> Why<'a>
 }
 
 /// How many build parts are unsettled.
-pub(crate) fn open_builds<H>(rows: &[Row<H>]) -> usize
+pub(crate) fn open_builds<T>(rows: &[Row<T>]) -> usize
     ensures { result ≡ count_rows (λ r. r.open_build) rows.now }
 {
     let mut count = 0;
@@ -97,7 +97,7 @@ pub(crate) fn open_builds<H>(rows: &[Row<H>]) -> usize
 }
 
 /// How many check parts are unsettled.
-pub(crate) fn open_checks<H>(rows: &[Row<H>]) -> usize
+pub(crate) fn open_checks<T>(rows: &[Row<T>]) -> usize
     ensures { result ≡ count_rows (λ r. r.open_check) rows.now }
 {
     let mut count = 0;

@@ -14,7 +14,7 @@ ghost use Rattle.rebuild.specs.Turning.{kept_turn, pushed_turn, stopped_turn, se
 use crate::changes::{drop_record, keep_build, settle_build};
 use crate::comparing::{Found, compare_build};
 use crate::core_data::Core;
-use crate::rows::{Held, Row};
+use crate::rows::Row;
 use crate::turned::{TurnError, Turned};
 use base::Steps;
 use base::limits::END_OF_NUMBERS;
@@ -22,18 +22,18 @@ use foreign_values::Part;
 use pan_ast::{Code, Fault};
 use path_tree::{Name, Tree};
 use read_sets::Trace;
-use runner::{BuildEnd, Runner};
+use runner::{BuildEnd, Built, Runner};
 use std::sync::ledger::Ledger;
 
 /// The part on top goes.
-pub(crate) fn leave<R: Runner>(core: &mut Core<Held<R>>)
+pub(crate) fn leave<R: Runner>(core: &mut Core<R::Rest>)
     ensures { core.new ≡ record core.old { chain = below core.old.chain } }
 {
     core.chain.pop();
 }
 
 /// The build part on top settles with its record.
-fn keep_top<R: Runner>(core: &mut Core<Held<R>>, at: usize)
+fn keep_top<R: Runner>(core: &mut Core<R::Rest>, at: usize)
     requires ready { IsReady core.old }
     requires top { IsBuildTop core.old at }
     ensures state { core_state core.new ≡ kept_turn core.old }
@@ -44,7 +44,7 @@ fn keep_top<R: Runner>(core: &mut Core<Held<R>>, at: usize)
 }
 
 /// A build part comes on top, of build parts or of none.
-pub(crate) fn push_build<R: Runner>(core: &mut Core<Held<R>>, name: Name) -> Result<(), TurnError>
+pub(crate) fn push_build<R: Runner>(core: &mut Core<R::Rest>, name: Name) -> Result<(), TurnError>
     requires ready { IsReady core.old }
     requires free { is_check_top core.old.chain ≡ false }
     requires known { is_among name (names core.old.rows.items) ≡ true }
@@ -67,7 +67,7 @@ fn same_kept(old: &Result<Tree, Fault>, tree: &Tree) -> bool
 }
 
 /// The number under which a tree settles.
-fn number_for<H>(row: &Row<H>, tree: &Tree, counter: u64) -> u64
+fn number_for<T>(row: &Row<T>, tree: &Tree, counter: u64) -> u64
     ensures { result ≡ number_for counter tree.now row.now.last }
 {
     match &row.last {
@@ -83,7 +83,7 @@ fn number_for<H>(row: &Row<H>, tree: &Tree, counter: u64) -> u64
 }
 
 /// A number is given: the counter is drawn where it is this number.
-fn give_number<R: Runner>(core: &mut Core<Held<R>>, number: u64) -> Result<(), TurnError>
+fn give_number<R: Runner>(core: &mut Core<R::Rest>, number: u64) -> Result<(), TurnError>
     ensures given { OnOk result (core.new ≡ record core.old { counter = next_counter number core.old.counter }) }
     ensures before { OnErr result (core.new ≡ core.old) }
 {
@@ -108,7 +108,7 @@ fn fault_number(code: Code) -> u64
 
 /// The build part on top stops its run at an object that is not known.
 fn stop_top<R: Runner>(
-    core: &mut Core<Held<R>>,
+    core: &mut Core<R::Rest>,
     at: usize,
     differs: Option<usize>,
     name: Name,
@@ -127,7 +127,7 @@ fn stop_top<R: Runner>(
 
 /// The build part on top settles with a fault.
 fn settle_fault<R: Runner>(
-    core: &mut Core<Held<R>>,
+    core: &mut Core<R::Rest>,
     at: usize,
     differs: Option<usize>,
     fault: Fault,
@@ -145,26 +145,26 @@ fn settle_fault<R: Runner>(
 
 /// The build part on top settles with a value.
 fn settle_value<R: Runner>(
-    core: &mut Core<Held<R>>,
+    core: &mut Core<R::Rest>,
     at: usize,
     differs: Option<usize>,
-    built: R::Built,
+    built: Built<R::Rest>,
     reads: Trace,
 ) -> Result<Turned, TurnError>
     requires ready { IsReady core.old }
     requires top { IsBuildTop core.old at }
-    ensures state { OnOk result (core_state core.new ≡ settled_turn core.old (top_cause differs core.old) (pairs_of reads) (Ok (R.seen built))) }
+    ensures state { OnOk result (core_state core.new ≡ settled_turn core.old (top_cause differs core.old) (pairs_of reads) (Ok built)) }
     ensures ready { OnOk result (StaysReady core.old core.new) }
     ensures before { OnErr result (core.new ≡ core.old) }
 {
-    let tree = R::tree(&built).copy()?;
+    let tree = built.tree.copy()?;
     let number = number_for(&core.rows[at], &tree, core.counter);
     give_number(core, number)?;
     settle_build(
         &mut core.rows[at],
         number,
         Ok(tree),
-        Some(Held { built }),
+        Some(built),
         reads,
         differs,
     );
@@ -174,7 +174,7 @@ fn settle_value<R: Runner>(
 
 /// The build part on top is run: it has no record, or its record differs at an item.
 fn run_top<R: Runner, L: Ledger>(
-    core: &mut Core<Held<R>>,
+    core: &mut Core<R::Rest>,
     at: usize,
     differs: Option<usize>,
     runner: &mut R,
@@ -200,7 +200,7 @@ fn run_top<R: Runner, L: Ledger>(
 
 /// A turn with a build part on top.
 pub(crate) fn build_top<R: Runner, L: Ledger>(
-    core: &mut Core<Held<R>>,
+    core: &mut Core<R::Rest>,
     at: usize,
     runner: &mut R,
     steps: &mut Steps<L>,

@@ -7,9 +7,10 @@ use crate::rows::{Cause, CheckRecord, Last, Row};
 use pan_ast::Fault;
 use path_tree::Tree;
 use read_sets::Trace;
+use runner::Built;
 
 /// The build part settles with its record.
-pub(crate) fn keep_build<H>(row: &mut Row<H>)
+pub(crate) fn keep_build<T>(row: &mut Row<T>)
     ensures { row.new ≡ kept_row row.old }
 {
     row.open_build = false;
@@ -19,7 +20,7 @@ pub(crate) fn keep_build<H>(row: &mut Row<H>)
 }
 
 /// The object is run: it has no record, or its record differs at an item.
-pub(crate) fn drop_record<H>(row: &mut Row<H>, differs: Option<usize>)
+pub(crate) fn drop_record<T>(row: &mut Row<T>, differs: Option<usize>)
     ensures { row.new ≡ dropped_row (cause_for differs row.old) row.old }
 {
     match differs {
@@ -51,11 +52,11 @@ fn cause_at(reads: Trace, at: usize) -> Cause
 }
 
 /// The build part settles with what a run gave.
-pub(crate) fn settle_build<H: Drop>(
-    row: &mut Row<H>,
+pub(crate) fn settle_build<T: Drop>(
+    row: &mut Row<T>,
     number: u64,
     kept: Result<Tree, Fault>,
-    held: Option<H>,
+    held: Option<T>,
     reads: Trace,
     differs: Option<usize>,
 )
@@ -83,7 +84,7 @@ fn check_cause(old: Option<CheckRecord>, differs: Option<usize>) -> Cause
 }
 
 /// The check part settles without a run.
-pub(crate) fn judge<H: Drop>(row: &mut Row<H>, reads: Trace, verdict: Option<Fault>)
+pub(crate) fn judge<T: Drop>(row: &mut Row<T>, reads: Trace, verdict: Option<Fault>)
     ensures { row.new ≡ judged_row reads verdict row.old }
 {
     row.check = Some(CheckRecord { reads, verdict });
@@ -92,8 +93,8 @@ pub(crate) fn judge<H: Drop>(row: &mut Row<H>, reads: Trace, verdict: Option<Fau
 }
 
 /// The check part settles with what a run gave.
-pub(crate) fn judge_run<H: Drop>(
-    row: &mut Row<H>,
+pub(crate) fn judge_run<T: Drop>(
+    row: &mut Row<T>,
     reads: Trace,
     verdict: Option<Fault>,
     differs: Option<usize>,
@@ -108,7 +109,7 @@ pub(crate) fn judge_run<H: Drop>(
 }
 
 /// The check part settles with its record, or with nothing that was held.
-pub(crate) fn keep_check<H: Drop>(row: &mut Row<H>)
+pub(crate) fn keep_check<T: Drop>(row: &mut Row<T>)
     ensures { row.new ≡ judged_kept_row row.old }
 {
     row.open_check = false;

@@ -13,7 +13,7 @@ use crate::building::leave;
 use crate::changes::{judge, judge_run, keep_check};
 use crate::comparing::{Found, compare_check};
 use crate::core_data::Core;
-use crate::rows::{Held, Row};
+use crate::rows::Row;
 use crate::turned::{TurnError, Turned};
 use base::Steps;
 use pan_ast::Fault;
@@ -23,7 +23,7 @@ use std::alloc::Global;
 use std::sync::ledger::Ledger;
 
 /// The check part on top settles without a run.
-fn judge_top<R: Runner>(core: &mut Core<Held<R>>, at: usize, reads: Trace, verdict: Option<Fault>)
+fn judge_top<R: Runner>(core: &mut Core<R::Rest>, at: usize, reads: Trace, verdict: Option<Fault>)
     requires ready { IsReady core.old }
     requires top { IsCheckTop core.old at }
     ensures state { core_state core.new ≡ judged_turn core.old (pairs_of reads) verdict }
@@ -34,7 +34,7 @@ fn judge_top<R: Runner>(core: &mut Core<Held<R>>, at: usize, reads: Trace, verdi
 }
 
 /// The check part on top settles with its record.
-fn keep_check_top<R: Runner>(core: &mut Core<Held<R>>, at: usize)
+fn keep_check_top<R: Runner>(core: &mut Core<R::Rest>, at: usize)
     requires ready { IsReady core.old }
     requires top { IsCheckTop core.old at }
     ensures state { core_state core.new ≡ judged_kept_turn core.old }
@@ -46,7 +46,7 @@ fn keep_check_top<R: Runner>(core: &mut Core<Held<R>>, at: usize)
 
 /// The check part on top was run, and settles.
 fn judge_run_top<R: Runner>(
-    core: &mut Core<Held<R>>,
+    core: &mut Core<R::Rest>,
     at: usize,
     differs: Option<usize>,
     reads: Trace,
@@ -64,7 +64,7 @@ fn judge_run_top<R: Runner>(
 /// The check part on top settles with what its run gave.
 fn finish_check<R: Runner>(
     alloc: Global,
-    core: &mut Core<Held<R>>,
+    core: &mut Core<R::Rest>,
     at: usize,
     differs: Option<usize>,
     end: CheckEnd,
@@ -84,7 +84,7 @@ fn finish_check<R: Runner>(
 /// The check part on top is run, with a value that is built for it.
 fn rerun_top<R: Runner, L: Ledger>(
     alloc: Global,
-    core: &mut Core<Held<R>>,
+    core: &mut Core<R::Rest>,
     at: usize,
     differs: Option<usize>,
     runner: &mut R,
@@ -114,7 +114,7 @@ fn rerun_top<R: Runner, L: Ledger>(
 /// The check part on top is run: it has no record, or its record differs at an item.
 fn run_check_top<R: Runner, L: Ledger>(
     alloc: Global,
-    core: &mut Core<Held<R>>,
+    core: &mut Core<R::Rest>,
     at: usize,
     differs: Option<usize>,
     runner: &mut R,
@@ -129,8 +129,8 @@ fn run_check_top<R: Runner, L: Ledger>(
 {
     match &core.rows[at].held {
         None => rerun_top(alloc, core, at, differs, runner, steps),
-        Some(held) => {
-            let end = runner.run_check(&held.built, core, &core.limits, steps)?;
+        Some(built) => {
+            let end = runner.run_check(built, core, &core.limits, steps)?;
             finish_check(alloc, core, at, differs, end);
             Ok(())
         }
@@ -138,7 +138,7 @@ fn run_check_top<R: Runner, L: Ledger>(
 }
 
 /// Whether the last result of an object is a tree, if it has one.
-fn last_kind<H>(row: &Row<H>) -> Option<bool>
+fn last_kind<T>(row: &Row<T>) -> Option<bool>
     ensures { result ≡ last_kind row.now.last }
 {
     match &row.last {
@@ -150,7 +150,7 @@ fn last_kind<H>(row: &Row<H>) -> Option<bool>
 /// The check part of an object that was built is compared or run.
 fn compare_top<R: Runner, L: Ledger>(
     alloc: Global,
-    core: &mut Core<Held<R>>,
+    core: &mut Core<R::Rest>,
     at: usize,
     runner: &mut R,
     steps: &mut Steps<L>,
@@ -179,7 +179,7 @@ fn compare_top<R: Runner, L: Ledger>(
 /// A turn with a check part on top.
 pub(crate) fn check_top<R: Runner, L: Ledger>(
     alloc: Global,
-    core: &mut Core<Held<R>>,
+    core: &mut Core<R::Rest>,
     at: usize,
     runner: &mut R,
     steps: &mut Steps<L>,

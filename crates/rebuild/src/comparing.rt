@@ -37,9 +37,9 @@ fn object_at(reads: &Trace, at: usize) -> Result<Found, AllocError>
 }
 
 /// Compares a trace.
-pub(crate) fn compare_trace<H, L: Ledger>(
+pub(crate) fn compare_trace<T, L: Ledger>(
     reads: &Trace,
-    core: &Core<H>,
+    core: &Core<T>,
     steps: &mut Steps<L>,
 ) -> Result<Found, AllocError>
     ensures { IfOk result (λ f. f ≡ found_in (core_number_of core.now) reads.now) }
@@ -52,9 +52,9 @@ pub(crate) fn compare_trace<H, L: Ledger>(
 }
 
 /// Compares the build record of an object.
-pub(crate) fn compare_build<H, L: Ledger>(
-    row: &Row<H>,
-    core: &Core<H>,
+pub(crate) fn compare_build<T, L: Ledger>(
+    row: &Row<T>,
+    core: &Core<T>,
     steps: &mut Steps<L>,
 ) -> Result<Found, AllocError>
     ensures { IfOk result (λ f. f ≡ found_of (core_number_of core.now) row.now.build) }
@@ -66,9 +66,9 @@ pub(crate) fn compare_build<H, L: Ledger>(
 }
 
 /// Compares the check record of an object.
-pub(crate) fn compare_check<H, L: Ledger>(
-    row: &Row<H>,
-    core: &Core<H>,
+pub(crate) fn compare_check<T, L: Ledger>(
+    row: &Row<T>,
+    core: &Core<T>,
     steps: &mut Steps<L>,
 ) -> Result<Found, AllocError>
     ensures { IfOk result (λ f. f ≡ found_of (core_number_of core.now) (option_map check_reads row.now.check)) }

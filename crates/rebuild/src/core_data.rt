@@ -12,12 +12,12 @@ use runner::{Known, Told};
 
 /// The engine's data.
 #[derive(Drop)]
-pub(crate) struct Core<H> {
+pub(crate) struct Core<T> {
     pub limits: Limits,
     pub dirs: Seq<Text>,
     pub counter: u64,
     pub files: Vec<FileRow>,
-    pub rows: Vec<Row<H>>,
+    pub rows: Vec<Row<T>>,
     pub chain: Chain,
 }
 
@@ -50,7 +50,7 @@ fn seen_last<'a>(last: &'a Last, terms: &[Term]) -> Told<'a>
 }
 
 /// What is told of an object.
-fn seen_row<'a, H>(row: &'a Row<H>, on_chain: bool, terms: &[Term]) -> Option<Told<'a>>
+fn seen_row<'a, T>(row: &'a Row<T>, on_chain: bool, terms: &[Term]) -> Option<Told<'a>>
     ensures { seen_told result ≡ seen_row on_chain terms.now row.now }
 {
     if on_chain {
@@ -66,13 +66,13 @@ fn seen_row<'a, H>(row: &'a Row<H>, on_chain: bool, terms: &[Term]) -> Option<To
 }
 
 /// Whether the build part of a row's object is on the chain.
-fn is_on_chain<H>(row: &Row<H>, chain: &Chain) -> bool
+fn is_on_chain<T>(row: &Row<T>, chain: &Chain) -> bool
     ensures { result ≡ is_on_chain chain.now row.now.name }
 {
     chain.holds_build(&row.name)
 }
 
-impl<H> Known for Core<H> {
+impl<T> Known for Core<T> {
     ghost use Rattle.rebuild.specs.Places.{file_number_in};
     ghost use Rattle.rebuild.specs.Told.{seen_in};
 
@@ -92,7 +92,7 @@ impl<H> Known for Core<H> {
     }
 }
 
-impl<H> Numbers for Core<H> {
+impl<T> Numbers for Core<T> {
     ghost use Rattle.rebuild.specs.Told.{number_of};
 
     ghost number_of = { λ c. number_of c.files.items c.rows.items c.chain };

@@ -15,7 +15,7 @@ use path_tree::Name;
 use std::alloc::Global;
 
 /// A fresh row for each object.
-pub(crate) fn fresh_rows<H: Drop>(alloc: Global, objects: &[Name]) -> Result<Vec<Row<H>>, TakeError>
+pub(crate) fn fresh_rows<T: Drop>(alloc: Global, objects: &[Name]) -> Result<Vec<Row<T>>, TakeError>
     ensures { IfOk result (λ rows. rows.items ≡ map new_row objects.now) }
 {
     let mut rows = Vec::new(alloc);
@@ -37,7 +37,7 @@ pub(crate) fn fresh_rows<H: Drop>(alloc: Global, objects: &[Name]) -> Result<Vec
 }
 
 /// Both parts of an object become unsettled.
-fn reopen<H: Drop>(row: &mut Row<H>)
+fn reopen<T: Drop>(row: &mut Row<T>)
     ensures { row.new ≡ reopened row.old }
 {
     row.open_build = true;
@@ -46,7 +46,7 @@ fn reopen<H: Drop>(row: &mut Row<H>)
 }
 
 /// A fresh row takes what was kept of its object, and leaves itself in its place.
-fn renew<H: Drop>(fresh: &mut Row<H>, old: &mut Row<H>)
+fn renew<T: Drop>(fresh: &mut Row<T>, old: &mut Row<T>)
     ensures fresh { fresh.new ≡ reopened old.old }
     ensures old { old.new ≡ fresh.old }
 {
@@ -55,7 +55,7 @@ fn renew<H: Drop>(fresh: &mut Row<H>, old: &mut Row<H>)
 }
 
 /// The fresh row at this place takes what was kept of its object.
-fn renew_at<H: Drop>(fresh: &mut Vec<Row<H>>, at: usize, old: &mut Vec<Row<H>>)
+fn renew_at<T: Drop>(fresh: &mut Vec<Row<T>>, at: usize, old: &mut Vec<Row<T>>)
     requires { at < length fresh.old.items }
     ensures { IsRenewed at fresh.old.items old.old.items fresh.new.items old.new.items }
 {
@@ -65,7 +65,7 @@ fn renew_at<H: Drop>(fresh: &mut Vec<Row<H>>, at: usize, old: &mut Vec<Row<H>>)
 }
 
 /// Fresh rows take what was kept of their objects.
-pub(crate) fn renew_all<H: Drop>(fresh: &mut Vec<Row<H>>, old: &mut Vec<Row<H>>, objects: &[Name])
+pub(crate) fn renew_all<T: Drop>(fresh: &mut Vec<Row<T>>, old: &mut Vec<Row<T>>, objects: &[Name])
     requires once { are_once objects.now ≡ true }
     requires fresh { fresh.old.items ≡ map new_row objects.now }
     ensures { fresh.new.items ≡ taken_rows old.old.items objects.now }
@@ -79,9 +79,9 @@ pub(crate) fn renew_all<H: Drop>(fresh: &mut Vec<Row<H>>, old: &mut Vec<Row<H>>,
 }
 
 /// The data after a picture with these files and objects was taken.
-pub(crate) fn take_core<H: Drop>(
+pub(crate) fn take_core<T: Drop>(
     alloc: Global,
-    core: &mut Core<H>,
+    core: &mut Core<T>,
     files: &[PictureFile],
     objects: &[Name],
 ) -> Result<(), TakeError>

@@ -6,8 +6,7 @@ use outside::Content;
 use pan_ast::Fault;
 use path_tree::{Name, Tree};
 use read_sets::{Key, Trace};
-use runner::Runner;
-use std::marker::Model;
+use runner::Built;
 
 /// A file of the last picture, with its number.
 #[derive(Drop)]
@@ -39,36 +38,22 @@ pub(crate) enum Cause {
     Changed(Key),
 }
 
-/// What was built for an object, until it is checked. Contracts see what the runner says of it.
-#[derive(Drop)]
-pub(crate) struct Held<R: Runner> {
-    pub built: R::Built,
-}
-
-impl<R: Runner> Model for Held<R> {
-    ghost use Rattle.runner.specs.Ends.{Built};
-
-    ghost Value = { Built R.More };
-
-    ghost view = { λ h. R.seen h.built };
-}
-
 /// What is kept of an object.
 #[derive(Drop)]
-pub(crate) struct Row<H> {
+pub(crate) struct Row<T> {
     pub name: Name,
     pub last: Option<Last>,
     pub build: Option<Trace>,
     pub check: Option<CheckRecord>,
     pub open_build: bool,
     pub open_check: bool,
-    pub held: Option<H>,
+    pub held: Option<Built<T>>,
     pub run: bool,
     pub cause: Cause,
 }
 
 /// Where the row of a name is.
-pub(crate) fn row_place<H>(rows: &[Row<H>], name: &Name) -> Option<usize>
+pub(crate) fn row_place<T>(rows: &[Row<T>], name: &Name) -> Option<usize>
     ensures { result ≡ row_place name.now 0 rows.now }
 {
     for (at, row) in rows.iter().enumerate() {
@@ -80,7 +65,7 @@ pub(crate) fn row_place<H>(rows: &[Row<H>], name: &Name) -> Option<usize>
 }
 
 /// The row of a name.
-pub(crate) fn row_in<'a, H>(rows: &'a [Row<H>], name: &Name) -> Option<&'a Row<H>>
+pub(crate) fn row_in<'a, T>(rows: &'a [Row<T>], name: &Name) -> Option<&'a Row<T>>
     ensures { option_copied result ≡ row_in name.now rows.now }
 {
     for row in rows {

@@ -11,7 +11,7 @@ ghost use Rattle.rebuild.specs.Opening.{IsTop, first_open_build, first_open_chec
 use crate::building::{build_top, push_build};
 use crate::checking::check_top;
 use crate::core_data::Core;
-use crate::rows::{Held, Row, row_place};
+use crate::rows::{Row, row_place};
 use crate::turned::{TurnError, Turned};
 use base::Steps;
 use foreign_values::Part;
@@ -29,7 +29,7 @@ pub(crate) enum Top {
 }
 
 /// The part on top of the chain.
-fn find_top<R: Runner>(core: &Core<Held<R>>) -> Top
+fn find_top<R: Runner>(core: &Core<R::Rest>) -> Top
     requires { IsReady core.now }
     ensures { IsTop core.now result }
 {
@@ -47,7 +47,7 @@ fn find_top<R: Runner>(core: &Core<Held<R>>) -> Top
 }
 
 /// The first object with an unsettled build part.
-fn first_open_build<H>(rows: &[Row<H>]) -> Option<&Row<H>>
+fn first_open_build<T>(rows: &[Row<T>]) -> Option<&Row<T>>
     ensures { option_copied result ≡ first_open_build rows.now }
 {
     for row in rows {
@@ -59,7 +59,7 @@ fn first_open_build<H>(rows: &[Row<H>]) -> Option<&Row<H>>
 }
 
 /// The first object with an unsettled check part.
-fn first_open_check<H>(rows: &[Row<H>]) -> Option<&Row<H>>
+fn first_open_check<T>(rows: &[Row<T>]) -> Option<&Row<T>>
     ensures { option_copied result ≡ first_open_check rows.now }
 {
     for row in rows {
@@ -71,7 +71,7 @@ fn first_open_check<H>(rows: &[Row<H>]) -> Option<&Row<H>>
 }
 
 /// A check part comes on top of an empty chain.
-fn push_check<R: Runner>(core: &mut Core<Held<R>>, name: Name) -> Result<(), TurnError>
+fn push_check<R: Runner>(core: &mut Core<R::Rest>, name: Name) -> Result<(), TurnError>
     requires ready { IsReady core.old }
     requires empty { core.old.chain ≡ [] }
     requires known { is_among name (names core.old.rows.items) ≡ true }
@@ -84,7 +84,7 @@ fn push_check<R: Runner>(core: &mut Core<Held<R>>, name: Name) -> Result<(), Tur
 }
 
 /// A turn with no part on the chain.
-fn open_part<R: Runner>(core: &mut Core<Held<R>>) -> Result<Turned, TurnError>
+fn open_part<R: Runner>(core: &mut Core<R::Rest>) -> Result<Turned, TurnError>
     requires ready { IsReady core.old }
     requires empty { core.old.chain ≡ [] }
     ensures state { OnOk result (core_state core.new ≡ open_state core.old) }
@@ -107,7 +107,7 @@ fn open_part<R: Runner>(core: &mut Core<Held<R>>) -> Result<Turned, TurnError>
 /// One turn.
 pub(crate) fn turn<R: Runner, L: Ledger>(
     alloc: Global,
-    core: &mut Core<Held<R>>,
+    core: &mut Core<R::Rest>,
     runner: &mut R,
     steps: &mut Steps<L>,
 ) -> Result<Turned, TurnError>

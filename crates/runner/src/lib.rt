@@ -7,6 +7,6 @@ mod ends;
 mod known;
 mod runner;
 
-pub use ends::{BuildEnd, CheckEnd};
+pub use ends::{BuildEnd, Built, CheckEnd};
 pub use known::{Known, Told};
 pub use runner::Runner;

@@ -5,12 +5,12 @@ ghost use Rattle.runner.specs.Words.{words};
 ghost use Rattle.runner.specs.Ends.{build_ran, check_ran};
 ghost use Rattle.runner.specs.Meaning.{counted};
 
-use crate::ends::{BuildEnd, CheckEnd};
+use crate::ends::{BuildEnd, Built, CheckEnd};
 use crate::known::Known;
 use base::{Seq, Steps, Text};
 use outside::Picture;
 use pan_ast::Limits;
-use path_tree::{Name, Tree};
+use path_tree::Name;
 use std::alloc::AllocError;
 use std::sync::ledger::Ledger;
 
@@ -23,19 +23,13 @@ pub trait Runner {
     ghost use Rattle.std.specs.Prelude.{ℕ, List};
     ghost use Rattle.outside.specs.declared.picture.PictureFile.{PictureFile};
     ghost use Rattle.pan_ast.specs.declared.work.Limits.{Limits};
-    ghost use Rattle.runner.specs.Ends.{Built};
     ghost use Rattle.runner.specs.Meaning.{Meaning, IsLawful};
 
-    /// What a build makes, for the check.
-    type Built: Drop;
-
-    /// What contracts see of it besides the object's name and its tree.
-    ghost More: { Type 0 };
-
-    ghost seen: { Self.Built → Built More };
+    /// What a build makes besides the tree, for the check.
+    type Rest: Drop;
 
     /// What builds and checks ask and give, by directories and limits.
-    ghost meaning: { List (List ℕ) → Limits → Meaning More };
+    ghost meaning: { List (List ℕ) → Limits → Meaning Self.Rest };
 
     /// The laws of builds and checks: a key is asked once, each question costs a step, the work of a run is bounded, and
     /// an object whose chain of reads never ends has the fault of a circular object.
@@ -58,10 +52,6 @@ pub trait Runner {
     fn picture(&self) -> &Picture
         ensures { result.now ≡ files_of self.now };
 
-    /// The tree that was built.
-    fn tree(built: &Self::Built) -> &Tree
-        ensures { result.now ≡ (seen built.now).tree };
-
     /// Runs the build of an object of the picture.
     ///
     /// Files are told by the picture, with the numbers that `known` gives; objects are told as they are known. A run that
@@ -72,8 +62,8 @@ pub trait Runner {
         known: &K,
         limits: &Limits,
         steps: &mut Steps<L>,
-    ) -> Result<BuildEnd<Self::Built>, AllocError>
-        ensures answer { IfOk result (λ end. ran ((meaning (dirs_of self.old) limits.now).build name.now) (words (files_of self.old) (K.numbers known.now) (K.objects known.now)) more_than_asked [] ≡ build_ran seen end) }
+    ) -> Result<BuildEnd<Self::Rest>, AllocError>
+        ensures answer { IfOk result (λ end. ran ((meaning (dirs_of self.old) limits.now).build name.now) (words (files_of self.old) (K.numbers known.now) (K.objects known.now)) more_than_asked [] ≡ build_ran end) }
         ensures steps { OnOk result (steps.new ≡ steps.old + (meaning (dirs_of self.old) limits.now).build_work name.now (told_in ((meaning (dirs_of self.old) limits.now).build name.now) (words (files_of self.old) (K.numbers known.now) (K.objects known.now)) more_than_asked [])) }
         ensures files { files_of self.new ≡ files_of self.old }
         ensures dirs { dirs_of self.new ≡ dirs_of self.old }
@@ -84,16 +74,16 @@ pub trait Runner {
     /// Runs the check of what was built, told as a build is.
     fn run_check<K: Known, L: Ledger>(
         &mut self,
-        built: &Self::Built,
+        built: &Built<Self::Rest>,
         known: &K,
         limits: &Limits,
         steps: &mut Steps<L>,
     ) -> Result<CheckEnd, AllocError>
-        ensures answer { IfOk result (λ end. ran ((meaning (dirs_of self.old) limits.now).check (seen built.now)) (words (files_of self.old) (K.numbers known.now) (K.objects known.now)) more_than_asked [] ≡ check_ran end) }
-        ensures steps { OnOk result (steps.new ≡ steps.old + (meaning (dirs_of self.old) limits.now).check_work (seen built.now) (told_in ((meaning (dirs_of self.old) limits.now).check (seen built.now)) (words (files_of self.old) (K.numbers known.now) (K.objects known.now)) more_than_asked [])) }
+        ensures answer { IfOk result (λ end. ran ((meaning (dirs_of self.old) limits.now).check built.now) (words (files_of self.old) (K.numbers known.now) (K.objects known.now)) more_than_asked [] ≡ check_ran end) }
+        ensures steps { OnOk result (steps.new ≡ steps.old + (meaning (dirs_of self.old) limits.now).check_work built.now (told_in ((meaning (dirs_of self.old) limits.now).check built.now) (words (files_of self.old) (K.numbers known.now) (K.objects known.now)) more_than_asked [])) }
         ensures files { files_of self.new ≡ files_of self.old }
         ensures dirs { dirs_of self.new ≡ dirs_of self.old }
         ensures runs { OnOk result (runs_of self.new ≡ counted (runs_of self.old)) }
-        ensures refused_steps { OnErr result (steps.new ≤ steps.old + (meaning (dirs_of self.old) limits.now).check_work (seen built.now) (told_in ((meaning (dirs_of self.old) limits.now).check (seen built.now)) (words (files_of self.old) (K.numbers known.now) (K.objects known.now)) more_than_asked [])) }
+        ensures refused_steps { OnErr result (steps.new ≤ steps.old + (meaning (dirs_of self.old) limits.now).check_work built.now (told_in ((meaning (dirs_of self.old) limits.now).check built.now) (words (files_of self.old) (K.numbers known.now) (K.objects known.now)) more_than_asked [])) }
         ensures refused_runs { OnErr result ((runs_of self.old ≤ runs_of self.new) × (runs_of self.new ≤ counted (runs_of self.old))) };
 }

@@ -14,7 +14,7 @@ returns-in-Need-clause-state g c =
     let old = c.args.core.now in
     let row = c.index.result.now in
     on_ok_weaker c.stop_top.result
-    (λ e. e ∙ ran_is (g.R.Runner.build old.limits (g.R.Runner.dirs_of c.args.runner.now)) g.R.Runner.most old c.requires.ready row.name (named old c.args.at c.requires.ready c.requires.top row c.index.ensures) (g.R.Runner.picture_of c.args.runner.now) c.requires.picture (Stops c.in-Need.name) (c.in_ok-end.ensures.answer ∙ ap run_of c.in-Need.is) (top_cause c.args.differs old))
+    (λ e. e ∙ ran_is (g.R.Runner.meaning (g.R.Runner.dirs_of c.args.runner.now) old.limits).build old c.requires.ready row.name (named old c.args.at c.requires.ready c.requires.top row c.index.ensures) (g.R.Runner.files_of c.args.runner.now) c.requires.picture (Stops c.in-Need.name) (c.in_ok-end.ensures.answer ∙ ap build_ran c.in-Need.is) (top_cause c.args.differs old))
     c.stop_top.ensures.state
 
 pub returns-in-Fault-clause-state : goal.returns-in-Fault-clause-state
@@ -22,19 +22,19 @@ returns-in-Fault-clause-state g c =
     let old = c.args.core.now in
     let row = c.index.result.now in
     c.settle_fault.ensures.state
-    ∙ ran_is (g.R.Runner.build old.limits (g.R.Runner.dirs_of c.args.runner.now)) g.R.Runner.most old c.requires.ready row.name (named old c.args.at c.requires.ready c.requires.top row c.index.ensures) (g.R.Runner.picture_of c.args.runner.now) c.requires.picture (Finished (pairs_of c.in-Fault.reads) (Err c.in-Fault.fault)) (c.in_ok-end.ensures.answer ∙ ap run_of c.in-Fault.is) (top_cause c.args.differs old)
+    ∙ ran_is (g.R.Runner.meaning (g.R.Runner.dirs_of c.args.runner.now) old.limits).build old c.requires.ready row.name (named old c.args.at c.requires.ready c.requires.top row c.index.ensures) (g.R.Runner.files_of c.args.runner.now) c.requires.picture (Finished (pairs_of c.in-Fault.reads) (Err c.in-Fault.fault)) (c.in_ok-end.ensures.answer ∙ ap build_ran c.in-Fault.is) (top_cause c.args.differs old)
 
 pub returns-in-Done-clause-state : goal.returns-in-Done-clause-state
 returns-in-Done-clause-state g c =
     let old = c.args.core.now in
     let row = c.index.result.now in
     on_ok_weaker c.settle_value.result
-    (λ e. e ∙ ran_is (g.R.Runner.build old.limits (g.R.Runner.dirs_of c.args.runner.now)) g.R.Runner.most old c.requires.ready row.name (named old c.args.at c.requires.ready c.requires.top row c.index.ensures) (g.R.Runner.picture_of c.args.runner.now) c.requires.picture (Finished (pairs_of c.in-Done.reads) (Ok c.in-Done.built)) (c.in_ok-end.ensures.answer ∙ ap run_of c.in-Done.is) (top_cause c.args.differs old))
+    (λ e. e ∙ ran_is (g.R.Runner.meaning (g.R.Runner.dirs_of c.args.runner.now) old.limits).build old c.requires.ready row.name (named old c.args.at c.requires.ready c.requires.top row c.index.ensures) (g.R.Runner.files_of c.args.runner.now) c.requires.picture (Finished (pairs_of c.in-Done.reads) (Ok c.in-Done.built)) (c.in_ok-end.ensures.answer ∙ ap build_ran c.in-Done.is) (top_cause c.args.differs old))
     c.settle_value.ensures.state
 
 pub stop_top-requires-clause-known : goal.stop_top-requires-clause-known
 stop_top-requires-clause-known g c =
     let old = c.args.core.now in
     let row = c.index.result.now in
-    let build = g.R.Runner.build old.limits (g.R.Runner.dirs_of c.args.runner.now) in
-    stops_known build g.R.Runner.most old c.requires.ready (build row.name) g.R.Runner.most [] c.in-Need.name (ran_known build g.R.Runner.most old c.requires.ready (build row.name) (g.R.Runner.picture_of c.args.runner.now) c.requires.picture (Stops c.in-Need.name) (c.in_ok-end.ensures.answer ∙ ap run_of c.in-Need.is))
+    let build = (g.R.Runner.meaning (g.R.Runner.dirs_of c.args.runner.now) old.limits).build in
+    stops_known build old c.requires.ready (build row.name) more_than_asked [] c.in-Need.name (ran_known build old c.requires.ready (build row.name) (g.R.Runner.files_of c.args.runner.now) c.requires.picture (Stops c.in-Need.name) (c.in_ok-end.ensures.answer ∙ ap build_ran c.in-Need.is))

@@ -8,7 +8,7 @@ use Rattle.rebuild.proofs.Settles.{fault_is}
 use Rattle.rebuild.proofs.building.settle_fault.Goals as goal
 
 pub returns-clause-state : goal.returns-clause-state
-returns-clause-state c =
+returns-clause-state g c =
     let old = c.args.core.now in
     let row = c.index_mut.result.now in
     ap core_state c.leave.ensures
@@ -17,7 +17,7 @@ returns-clause-state c =
     ∙ fault_is old c.args.at c.requires.ready c.requires.top row c.index_mut.ensures.value c.args.differs c.args.fault c.args.reads
 
 pub returns-clause-ready : goal.returns-clause-ready
-returns-clause-ready c =
+returns-clause-ready g c =
     let old = c.args.core.now in
     let row = c.index_mut.result.now in
     ready_left old c.args.at c.settle_build.new.row row c.requires.ready c.requires.top.within

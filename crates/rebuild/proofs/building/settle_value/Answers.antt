@@ -6,13 +6,13 @@ use Rattle.rebuild.proofs.Settles.{value_after}
 use Rattle.rebuild.proofs.building.settle_value.Goals as goal
 
 pub returns-clause-state : goal.returns-clause-state
-returns-clause-state c =
+returns-clause-state g c =
     ap core_state c.leave.ensures
     ∙ value_after c.args.core.now c.args.at c.requires.ready c.requires.top c.give_number.new.core c.number_for-number.result c.in_ok-give_number.ensures.given
     c.index.result.now c.index.ensures c.in_ok-tree.tree c.number_for-number.ensures c.args.built c.in_ok-tree.ensures c.index_mut.result.now c.index_mut.ensures.value c.args.differs c.args.reads c.settle_build.new.row c.settle_build.ensures
 
 pub returns-clause-ready : goal.returns-clause-ready
-returns-clause-ready c =
+returns-clause-ready g c =
     let old = c.args.core.now in
     let mid = c.give_number.new.core in
     let given = c.in_ok-give_number.ensures.given in

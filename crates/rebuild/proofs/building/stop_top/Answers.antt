@@ -6,14 +6,14 @@ use Rattle.rebuild.proofs.Settles.{stopped_is}
 use Rattle.rebuild.proofs.building.stop_top.Goals as goal
 
 pub returns-clause-state : goal.returns-clause-state
-returns-clause-state c =
+returns-clause-state g c =
     let old = c.args.core.now in
     ap (state_of old.counter old.files.items (slice_set old.rows.items c.args.at c.drop_record.new.row)) c.in_ok-push.ensures.ok
     ∙ ap (λ r. state_of old.counter old.files.items (slice_set old.rows.items c.args.at r) (Build c.args.name ∷ old.chain)) c.drop_record.ensures
     ∙ stopped_is old c.args.at c.requires.ready c.requires.top c.index_mut.result.now c.index_mut.ensures.value c.args.differs c.args.name
 
 pub returns-clause-ready : goal.returns-clause-ready
-returns-clause-ready c =
+returns-clause-ready g c =
     let old = c.args.core.now in
     let row = c.index_mut.result.now in
     ready_above old c.args.name c.requires.ready (build_is_free old.chain c.requires.top.top) c.requires.known _ refl refl refl refl

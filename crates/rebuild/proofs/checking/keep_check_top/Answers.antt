@@ -7,14 +7,14 @@ use Rattle.rebuild.proofs.Judges.{judged_kept_is}
 use Rattle.rebuild.proofs.checking.keep_check_top.Goals as goal
 
 pub returns-clause-state : goal.returns-clause-state
-returns-clause-state c =
+returns-clause-state g c =
     let old = c.args.core.now in
     ap core_state c.leave.ensures
     ∙ ap (λ r. state_of old.counter old.files.items (slice_set old.rows.items c.args.at r) (below old.chain)) c.keep_check.ensures
     ∙ judged_kept_is old c.args.at c.requires.ready c.requires.top c.index_mut.result.now c.index_mut.ensures.value
 
 pub returns-clause-ready : goal.returns-clause-ready
-returns-clause-ready c =
+returns-clause-ready g c =
     let old = c.args.core.now in
     let row = c.index_mut.result.now in
     ready_left old c.args.at c.keep_check.new.row row c.requires.ready c.requires.top.within
