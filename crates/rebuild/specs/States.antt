@@ -21,7 +21,6 @@ use Rattle.engine_machine.specs.Machine.{Kept, code_grade}
 use Rattle.engine_machine.specs.Pictures.{picture_in}
 use Rattle.runner.specs.Ends.{End, Verdict}
 use Rattle.rebuild.specs.Places.{column, file_number_in}
-use Rattle.rebuild.specs.States.{EngineState}
 
 abbrev pub EngineState : Type 0 → Type 0
 EngineState T = State Key (End T) Kept Verdict

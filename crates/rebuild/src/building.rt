@@ -26,14 +26,14 @@ use runner::{BuildEnd, Built, Runner};
 use std::sync::ledger::Ledger;
 
 /// The part on top goes.
-pub(crate) fn leave<R: Runner>(core: &mut Core<R::Rest>)
+pub(crate) fn leave<T: Drop>(core: &mut Core<T>)
     ensures { core.new ≡ record core.old { chain = below core.old.chain } }
 {
     core.chain.pop();
 }
 
 /// The build part on top settles with its record.
-fn keep_top<R: Runner>(core: &mut Core<R::Rest>, at: usize)
+fn keep_top<T: Drop>(core: &mut Core<T>, at: usize)
     requires ready { IsReady core.old }
     requires top { IsBuildTop core.old at }
     ensures state { core_state core.new ≡ kept_turn core.old }
@@ -44,7 +44,7 @@ fn keep_top<R: Runner>(core: &mut Core<R::Rest>, at: usize)
 }
 
 /// A build part comes on top, of build parts or of none.
-pub(crate) fn push_build<R: Runner>(core: &mut Core<R::Rest>, name: Name) -> Result<(), TurnError>
+pub(crate) fn push_build<T: Drop>(core: &mut Core<T>, name: Name) -> Result<(), TurnError>
     requires ready { IsReady core.old }
     requires free { is_check_top core.old.chain ≡ false }
     requires known { is_among name (names core.old.rows.items) ≡ true }
@@ -83,7 +83,7 @@ fn number_for<T>(row: &Row<T>, tree: &Tree, counter: u64) -> u64
 }
 
 /// A number is given: the counter is drawn where it is this number.
-fn give_number<R: Runner>(core: &mut Core<R::Rest>, number: u64) -> Result<(), TurnError>
+fn give_number<T: Drop>(core: &mut Core<T>, number: u64) -> Result<(), TurnError>
     ensures given { OnOk result (core.new ≡ record core.old { counter = next_counter number core.old.counter }) }
     ensures before { OnErr result (core.new ≡ core.old) }
 {
@@ -107,8 +107,8 @@ fn fault_number(code: Code) -> u64
 }
 
 /// The build part on top stops its run at an object that is not known.
-fn stop_top<R: Runner>(
-    core: &mut Core<R::Rest>,
+fn stop_top<T: Drop>(
+    core: &mut Core<T>,
     at: usize,
     differs: Option<usize>,
     name: Name,
@@ -126,8 +126,8 @@ fn stop_top<R: Runner>(
 }
 
 /// The build part on top settles with a fault.
-fn settle_fault<R: Runner>(
-    core: &mut Core<R::Rest>,
+fn settle_fault<T: Drop>(
+    core: &mut Core<T>,
     at: usize,
     differs: Option<usize>,
     fault: Fault,
@@ -144,11 +144,11 @@ fn settle_fault<R: Runner>(
 }
 
 /// The build part on top settles with a value.
-fn settle_value<R: Runner>(
-    core: &mut Core<R::Rest>,
+fn settle_value<T: Drop>(
+    core: &mut Core<T>,
     at: usize,
     differs: Option<usize>,
-    built: Built<R::Rest>,
+    built: Built<T>,
     reads: Trace,
 ) -> Result<Turned, TurnError>
     requires ready { IsReady core.old }

@@ -56,7 +56,7 @@ pub(crate) fn settle_build<T: Drop>(
     row: &mut Row<T>,
     number: u64,
     kept: Result<Tree, Fault>,
-    held: Option<T>,
+    held: Option<Built<T>>,
     reads: Trace,
     differs: Option<usize>,
 )

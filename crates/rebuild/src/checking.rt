@@ -23,7 +23,7 @@ use std::alloc::Global;
 use std::sync::ledger::Ledger;
 
 /// The check part on top settles without a run.
-fn judge_top<R: Runner>(core: &mut Core<R::Rest>, at: usize, reads: Trace, verdict: Option<Fault>)
+fn judge_top<T: Drop>(core: &mut Core<T>, at: usize, reads: Trace, verdict: Option<Fault>)
     requires ready { IsReady core.old }
     requires top { IsCheckTop core.old at }
     ensures state { core_state core.new ≡ judged_turn core.old (pairs_of reads) verdict }
@@ -34,7 +34,7 @@ fn judge_top<R: Runner>(core: &mut Core<R::Rest>, at: usize, reads: Trace, verdi
 }
 
 /// The check part on top settles with its record.
-fn keep_check_top<R: Runner>(core: &mut Core<R::Rest>, at: usize)
+fn keep_check_top<T: Drop>(core: &mut Core<T>, at: usize)
     requires ready { IsReady core.old }
     requires top { IsCheckTop core.old at }
     ensures state { core_state core.new ≡ judged_kept_turn core.old }
@@ -45,8 +45,8 @@ fn keep_check_top<R: Runner>(core: &mut Core<R::Rest>, at: usize)
 }
 
 /// The check part on top was run, and settles.
-fn judge_run_top<R: Runner>(
-    core: &mut Core<R::Rest>,
+fn judge_run_top<T: Drop>(
+    core: &mut Core<T>,
     at: usize,
     differs: Option<usize>,
     reads: Trace,
@@ -62,9 +62,9 @@ fn judge_run_top<R: Runner>(
 }
 
 /// The check part on top settles with what its run gave.
-fn finish_check<R: Runner>(
+fn finish_check<T: Drop>(
     alloc: Global,
-    core: &mut Core<R::Rest>,
+    core: &mut Core<T>,
     at: usize,
     differs: Option<usize>,
     end: CheckEnd,

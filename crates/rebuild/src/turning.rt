@@ -29,7 +29,7 @@ pub(crate) enum Top {
 }
 
 /// The part on top of the chain.
-fn find_top<R: Runner>(core: &Core<R::Rest>) -> Top
+fn find_top<T: Drop>(core: &Core<T>) -> Top
     requires { IsReady core.now }
     ensures { IsTop core.now result }
 {
@@ -71,7 +71,7 @@ fn first_open_check<T>(rows: &[Row<T>]) -> Option<&Row<T>>
 }
 
 /// A check part comes on top of an empty chain.
-fn push_check<R: Runner>(core: &mut Core<R::Rest>, name: Name) -> Result<(), TurnError>
+fn push_check<T: Drop>(core: &mut Core<T>, name: Name) -> Result<(), TurnError>
     requires ready { IsReady core.old }
     requires empty { core.old.chain ≡ [] }
     requires known { is_among name (names core.old.rows.items) ≡ true }
@@ -84,7 +84,7 @@ fn push_check<R: Runner>(core: &mut Core<R::Rest>, name: Name) -> Result<(), Tur
 }
 
 /// A turn with no part on the chain.
-fn open_part<R: Runner>(core: &mut Core<R::Rest>) -> Result<Turned, TurnError>
+fn open_part<T: Drop>(core: &mut Core<T>) -> Result<Turned, TurnError>
     requires ready { IsReady core.old }
     requires empty { core.old.chain ≡ [] }
     ensures state { OnOk result (core_state core.new ≡ open_state core.old) }

@@ -31,10 +31,6 @@ pub trait Runner {
     /// What builds and checks ask and give, by directories and limits.
     ghost meaning: { List (List ℕ) → Limits → Meaning Self.Rest };
 
-    /// The laws of builds and checks: a key is asked once, each question costs a step, the work of a run is bounded, and
-    /// an object whose chain of reads never ends has the fault of a circular object.
-    ghost laws: { (dirs : List (List ℕ)) (limits : Limits) → IsLawful (meaning dirs limits) };
-
     /// The files of the picture, the directories, and the count of runs.
     ghost files_of: { Self → List PictureFile };
 
@@ -86,4 +82,8 @@ pub trait Runner {
         ensures runs { OnOk result (runs_of self.new ≡ counted (runs_of self.old)) }
         ensures refused_steps { OnErr result (steps.new ≤ steps.old + (meaning (dirs_of self.old) limits.now).check_work built.now (told_in ((meaning (dirs_of self.old) limits.now).check built.now) (words (files_of self.old) (K.numbers known.now) (K.objects known.now)) more_than_asked [])) }
         ensures refused_runs { OnErr result ((runs_of self.old ≤ runs_of self.new) × (runs_of self.new ≤ counted (runs_of self.old))) };
+
+    /// The laws of builds and checks: a key is asked once, each question costs a step, the work of a run is bounded, and
+    /// an object whose chain of reads never ends has the fault of a circular object.
+    ghost laws: { (dirs : List (List ℕ)) (limits : Limits) → IsLawful (meaning dirs limits) };
 }
