@@ -9,7 +9,7 @@
 
 use anyhow::{Result, anyhow};
 use base::{Bytes, Seq, Text};
-use outside::{Held, MemFile, MemShelf, MemSink, MemSource, Shelf, Sink, Source};
+use outside::{Held, MemFile, MemShelf, MemSink, MemSource, Shelf, Sink, Source, are_distinct};
 use pan_top::pan;
 use std::alloc::{AllocError, Global};
 use std::mem;
@@ -101,6 +101,9 @@ fn run(rt: &HostRuntime, case: Case, words: &str) -> Result<()> {
         shelf_fails,
         sink_fails,
     } = case;
+    if !are_distinct(alloc, &files)? {
+        return Err(anyhow!("two files of one name"));
+    }
     let mut pictures = Vec::new(alloc);
     pictures.push(Seq::from_vec(files))?;
     let mut source = MemSource::new(alloc, pictures, source_fails);

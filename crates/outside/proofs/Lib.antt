@@ -1,4 +1,4 @@
 pub mod Keeping
-pub mod Order
-pub mod Places
+pub mod Twice
+pub mod Short
 pub mod Silent

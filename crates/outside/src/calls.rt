@@ -1,4 +1,4 @@
-ghost use Rattle.std.specs.Prelude.{◌≡◌, ◌≤◌, true};
+ghost use Rattle.std.specs.Prelude.{◌≡◌, ◌≤◌, ◌+◌, true, false};
 ghost use Rattle.outside.specs.Calls.{is_to_fail, after_call, no_calls};
 ghost use Rattle.outside.specs.Causes.{Rose};
 
@@ -43,7 +43,9 @@ impl Calls {
         ensures answer { result ≡ is_to_fail self.old }
         ensures counted { self.new ≡ after_call self.old }
         ensures later { self.old.faults ≤ self.new.faults }
+        ensures once { self.new.faults ≤ self.old.faults + 1 }
         ensures rose { result ≡ true → Rose self.old.faults self.new.faults }
+        ensures stays { result ≡ false → self.new.faults ≡ self.old.faults }
     {
         let call = self.made;
         self.made = call.saturating_add(1);

@@ -1,4 +1,4 @@
-ghost use Rattle.std.specs.Prelude.{◌≡◌, ◌≤◌};
+ghost use Rattle.std.specs.Prelude.{◌≡◌, ◌≤◌, ◌+◌};
 ghost use Rattle.outside.specs.Calls.{one_more};
 ghost use Rattle.outside.specs.Causes.{Rose};
 
@@ -28,6 +28,7 @@ impl Faults {
     pub(crate) fn add(&mut self)
         ensures counted { self.new.count ≡ one_more self.old.count }
         ensures later { self.old.count ≤ self.new.count }
+        ensures once { self.new.count ≤ self.old.count + 1 }
     {
         self.count = self.count.saturating_add(1);
     }
@@ -36,7 +37,9 @@ impl Faults {
     /// counted.
     pub(crate) fn judge(&mut self, error: &io::Error) -> StoreError
         ensures later { self.old.count ≤ self.new.count }
+        ensures once { self.new.count ≤ self.old.count + 1 }
         ensures failed { result ≡ StoreError.Failed → Rose self.old.count self.new.count }
+        ensures wanting { result ≡ StoreError.Memory → self.new.count ≡ self.old.count }
     {
         if error.kind() == ErrorKind::OutOfMemory {
             return StoreError::Memory;

@@ -1,8 +1,12 @@
-ghost use Rattle.std.specs.Prelude.{◌≡◌, ◌++◌, ◌∷◌, [], IfOk, IfErr, IsErrAnd, MatchOption, Ok, Err, true, false, string_bytes, codes};
+ghost use Rattle.std.specs.Prelude.{◌≡◌, ◌≤◌, ◌++◌, ◌∷◌, [], IfOk, IfErr, OnOk, IsErrAnd, IfSome, MatchOption, Some, None, Ok, Err, true, false, string_bytes, codes, length};
+ghost use Rattle.base.specs.declared.limits.TheConstants.{MAX_FILE_BYTES};
+ghost use Rattle.outside.specs.Pictures.{got_of, read_of};
 ghost use Rattle.std.specs.IoError.{error_kind};
 ghost use Rattle.outside.specs.Absent.{says_absent};
 
+use crate::source::Got;
 use base::Text;
+use base::limits::MAX_FILE_BYTES;
 use std::alloc::{AllocError, Global};
 use std::fs::{DirEntry, File, ReadDir};
 use std::io::{ErrorKind, Read, Write};
@@ -11,6 +15,14 @@ use std::{fs, io};
 
 /// The most entries that a listing passes over.
 const MOST_ENTRIES: u64 = 1_000_000;
+
+/// The root of a device; the empty text before it is opened, where no folder is.
+pub(crate) fn root_of(root: &Option<Text>) -> &str {
+    match root {
+        Some(root) => root.as_str(),
+        None => "",
+    }
+}
 
 /// The path of a name below a folder.
 pub(crate) fn path_below(alloc: Global, root: &str, name: &str) -> Result<String, AllocError>
@@ -139,6 +151,38 @@ pub(crate) fn files_below<R: Files + AllocGlobal + Clone + Drop>(
         }
     }
     Ok(walk.names)
+}
+
+/// Reads all that a reader has still to give, where that is at most `MAX_FILE_BYTES` bytes. Of more nothing is
+/// given.
+pub(crate) fn read_short<F: Read + Drop>(from: F, into: &mut Vec<u8>) -> io::Result<Got>
+    ensures told { IfOk result (λ got. IfSome (F.remaining from) (λ bytes. (got ≡ got_of (Some bytes)) × (into.new.items ≡ read_of (Some bytes)))) }
+    ensures within { OnOk result (length into.new.items ≤ MAX_FILE_BYTES) }
+{
+    into.clear();
+    from.take(MAX_FILE_BYTES as u64 + 1).read_to_end(into)?;
+    if into.len() <= MAX_FILE_BYTES {
+        return Ok(Got::Bytes);
+    }
+    into.clear();
+    Ok(Got::TooLong)
+}
+
+/// Reads a file of at most `MAX_FILE_BYTES` bytes.
+pub(crate) fn read_short_file<R: Files + AllocGlobal>(
+    rt: &R,
+    path: &str,
+    into: &mut Vec<u8>,
+) -> io::Result<Got>
+    ensures { OnOk result (length into.new.items ≤ MAX_FILE_BYTES) }
+{
+    if let Some(file) = unless_absent(File::open(rt, path))? {
+        if let Some(got) = unless_absent(read_short(file, into))? {
+            return Ok(got);
+        }
+    }
+    into.clear();
+    Ok(Got::Gone)
 }
 
 /// Reads the first `most` bytes of a file. False where no file is there.

@@ -1,52 +1,59 @@
-ghost use Rattle.std.specs.Prelude.{◌≡◌};
+ghost use Rattle.std.specs.Prelude.{◌≡◌, IfOk, None};
 
 use crate::error::StoreError;
 use crate::faults::Faults;
 use crate::folder;
+use crate::folder::root_of;
 use crate::shelf::Shelf;
 use base::Text;
 use std::alloc::AllocError;
 use std::rt::Files;
 use std::{fs, io};
 
-/// A folder of the host. It tells nothing of what it holds.
+/// A folder of the host. It tells its root, and nothing of what it holds or of what was done to it.
 ///
 /// A name is the path of a regular file from the folder. What is neither a folder nor a regular file is
 /// not listed, nor what lies behind a link.
 #[derive(Drop)]
 pub struct HostShelf<R: Files + AllocGlobal + Clone + Drop> {
     rt: R,
-    root: String,
+    root: Option<Text>,
     faults: Faults,
 }
 
 impl<R: Files + AllocGlobal + Clone + Drop> HostShelf<R> {
     /// A shelf that is still to be opened.
     pub fn new(rt: R) -> HostShelf<R>
-        ensures { result.faults.count ≡ 0 }
+        ensures root { result.root ≡ None }
+        ensures faults { result.faults.count ≡ 0 }
     {
-        let root = String::new(rt.alloc());
         HostShelf {
             rt,
-            root,
+            root: None,
             faults: Faults::new(),
         }
     }
 
     fn path(&self, name: &str) -> Result<String, AllocError> {
-        folder::path_below(self.rt.alloc(), self.root.as_str(), name)
+        folder::path_below(self.rt.alloc(), root_of(&self.root), name)
     }
 
-    fn make_root(&self, root: &str) -> io::Result<String> {
+    fn make_root(&self, root: &str) -> io::Result<Text>
+        ensures { IfOk result (λ made. made ≡ root.now) }
+    {
         fs::create_dir_all(&self.rt, root)?;
-        Ok(String::from_str(self.rt.alloc(), root)?)
+        Ok(Text::new(self.rt.alloc(), root)?)
     }
 }
 
 impl<R: Files + AllocGlobal + Clone + Drop> Shelf for HostShelf<R> {
     ghost use Rattle.std.specs.Prelude.{None};
 
+    ghost opened = { λ s. s.root };
+
     ghost cell = { λ _ _. None };
+
+    ghost changes = { λ _. None };
 
     ghost fault_count = { λ s. s.faults.count };
 
@@ -57,7 +64,7 @@ impl<R: Files + AllocGlobal + Clone + Drop> Shelf for HostShelf<R> {
     fn open_root(&mut self, root: &str) -> Result<(), StoreError> {
         match self.make_root(root) {
             Ok(root) => {
-                self.root = root;
+                self.root = Some(root);
                 Ok(())
             }
             Err(error) => Err(self.faults.judge(&error)),
@@ -65,7 +72,7 @@ impl<R: Files + AllocGlobal + Clone + Drop> Shelf for HostShelf<R> {
     }
 
     fn names(&mut self, into: &mut Vec<Text>) -> Result<(), StoreError> {
-        match folder::files_below(&self.rt, self.root.as_str()) {
+        match folder::files_below(&self.rt, root_of(&self.root)) {
             Ok(names) => {
                 *into = names;
                 Ok(())

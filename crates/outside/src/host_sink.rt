@@ -16,6 +16,7 @@ pub struct HostSink<W: Write + Drop> {
 }
 
 impl<W: Write + Drop> HostSink<W> {
+    /// A sink over a writer.
     pub fn new(writer: W) -> HostSink<W>
         ensures { result.faults.count ≡ 0 }
     {
@@ -40,7 +41,7 @@ impl<W: Write + Drop> Sink for HostSink<W> {
     // The writer may tell what it holds, as one in memory does.
     fn write(&mut self, bytes: &[u8]) -> Result<(), StoreError>
         ensures ok { OnOk result (Appends None bytes.now None) }
-        ensures err { OnErr result (AppendsPart None bytes.now None) }
+        ensures refused { OnErr result (AppendsPart None bytes.now None) }
         ensures cause { HasCause self.old.faults.count self.new.faults.count result }
         ensures written { OnOk result (WriterAppends (W.contents self.old.writer) (W.contents self.new.writer) bytes.now) }
     {

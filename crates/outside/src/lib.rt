@@ -1,44 +1,49 @@
 //! What lies outside: where files are read from, where files are put, and where text is written. Each is
 //! a trait with a meaning, what the object holds where it tells that, and a count of its faults.
 //!
-//! In reading order: `error`; the traits `source`, `shelf` and `sink`; `picture` (files by name, as a scan
-//! collects them) and `file_name` (the grammar of their names); the forms in memory that never fail,
-//! `sure_source`, `sure_shelf`, `sure_sink`; those with a list of the calls that are to fail (`calls`),
-//! `mem_source`, `mem_shelf`, `mem_sink`; and those of the host, `faults`, `folder`, `host_source`,
-//! `host_shelf`, `host_sink`.
+//! In reading order: `error`; the traits `source`, `shelf`, `lines` and `sink`; `distinct` (a test of a
+//! picture's names); the forms in memory that never fail, `sure_source`, `sure_shelf`, `sure_lines`, `sure_sink`; those
+//! with a list of the calls that are to fail (`calls`), `mem_source`, `mem_shelf`, `mem_lines`, `mem_sink`; and
+//! those of the host, `faults`, `folder`, `host_source`, `host_shelf`, `host_lines`, `host_sink`.
 #![tactic(auto)]
 
 mod calls;
+mod distinct;
 mod error;
 mod faults;
-mod file_name;
 mod folder;
+mod host_lines;
 mod host_shelf;
 mod host_sink;
 mod host_source;
+mod lines;
+mod mem_lines;
 mod mem_shelf;
 mod mem_sink;
 mod mem_source;
-mod picture;
 mod shelf;
 mod sink;
 mod source;
+mod sure_lines;
 mod sure_shelf;
 mod sure_sink;
 mod sure_source;
 
+pub use distinct::are_distinct;
 pub use error::StoreError;
-pub use file_name::is_file_name;
+pub use host_lines::HostLines;
 pub use host_shelf::HostShelf;
 pub use host_sink::HostSink;
 pub use host_source::HostSource;
+pub use lines::Lines;
+pub use mem_lines::MemLines;
 pub use mem_shelf::MemShelf;
 pub use mem_sink::MemSink;
 pub use mem_source::MemSource;
-pub use picture::{Content, Picture, PictureFile};
-pub use shelf::Shelf;
+pub use shelf::{Change, Shelf};
 pub use sink::Sink;
 pub use source::{Got, MemFile, Source};
+pub use sure_lines::SureLines;
 pub use sure_shelf::{Held, SureShelf};
 pub use sure_sink::SureSink;
 pub use sure_source::SureSource;

@@ -1,13 +1,14 @@
-ghost use Rattle.std.specs.Prelude.{◌≡◌, ◌≤◌, ◌↔◌, ℕ, List, OnOk, OnErr, IfOk, IfSome, IsErrOf, Some, None, true, is_some, length, bytes_eq};
-ghost use Rattle.std.specs.List.{list_any};
+ghost use Rattle.std.specs.Prelude.{◌≡◌, ◌≤◌, ◌↔◌, [], OnOk, OnErr, IfOk, IfSome, IsErrOf, Some, None, true, length};
 ghost use Rattle.outside.specs.Calls.{is_to_fail, after_call, no_calls};
 ghost use Rattle.outside.specs.Causes.{HasCause};
-ghost use Rattle.outside.specs.Cells.{Gives, Opens, Reads};
+ghost use Rattle.outside.specs.Cells.{Sets, AllBut, IsReadOf, AreSame, Names, TellsAsMuch};
+ghost use Rattle.outside.specs.Changes.{Does};
 ghost use Rattle.outside.specs.Kept.{cell_of};
+ghost use Rattle.outside.specs.declared.shelf.Change.TheVariants as change;
 
 use crate::calls::Calls;
 use crate::error::StoreError;
-use crate::shelf::Shelf;
+use crate::shelf::{Change, Shelf};
 use crate::sure_shelf::{Held, SureShelf};
 use base::Text;
 use std::alloc::Global;
@@ -20,10 +21,12 @@ pub struct MemShelf {
 }
 
 impl MemShelf {
-    /// A shelf that holds these; of several with one name the first counts. `failing` are the numbers of
-    /// the calls that are to fail, the first being 0.
+    /// A shelf that holds these, still to be opened; of several with one name the first counts. `failing` are
+    /// the numbers of the calls that are to fail, the first being 0.
     pub fn new(alloc: Global, held: Vec<Held>, failing: Vec<u64>) -> MemShelf
-        ensures held { result.shelf ≡ held.items }
+        ensures root { result.shelf.root ≡ None }
+        ensures held { result.shelf.held ≡ held.items }
+        ensures changes { result.shelf.changes ≡ [] }
         ensures calls { result.calls ≡ no_calls failing.items }
     {
         MemShelf {
@@ -34,16 +37,28 @@ impl MemShelf {
 
     /// What the shelf holds.
     pub fn held(&self) -> &[Held]
-        ensures { result.now ≡ self.now.shelf }
+        ensures { result.now ≡ self.now.shelf.held }
     {
         self.shelf.held()
+    }
+
+    /// What was done to the shelf, in order.
+    pub fn changes(&self) -> &[Change]
+        ensures { result.now ≡ self.now.shelf.changes }
+    {
+        self.shelf.changes()
     }
 }
 
 impl Shelf for MemShelf {
+    ghost use Rattle.std.specs.Prelude.{Some};
     ghost use Rattle.outside.specs.Kept.{cell_of};
 
-    ghost cell = { λ s. cell_of s.shelf };
+    ghost opened = { λ s. s.shelf.root };
+
+    ghost cell = { λ s. cell_of s.shelf.held };
+
+    ghost changes = { λ s. Some s.shelf.changes };
 
     ghost fault_count = { λ s. s.calls.faults };
 
@@ -52,7 +67,10 @@ impl Shelf for MemShelf {
     }
 
     fn open_root(&mut self, root: &str) -> Result<(), StoreError>
-        ensures same { (n : List ℕ) → cell_of self.new.shelf n ≡ cell_of self.old.shelf n }
+        ensures opened { OnOk result (self.new.shelf.root ≡ Some root.now) }
+        ensures refused { OnErr result (self.new.shelf.root ≡ self.old.shelf.root) }
+        ensures same { AreSame (cell_of self.old.shelf.held) (cell_of self.new.shelf.held) }
+        ensures changes { Some self.new.shelf.changes ≡ Some self.old.shelf.changes }
         ensures cause { HasCause self.old.calls.faults self.new.calls.faults result }
         ensures counted { self.new.calls ≡ after_call self.old.calls }
         ensures listed { IsErrOf result StoreError.Failed ↔ (is_to_fail self.old.calls ≡ true) }
@@ -64,8 +82,10 @@ impl Shelf for MemShelf {
     }
 
     fn names(&mut self, into: &mut Vec<Text>) -> Result<(), StoreError>
-        ensures ok { OnOk result ((n : List ℕ) → IfSome (cell_of self.old.shelf n) (λ content. is_some content ≡ list_any (λ m. bytes_eq m n) into.new.items)) }
-        ensures same { (n : List ℕ) → cell_of self.new.shelf n ≡ cell_of self.old.shelf n }
+        ensures ok { OnOk result (Names (cell_of self.old.shelf.held) into.new.items) }
+        ensures opened { self.new.shelf.root ≡ self.old.shelf.root }
+        ensures same { AreSame (cell_of self.old.shelf.held) (cell_of self.new.shelf.held) }
+        ensures changes { Some self.new.shelf.changes ≡ Some self.old.shelf.changes }
         ensures cause { HasCause self.old.calls.faults self.new.calls.faults result }
         ensures counted { self.new.calls ≡ after_call self.old.calls }
         ensures listed { IsErrOf result StoreError.Failed ↔ (is_to_fail self.old.calls ≡ true) }
@@ -77,9 +97,11 @@ impl Shelf for MemShelf {
     }
 
     fn read(&mut self, name: &str, most: usize, into: &mut Vec<u8>) -> Result<bool, StoreError>
-        ensures ok { IfOk result (λ there. IfSome (cell_of self.old.shelf name.now) (λ content. Reads most there into.new.items content)) }
+        ensures ok { IfOk result (λ there. IfSome (cell_of self.old.shelf.held name.now) (IsReadOf most there into.new.items)) }
         ensures within { OnOk result (length into.new.items ≤ most) }
-        ensures same { (n : List ℕ) → cell_of self.new.shelf n ≡ cell_of self.old.shelf n }
+        ensures opened { self.new.shelf.root ≡ self.old.shelf.root }
+        ensures same { AreSame (cell_of self.old.shelf.held) (cell_of self.new.shelf.held) }
+        ensures changes { Some self.new.shelf.changes ≡ Some self.old.shelf.changes }
         ensures cause { HasCause self.old.calls.faults self.new.calls.faults result }
         ensures counted { self.new.calls ≡ after_call self.old.calls }
         ensures listed { IsErrOf result StoreError.Failed ↔ (is_to_fail self.old.calls ≡ true) }
@@ -91,9 +113,12 @@ impl Shelf for MemShelf {
     }
 
     fn put(&mut self, name: &str, bytes: &[u8]) -> Result<(), StoreError>
-        ensures ok { OnOk result (Gives (cell_of self.old.shelf) name.now (Some bytes.now) (cell_of self.new.shelf)) }
-        ensures err { OnErr result (Opens (cell_of self.old.shelf) name.now (cell_of self.new.shelf)) }
-        ensures tells { (n : List ℕ) → is_some (cell_of self.new.shelf n) ≡ is_some (cell_of self.old.shelf n) }
+        ensures ok { OnOk result (Sets (cell_of self.old.shelf.held) name.now (Some bytes.now) (cell_of self.new.shelf.held)) }
+        ensures refused { OnErr result (AllBut (cell_of self.old.shelf.held) name.now (cell_of self.new.shelf.held)) }
+        ensures tells { TellsAsMuch (cell_of self.old.shelf.held) (cell_of self.new.shelf.held) }
+        ensures done { OnOk result (Does (Some self.old.shelf.changes) (change.Put name.now) (Some self.new.shelf.changes)) }
+        ensures undone { OnErr result (Some self.new.shelf.changes ≡ Some self.old.shelf.changes) }
+        ensures opened { self.new.shelf.root ≡ self.old.shelf.root }
         ensures cause { HasCause self.old.calls.faults self.new.calls.faults result }
         ensures counted { self.new.calls ≡ after_call self.old.calls }
         ensures listed { IsErrOf result StoreError.Failed ↔ (is_to_fail self.old.calls ≡ true) }
@@ -105,9 +130,12 @@ impl Shelf for MemShelf {
     }
 
     fn remove(&mut self, name: &str) -> Result<(), StoreError>
-        ensures ok { OnOk result (Gives (cell_of self.old.shelf) name.now None (cell_of self.new.shelf)) }
-        ensures err { OnErr result (Opens (cell_of self.old.shelf) name.now (cell_of self.new.shelf)) }
-        ensures tells { (n : List ℕ) → is_some (cell_of self.new.shelf n) ≡ is_some (cell_of self.old.shelf n) }
+        ensures ok { OnOk result (Sets (cell_of self.old.shelf.held) name.now (None) (cell_of self.new.shelf.held)) }
+        ensures refused { OnErr result (AllBut (cell_of self.old.shelf.held) name.now (cell_of self.new.shelf.held)) }
+        ensures tells { TellsAsMuch (cell_of self.old.shelf.held) (cell_of self.new.shelf.held) }
+        ensures done { OnOk result (Does (Some self.old.shelf.changes) (change.Removed name.now) (Some self.new.shelf.changes)) }
+        ensures undone { OnErr result (Some self.new.shelf.changes ≡ Some self.old.shelf.changes) }
+        ensures opened { self.new.shelf.root ≡ self.old.shelf.root }
         ensures cause { HasCause self.old.calls.faults self.new.calls.faults result }
         ensures counted { self.new.calls ≡ after_call self.old.calls }
         ensures listed { IsErrOf result StoreError.Failed ↔ (is_to_fail self.old.calls ≡ true) }

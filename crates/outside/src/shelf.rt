@@ -1,16 +1,32 @@
-ghost use Rattle.std.specs.Prelude.{◌≡◌, ◌≤◌, ℕ, List, OnOk, OnErr, IfOk, IfSome, Some, None, is_some, length, bytes_eq};
-ghost use Rattle.std.specs.List.{list_any};
+ghost use Rattle.std.specs.Prelude.{◌≡◌, ◌≤◌, ℕ, List, OnOk, OnErr, IfOk, IfSome, Option, Some, None, length};
 ghost use Rattle.outside.specs.Causes.{HasCause};
-ghost use Rattle.outside.specs.Cells.{Cell, Gives, Opens, Reads};
+ghost use Rattle.outside.specs.Cells.{Cell, Sets, AllBut, IsReadOf, AreSame, Names, TellsAsMuch};
+ghost use Rattle.outside.specs.Changes.{Does};
+ghost use Rattle.outside.specs.declared.shelf.Change.{Change};
+ghost use Rattle.outside.specs.declared.shelf.Change.TheVariants as change;
 
 use crate::error::StoreError;
 use base::Text;
 
+/// What was done to a shelf.
+#[derive(Debug, Drop)]
+pub enum Change {
+    /// The name got bytes.
+    Put(Text),
+    /// The name was taken away, or was absent already.
+    Removed(Text),
+}
+
 /// Names with bytes.
 ///
-/// `cell` is what the shelf tells of each name.
+/// `opened` is the root that the shelf was opened with last. `cell` is what the shelf tells of each name, and
+/// `changes` are the names that were put and removed so far, in order, where it tells them.
 pub trait Shelf {
+    ghost opened: { Self → Option (List ℕ) };
+
     ghost cell: { Self → List ℕ → Cell };
+
+    ghost changes: { Self → Option (List Change) };
 
     ghost fault_count: { Self → ℕ };
 
@@ -18,37 +34,50 @@ pub trait Shelf {
     fn faults(&self) -> u64
         ensures { result ≡ fault_count self.now };
 
-    /// Makes the shelf ready.
+    /// Makes the shelf ready. A refused call leaves it as it was.
     fn open_root(&mut self, root: &str) -> Result<(), StoreError>
-        ensures same { (n : List ℕ) → cell self.new n ≡ cell self.old n }
+        ensures opened { OnOk result (opened self.new ≡ Some root.now) }
+        ensures refused { OnErr result (opened self.new ≡ opened self.old) }
+        ensures same { AreSame (cell self.old) (cell self.new) }
+        ensures changes { changes self.new ≡ changes self.old }
         ensures cause { HasCause (fault_count self.old) (fault_count self.new) result };
 
-    /// Gives all names that are there, and no other. After a refusal `into` is open.
+    /// Gives all names that are there, and no other. After a refusal `into` is unspecified.
     fn names(&mut self, into: &mut Vec<Text>) -> Result<(), StoreError>
-        ensures ok { OnOk result ((n : List ℕ) → IfSome (cell self.old n) (λ content. is_some content ≡ list_any (λ m. bytes_eq m n) into.new.items)) }
-        ensures same { (n : List ℕ) → cell self.new n ≡ cell self.old n }
+        ensures ok { OnOk result (Names (cell self.old) into.new.items) }
+        ensures opened { opened self.new ≡ opened self.old }
+        ensures same { AreSame (cell self.old) (cell self.new) }
+        ensures changes { changes self.new ≡ changes self.old }
         ensures cause { HasCause (fault_count self.old) (fault_count self.new) result };
 
     /// Reads the first `most` bytes of a name, or gives false where it is absent. At Ok `into` holds those
-    /// bytes alone, and nothing where the name is absent. After a refusal `into` is open.
+    /// bytes alone, and nothing where the name is absent. After a refusal `into` is unspecified.
     fn read(&mut self, name: &str, most: usize, into: &mut Vec<u8>) -> Result<bool, StoreError>
-        ensures ok { IfOk result (λ there. IfSome (cell self.old name.now) (λ content. Reads most there into.new.items content)) }
+        ensures ok { IfOk result (λ there. IfSome (cell self.old name.now) (IsReadOf most there into.new.items)) }
         ensures within { OnOk result (length into.new.items ≤ most) }
-        ensures same { (n : List ℕ) → cell self.new n ≡ cell self.old n }
+        ensures opened { opened self.new ≡ opened self.old }
+        ensures same { AreSame (cell self.old) (cell self.new) }
+        ensures changes { changes self.new ≡ changes self.old }
         ensures cause { HasCause (fault_count self.old) (fault_count self.new) result };
 
-    /// Gives the name these bytes. A refused call leaves this name open, and all others as they were.
+    /// Gives the name these bytes. A refused call leaves this name unspecified, and all others as they were.
     fn put(&mut self, name: &str, bytes: &[u8]) -> Result<(), StoreError>
-        ensures ok { OnOk result (Gives (cell self.old) name.now (Some bytes.now) (cell self.new)) }
-        ensures err { OnErr result (Opens (cell self.old) name.now (cell self.new)) }
-        ensures tells { (n : List ℕ) → is_some (cell self.new n) ≡ is_some (cell self.old n) }
+        ensures ok { OnOk result (Sets (cell self.old) name.now (Some bytes.now) (cell self.new)) }
+        ensures refused { OnErr result (AllBut (cell self.old) name.now (cell self.new)) }
+        ensures tells { TellsAsMuch (cell self.old) (cell self.new) }
+        ensures done { OnOk result (Does (changes self.old) (change.Put name.now) (changes self.new)) }
+        ensures undone { OnErr result (changes self.new ≡ changes self.old) }
+        ensures opened { opened self.new ≡ opened self.old }
         ensures cause { HasCause (fault_count self.old) (fault_count self.new) result };
 
-    /// Takes the name away. One that is absent already is fine. A refused call leaves this name open, and
-    /// all others as they were.
+    /// Takes the name away. One that is absent already is fine. A refused call leaves this name unspecified,
+    /// and all others as they were.
     fn remove(&mut self, name: &str) -> Result<(), StoreError>
-        ensures ok { OnOk result (Gives (cell self.old) name.now None (cell self.new)) }
-        ensures err { OnErr result (Opens (cell self.old) name.now (cell self.new)) }
-        ensures tells { (n : List ℕ) → is_some (cell self.new n) ≡ is_some (cell self.old n) }
+        ensures ok { OnOk result (Sets (cell self.old) name.now None (cell self.new)) }
+        ensures refused { OnErr result (AllBut (cell self.old) name.now (cell self.new)) }
+        ensures tells { TellsAsMuch (cell self.old) (cell self.new) }
+        ensures done { OnOk result (Does (changes self.old) (change.Removed name.now) (changes self.new)) }
+        ensures undone { OnErr result (changes self.new ≡ changes self.old) }
+        ensures opened { opened self.new ≡ opened self.old }
         ensures cause { HasCause (fault_count self.old) (fault_count self.new) result };
 }

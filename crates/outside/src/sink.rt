@@ -19,6 +19,6 @@ pub trait Sink {
     /// Appends all the bytes. After a refusal a first part of them is appended.
     fn write(&mut self, bytes: &[u8]) -> Result<(), StoreError>
         ensures ok { OnOk result (Appends (held self.old) bytes.now (held self.new)) }
-        ensures err { OnErr result (AppendsPart (held self.old) bytes.now (held self.new)) }
+        ensures refused { OnErr result (AppendsPart (held self.old) bytes.now (held self.new)) }
         ensures cause { HasCause (fault_count self.old) (fault_count self.new) result };
 }

@@ -1,8 +1,8 @@
-ghost use Rattle.std.specs.Prelude.{◌≡◌, IfOk, option_copied};
+ghost use Rattle.std.specs.Prelude.{◌≡◌, [], None, IfOk, option_copied};
 ghost use Rattle.outside.specs.Kept.{kept, without};
 
 use crate::error::StoreError;
-use crate::shelf::Shelf;
+use crate::shelf::{Change, Shelf};
 use base::{Bytes, Text};
 use std::alloc::{AllocError, Global};
 use std::marker::Model;
@@ -18,16 +18,17 @@ pub struct Held {
 #[derive(Debug, Drop)]
 pub struct SureShelf {
     alloc: Global,
+    root: Option<Text>,
     held: Vec<Held>,
+    changes: Vec<Change>,
 }
 
 impl Model for SureShelf {
-    ghost use Rattle.std.specs.Prelude.{List};
-    ghost use Rattle.outside.specs.declared.sure_shelf.Held.{Held};
+    ghost use Rattle.outside.specs.Stocks.{Stock};
 
-    ghost Value = { List Held };
+    ghost Value = { Stock };
 
-    ghost view = { λ s. s.held.items };
+    ghost view = { λ s. record { root = s.root; held = s.held.items; changes = s.changes.items } };
 }
 
 fn find<'a>(held: &'a [Held], name: &str) -> Option<&'a [u8]>
@@ -57,25 +58,44 @@ fn take_out(alloc: Global, held: &[Held], name: &str) -> Result<Vec<Held>, Alloc
 }
 
 impl SureShelf {
-    /// A shelf that holds these. Of several with one name the first counts.
+    /// A shelf that holds these, still to be opened. Of several with one name the first counts.
     pub fn new(alloc: Global, held: Vec<Held>) -> SureShelf
-        ensures { result ≡ held.items }
+        ensures root { result.root ≡ None }
+        ensures held { result.held ≡ held.items }
+        ensures changes { result.changes ≡ [] }
     {
-        SureShelf { alloc, held }
+        SureShelf {
+            alloc,
+            root: None,
+            held,
+            changes: Vec::new(alloc),
+        }
     }
 
     /// What the shelf holds.
     pub fn held(&self) -> &[Held]
-        ensures { result.now ≡ self.now }
+        ensures { result.now ≡ self.now.held }
     {
         &self.held
+    }
+
+    /// What was done to the shelf, in order.
+    pub fn changes(&self) -> &[Change]
+        ensures { result.now ≡ self.now.changes }
+    {
+        &self.changes
     }
 }
 
 impl Shelf for SureShelf {
+    ghost use Rattle.std.specs.Prelude.{Some};
     ghost use Rattle.outside.specs.Kept.{cell_of};
 
-    ghost cell = { cell_of };
+    ghost opened = { λ s. s.root };
+
+    ghost cell = { λ s. cell_of s.held };
+
+    ghost changes = { λ s. Some s.changes };
 
     ghost fault_count = { λ _. 0 };
 
@@ -83,7 +103,8 @@ impl Shelf for SureShelf {
         0
     }
 
-    fn open_root(&mut self, _root: &str) -> Result<(), StoreError> {
+    fn open_root(&mut self, root: &str) -> Result<(), StoreError> {
+        self.root = Some(Text::new(self.alloc, root)?);
         Ok(())
     }
 
@@ -112,14 +133,19 @@ impl Shelf for SureShelf {
         let mut rest = take_out(self.alloc, &self.held, name)?;
         let name = Text::new(self.alloc, name)?;
         let bytes = Bytes::from_slice(self.alloc, bytes)?;
+        let change = Change::Put(name.share()?);
         rest.push(Held { name, bytes })?;
+        self.changes.push(change)?;
         self.held = rest;
         Ok(())
     }
 
     #[tactic(auto, using(crate::proofs::Keeping::cell_without))]
     fn remove(&mut self, name: &str) -> Result<(), StoreError> {
-        self.held = take_out(self.alloc, &self.held, name)?;
+        let rest = take_out(self.alloc, &self.held, name)?;
+        let change = Change::Removed(Text::new(self.alloc, name)?);
+        self.changes.push(change)?;
+        self.held = rest;
         Ok(())
     }
 }

@@ -20,6 +20,7 @@ impl Model for SureSink {
 }
 
 impl SureSink {
+    /// A sink that holds nothing.
     pub fn new(alloc: Global) -> SureSink
         ensures { result ≡ [] }
     {

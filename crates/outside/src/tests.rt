@@ -1,8 +1,9 @@
-ghost use Rattle.std.specs.Prelude.{◌≡◌, ◌<◌};
+ghost use Rattle.std.specs.Prelude.{◌≡◌, ◌<◌, IfOk, true};
+ghost use Rattle.outside.specs.Pictures.{are_pictures};
 
 use crate::{
-    Content, Got, Held, HostShelf, HostSink, HostSource, MemFile, MemShelf, MemSink, MemSource,
-    Picture, Shelf, Sink, Source, StoreError, SureShelf, SureSink, SureSource, is_file_name,
+    Got, Held, HostShelf, HostSink, HostSource, MemFile, MemShelf, MemSink, MemSource, Shelf, Sink,
+    Source, StoreError, SureShelf, SureSink, SureSource, are_distinct,
 };
 use base::{Bytes, Seq, Text};
 use std::alloc::{AllocError, Global};
@@ -10,54 +11,9 @@ use std::io::{ErrorKind, Write};
 use std::test::Fail;
 use std::{fs, io};
 
-#[test]
-fn file_names(rt: HostRuntime) {
-    let cases = [
-        ("a", true),
-        ("site/one two.pan", true),
-        ("a~/b.c", true),
-        ("", false),
-        ("/a", false),
-        ("a/", false),
-        ("a//b", false),
-        (".a", false),
-        ("a/.b", false),
-        ("a/\u{7f}", false),
-        ("\u{e9}", false),
-    ];
-    for (name, is_one) in cases {
-        assert_eq!(rt; is_file_name(name.as_bytes()), is_one);
-    }
-    assert!(rt; is_file_name([b'x'; 400].as_slice()));
-    assert!(rt; !is_file_name([b'x'; 401].as_slice()));
-}
-
-fn add(picture: &mut Picture, alloc: Global, name: &str) -> Result<(), AllocError> {
-    let content = Content::Bytes(Bytes::from_slice(alloc, b"x")?);
-    if picture.find(name).is_none() {
-        picture.add(Text::new(alloc, name)?, content)?;
-    }
-    Ok(())
-}
-
-#[test]
-fn a_picture_is_in_byte_order(rt: HostRuntime) -> Result<(), Fail> {
-    let mut picture = Picture::new(rt.alloc());
-    for name in ["b", "a/x", "a", "c"] {
-        add(&mut picture, rt.alloc(), name)?;
-    }
-    let mut names = String::new(rt.alloc());
-    for file in picture.files() {
-        names.push_str(file.name.as_str())?;
-        names.push(' ')?;
-    }
-    assert_eq!(rt; names.as_str(), "a a/x b c ");
-    assert!(rt; picture.find("a/x").is_some());
-    assert!(rt; picture.find("a/").is_none());
-    Ok(())
-}
-
-fn pictures(alloc: Global) -> Result<Vec<Seq<MemFile>>, AllocError> {
+fn pictures(alloc: Global) -> Result<Vec<Seq<MemFile>>, AllocError>
+    ensures { IfOk result (λ pictures. are_pictures pictures.items ≡ true) }
+{
     let mut first = Vec::new(alloc);
     first.push(MemFile {
         name: Text::new(alloc, "a.pan")?,
@@ -67,6 +23,9 @@ fn pictures(alloc: Global) -> Result<Vec<Seq<MemFile>>, AllocError> {
         name: Text::new(alloc, "gone.pan")?,
         content: None,
     })?;
+    if !are_distinct(alloc, &first)? {
+        first.clear();
+    }
     let mut pictures = Vec::new(alloc);
     pictures.push(Seq::from_vec(first))?;
     Ok(pictures)

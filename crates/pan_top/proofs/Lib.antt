@@ -5,4 +5,5 @@ pub mod Scanning
 pub mod Naming
 pub mod Wanting
 pub mod Ending
+pub mod Opening
 pub mod Reading

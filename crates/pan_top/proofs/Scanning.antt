@@ -2,8 +2,9 @@
 use Rattle.std.proofs.Common.{◌≡◌, ℕ, suc, zero, ◌+◌, ◌<◌, ◌≤◌, true, false, List, [], ◌∷◌, Option, Some, None, IfSome, nat_lt, length, drop, sum_by, count_by, fold, refl, sym, ap, ◌∙◌, arith}
 use Rattle.std.specs.Prelude.{slice_get, option_map, if◌then◌else◌, cond}
 use Rattle.std.proofs.lemmas.List.Sums.{sum_by-cons}
+use Rattle.base.specs.declared.limits.TheConstants.{MAX_SCAN_FILES, MAX_SCAN_BYTES}
 use Rattle.outside.specs.declared.source.MemFile.{MemFile}
-use Rattle.outside.specs.declared.picture.PictureFile.{PictureFile}
+use Rattle.load_path.specs.declared.picture.PictureFile.{PictureFile}
 use Rattle.outside.specs.Pictures.{next_picture}
 use Rattle.pan_top.specs.Scans.{has_file_name, weight_of, taken_in, scanned_of}
 
@@ -39,11 +40,11 @@ picture_step (Some fs) i count w old new within long read before =
     ap (λ p. fold taken_in p (drop (i + 1) fs)) r.2.1 ∙ sym (ap (fold taken_in old) r.1) ∙ before
 
 -- the bytes that are read pass the limit
-pub scan_much : (coming : Option (List (List MemFile))) (told : Option (List MemFile)) (count named i passed : ℕ) → told ≡ option_map next_picture coming → IfSome told (λ fs. length fs ≡ count) → IfSome told (λ fs. length fs ≡ count → named ≡ count_by has_file_name fs) → named ≤ 50000 → 268435456 < passed → IfSome told (λ fs. passed + sum_by weight_of (drop i fs) ≡ sum_by weight_of fs) → IfSome coming (λ ps. None ≡ scanned_of (next_picture ps))
+pub scan_much : (coming : Option (List (List MemFile))) (told : Option (List MemFile)) (count named i passed : ℕ) → told ≡ option_map next_picture coming → IfSome told (λ fs. length fs ≡ count) → IfSome told (λ fs. length fs ≡ count → named ≡ count_by has_file_name fs) → named ≤ MAX_SCAN_FILES → MAX_SCAN_BYTES < passed → IfSome told (λ fs. passed + sum_by weight_of (drop i fs) ≡ sum_by weight_of fs) → IfSome coming (λ ps. None ≡ scanned_of (next_picture ps))
 scan_much None told count named i passed is long names few over weights = tt
 scan_much (Some ps) told count named i passed is long names few over weights =
     let counted : named ≡ count_by has_file_name (next_picture ps) = (rw is at names) (rw is at long) in
     let total : passed + sum_by weight_of (drop i (next_picture ps)) ≡ sum_by weight_of (next_picture ps) = rw is at weights in
-    let under : nat_lt 50000 (count_by has_file_name (next_picture ps)) ≡ false = grind (arith, counted, few) in
-    let much : nat_lt 268435456 (sum_by weight_of (next_picture ps)) ≡ true = grind (arith, total, over) in
+    let under : nat_lt MAX_SCAN_FILES (count_by has_file_name (next_picture ps)) ≡ false = grind (arith, counted, few) in
+    let much : nat_lt MAX_SCAN_BYTES (sum_by weight_of (next_picture ps)) ≡ true = grind (arith, total, over) in
     rw (under, much) refl

@@ -7,7 +7,7 @@ use Rattle.std.specs.List.Sorted.{IsPermutation}
 use Rattle.std.proofs.lemmas.List.Sorted.{list_any-IsPermutation}
 use Rattle.std.specs.Prelude.{cond}
 use Rattle.std.proofs.lemmas.Slice.Eq.{bytes_eq-Decides}
-use Rattle.outside.specs.Cells.{Cell, given, Opens, Gives}
+use Rattle.outside.specs.Cells.{Cell, with_content, AllBut, Sets}
 use Rattle.pan_top.specs.declared.publish.Want.{Want}
 use Rattle.pan_top.specs.declared.status.End.{End}
 use Rattle.pan_top.specs.declared.status.End.TheVariants as E
@@ -36,7 +36,7 @@ pub apart : (name n : List ℕ) → is_own name ≡ true → is_own n ≡ false 
 apart name n own other = apart_by name n own other (bytes_eq name n) refl
 
 -- a call that failed on a name leaves the run under way, but for names that are open
-left_at : (is_open : List ℕ → Bool) (left will : List ℕ → Cell → Cell) (start now new : List ℕ → Cell) (name : List ℕ) → ((n : List ℕ) (c : Cell) → is_own n ≡ false → will n c ≡ c) → is_own name ≡ true → Underway left (λ n. will n (start n)) start now → Opens now name new → ((n : List ℕ) → is_open n ≡ false → bytes_eq name n ≡ false) → Leaves is_open will start new
+left_at : (is_open : List ℕ → Bool) (left will : List ℕ → Cell → Cell) (start now new : List ℕ → Cell) (name : List ℕ) → ((n : List ℕ) (c : Cell) → is_own n ≡ false → will n c ≡ c) → is_own name ≡ true → Underway left (λ n. will n (start n)) start now → AllBut now name new → ((n : List ℕ) → is_open n ≡ false → bytes_eq name n ≡ false) → Leaves is_open will start new
 left_at is_open left will start now new name keeps own u opens covers = record {
   others = λ n other. opens n (apart name n own other) ∙ (elim (u.stands n) as (λ _. now n ≡ start n) [ inl s ↦ s | inr t ↦ t ∙ keeps n (start n) other ]);
   own = λ n closed. elim (u.stands n) as (λ _. (new n ≡ start n) ⊎ (new n ≡ will n (start n))) [ inl s ↦ inl (opens n (covers n closed) ∙ s) | inr t ↦ inr (opens n (covers n closed) ∙ t) ];
@@ -46,7 +46,7 @@ covers_by : (m name n : List ℕ) (b : Bool) → is_file_of m name ≡ true → 
 covers_by m name n false file closed is = refl
 covers_by m name n true file closed is = let e : name ≡ n = (bytes_eq-Decides name n).0 is in let f : true ≡ false = sym file ∙ ap (is_file_of m) e ∙ closed in cc
 
-pub left_early : (e : End) (left will : List ℕ → Cell → Cell) (start now new : List ℕ → Cell) (name : List ℕ) → ((n : List ℕ) (c : Cell) → is_own n ≡ false → will n c ≡ c) → is_own name ≡ true → Underway left (λ n. will n (start n)) start now → Opens now name new → IsEndAt name e → Stopped e will start new
+pub left_early : (e : End) (left will : List ℕ → Cell → Cell) (start now new : List ℕ → Cell) (name : List ℕ) → ((n : List ℕ) (c : Cell) → is_own n ≡ false → will n c ≡ c) → is_own name ≡ true → Underway left (λ n. will n (start n)) start now → AllBut now name new → IsEndAt name e → Stopped e will start new
 left_early E.Source left will start now new name keeps own u opens at = absurd at
 left_early E.Shelf left will start now new name keeps own u opens at = absurd at
 left_early (E.Publishing m) left will start now new name keeps own u opens at = left_at (is_file_of m) left will start now new name keeps own u opens (λ n closed. covers_by m name n (bytes_eq name n) at closed refl)
@@ -72,7 +72,7 @@ names_step true false bytes rest = refl
 names_step false held bytes rest = refl
 
 -- clearing
-sweep_twice : (b a g : Bool) (c : Cell) → (if a && g then given None (if b && g then given None c else c) else (if b && g then given None c else c)) ≡ (if (b || a) && g then given None c else c)
+sweep_twice : (b a g : Bool) (c : Cell) → (if a && g then with_content None (if b && g then with_content None c else c) else (if b && g then with_content None c else c)) ≡ (if (b || a) && g then with_content None c else c)
 sweep_twice true true true None = refl
 sweep_twice true true true (Some x) = refl
 sweep_twice true true false c = refl
@@ -83,22 +83,22 @@ sweep_twice false true false c = refl
 sweep_twice false false true c = refl
 sweep_twice false false false c = refl
 
-sweep_either : (b a g : Bool) (c : Cell) → ((if b && g then given None c else c) ≡ c) ⊎ ((if b && g then given None c else c) ≡ (if (b || a) && g then given None c else c))
+sweep_either : (b a g : Bool) (c : Cell) → ((if b && g then with_content None c else c) ≡ c) ⊎ ((if b && g then with_content None c else c) ≡ (if (b || a) && g then with_content None c else c))
 sweep_either true a true c = inr refl
 sweep_either true a false c = inl refl
 sweep_either false a g c = inl refl
 
 -- only the name itself goes
-swept_by : (m n : List ℕ) (ws : List Want) (c : Cell) (b g : Bool) → bytes_eq m n ≡ b → goes ws m ≡ g → (if g then (if b then given None c else c) else c) ≡ (if b && goes ws n then given None c else c)
+swept_by : (m n : List ℕ) (ws : List Want) (c : Cell) (b g : Bool) → bytes_eq m n ≡ b → goes ws m ≡ g → (if g then (if b then with_content None c else c) else c) ≡ (if b && goes ws n then with_content None c else c)
 swept_by m n ws c true true is gone = rw (sym (ap (goes ws) ((bytes_eq-Decides m n).0 is)) ∙ gone) refl
 swept_by m n ws c true false is gone = rw (sym (ap (goes ws) ((bytes_eq-Decides m n).0 is)) ∙ gone) refl
 swept_by m n ws c false true is gone = refl
 swept_by m n ws c false false is gone = refl
 
 pub clear_step : (m : List ℕ) (ms : List (List ℕ)) (ws : List Want) (target start now new : List ℕ → Cell) → Underway (cleared (m ∷ ms) ws) target start now → ((n : List ℕ) → new n ≡ swept m ws n (now n)) → Underway (cleared ms ws) target start new
-clear_step m ms ws target start now new u made = going_on (cleared (m ∷ ms) ws) (cleared ms ws) (λ n c. if bytes_eq m n && goes ws n then given None c else c) target start now new (λ n c. sweep_twice (bytes_eq m n) (list_any (λ k. bytes_eq k n) ms) (goes ws n) c) (λ n c. sweep_either (bytes_eq m n) (list_any (λ k. bytes_eq k n) ms) (goes ws n) c) u (λ n. made n ∙ swept_by m n ws (now n) (bytes_eq m n) (goes ws m) refl refl)
+clear_step m ms ws target start now new u made = going_on (cleared (m ∷ ms) ws) (cleared ms ws) (λ n c. if bytes_eq m n && goes ws n then with_content None c else c) target start now new (λ n c. sweep_twice (bytes_eq m n) (list_any (λ k. bytes_eq k n) ms) (goes ws n) c) (λ n c. sweep_either (bytes_eq m n) (list_any (λ k. bytes_eq k n) ms) (goes ws n) c) u (λ n. made n ∙ swept_by m n ws (now n) (bytes_eq m n) (goes ws m) refl refl)
 
-keeps_by : (a own g : Bool) (c : Cell) → own ≡ false → (if a && (own && g) then given None c else c) ≡ c
+keeps_by : (a own g : Bool) (c : Cell) → own ≡ false → (if a && (own && g) then with_content None c else c) ≡ c
 keeps_by a true g c other = cc
 keeps_by true false g c other = refl
 keeps_by false false g c other = refl
@@ -107,11 +107,11 @@ pub cleared_keeps : (names : List (List ℕ)) (ws : List Want) (n : List ℕ) (c
 cleared_keeps names ws n c other = keeps_by (list_any (λ k. bytes_eq k n) names) (is_own n) (not (is_some (wanted ws n))) c other
 
 -- placing
-place_twice : (b : Bool) (bytes : List ℕ) (rest : Option (List ℕ)) (c : Cell) → (b ≡ true → rest ≡ None) → put_where rest (if b then given (Some bytes) c else c) ≡ put_where (if b then Some bytes else rest) c
+place_twice : (b : Bool) (bytes : List ℕ) (rest : Option (List ℕ)) (c : Cell) → (b ≡ true → rest ≡ None) → put_where rest (if b then with_content (Some bytes) c else c) ≡ put_where (if b then Some bytes else rest) c
 place_twice true bytes rest c none = rw (none refl) refl
 place_twice false bytes rest c none = refl
 
-place_either : (b : Bool) (bytes : List ℕ) (rest : Option (List ℕ)) (c : Cell) → ((if b then given (Some bytes) c else c) ≡ c) ⊎ ((if b then given (Some bytes) c else c) ≡ put_where (if b then Some bytes else rest) c)
+place_either : (b : Bool) (bytes : List ℕ) (rest : Option (List ℕ)) (c : Cell) → ((if b then with_content (Some bytes) c else c) ≡ c) ⊎ ((if b then with_content (Some bytes) c else c) ≡ put_where (if b then Some bytes else rest) c)
 place_either true bytes rest c = inr refl
 place_either false bytes rest c = inl refl
 
@@ -136,8 +136,8 @@ proper_rest w ws h = and_right (is_own w.name && not (is_some (wanted ws w.name)
 proper_once : (w : Want) (ws : List Want) → proper (w ∷ ws) ≡ true → wanted ws w.name ≡ None
 proper_once w ws h = not_some (wanted ws w.name) (and_right (is_own w.name) (not (is_some (wanted ws w.name))) (and_left (is_own w.name && not (is_some (wanted ws w.name))) (proper ws) h))
 
-pub place_step : (w : Want) (ws : List Want) (target start now new : List ℕ → Cell) → proper (w ∷ ws) ≡ true → Underway (placed (w ∷ ws)) target start now → Gives now w.name (Some w.bytes) new → Underway (placed ws) target start new
-place_step w ws target start now new ok u made = going_on (placed (w ∷ ws)) (placed ws) (λ n c. if bytes_eq w.name n then given (Some w.bytes) c else c) target start now new (λ n c. place_twice (bytes_eq w.name n) w.bytes (wanted ws n) c (λ same. ap (wanted ws) (sym ((bytes_eq-Decides w.name n).0 same)) ∙ proper_once w ws ok)) (λ n c. place_either (bytes_eq w.name n) w.bytes (wanted ws n) c) u made
+pub place_step : (w : Want) (ws : List Want) (target start now new : List ℕ → Cell) → proper (w ∷ ws) ≡ true → Underway (placed (w ∷ ws)) target start now → Sets now w.name (Some w.bytes) new → Underway (placed ws) target start new
+place_step w ws target start now new ok u made = going_on (placed (w ∷ ws)) (placed ws) (λ n c. if bytes_eq w.name n then with_content (Some w.bytes) c else c) target start now new (λ n c. place_twice (bytes_eq w.name n) w.bytes (wanted ws n) c (λ same. ap (wanted ws) (sym ((bytes_eq-Decides w.name n).0 same)) ∙ proper_once w ws ok)) (λ n c. place_either (bytes_eq w.name n) w.bytes (wanted ws n) c) u made
 
 pub wanted_own : (ws : List Want) (n : List ℕ) → proper ws ≡ true → is_own n ≡ false → wanted ws n ≡ None
 wanted_own [] n ok other = refl
@@ -147,7 +147,7 @@ pub placed_keeps : (ws : List Want) → proper ws ≡ true → (n : List ℕ) (c
 placed_keeps ws ok n c other = rw (wanted_own ws n ok other) refl
 
 -- the two halves together
-both_by : (own : Bool) (want : Option (List ℕ)) (known : Bool) (c : Cell) → (own ≡ false → want ≡ None) → IfSome c (λ content. is_some content ≡ known) → put_where want (if known && (own && not (is_some want)) then given None c else c) ≡ (if own then given want c else c)
+both_by : (own : Bool) (want : Option (List ℕ)) (known : Bool) (c : Cell) → (own ≡ false → want ≡ None) → IfSome c (λ content. is_some content ≡ known) → put_where want (if known && (own && not (is_some want)) then with_content None c else c) ≡ (if own then with_content want c else c)
 both_by false want true c none knows = rw (none refl) refl
 both_by false want false c none knows = rw (none refl) refl
 both_by true None true c none knows = refl
@@ -160,7 +160,7 @@ both_by true (Some b) false c none knows = refl
 pub published_both : (names : List (List ℕ)) (ws : List Want) (n : List ℕ) (c : Cell) → proper ws ≡ true → IfSome c (λ content. is_some content ≡ list_any (λ m. bytes_eq m n) names) → placed ws n (cleared names ws n c) ≡ published ws n c
 published_both names ws n c ok knows = both_by (is_own n) (wanted ws n) (list_any (λ m. bytes_eq m n) names) c (λ other. wanted_own ws n ok other) knows
 
-either_by : (a own : Bool) (want : Option (List ℕ)) (c : Cell) → ((if a && (own && not (is_some want)) then given None c else c) ≡ c) ⊎ ((if a && (own && not (is_some want)) then given None c else c) ≡ (if own then given want c else c))
+either_by : (a own : Bool) (want : Option (List ℕ)) (c : Cell) → ((if a && (own && not (is_some want)) then with_content None c else c) ≡ c) ⊎ ((if a && (own && not (is_some want)) then with_content None c else c) ≡ (if own then with_content want c else c))
 either_by false own want c = inl refl
 either_by true false want c = inl refl
 either_by true true None c = inr refl

@@ -11,7 +11,7 @@ use Rattle.std.proofs.lemmas.Cmp.{nat_list_cmp_total}
 use Rattle.std.proofs.lemmas.Map.Text.{is_eq-slice_cmp}
 use Rattle.std.proofs.lemmas.Slice.Eq.{bytes_eq-Decides}
 use Rattle.std.proofs.lemmas.List.{append_cancel_right, length-append}
-use Rattle.outside.specs.declared.picture.PictureFile.{PictureFile}
+use Rattle.load_path.specs.declared.picture.PictureFile.{PictureFile}
 use Rattle.pan_top.specs.declared.publish.Want.{Want}
 use Rattle.pan_top.specs.declared.compile.Outcome.{Outcome}
 use Rattle.pan_top.specs.declared.compile.Outcome.TheVariants.{Profile, Fault}

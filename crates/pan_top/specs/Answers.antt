@@ -4,9 +4,9 @@ use Rattle.std.specs.List.{ends_with}
 use Rattle.std.specs.BTreeMap.{insert_entry}
 use Rattle.std.specs.Cmp.Lexicographic.{slice_cmp}
 use Rattle.std.specs.Ordering.{nat_cmp}
-use Rattle.outside.specs.declared.picture.PictureFile.{PictureFile}
-use Rattle.outside.specs.declared.picture.Content.{Content}
-use Rattle.outside.specs.declared.picture.Content.TheVariants as content
+use Rattle.load_path.specs.declared.picture.PictureFile.{PictureFile}
+use Rattle.load_path.specs.declared.picture.Content.{Content}
+use Rattle.load_path.specs.declared.picture.Content.TheVariants as content
 use Rattle.pan_top.specs.declared.answers.Answer.{Answer}
 use Rattle.pan_top.specs.declared.compile.Outcome.{Outcome}
 use Rattle.pan_top.specs.declared.compile.Outcome.TheVariants.{Profile, Fault}

@@ -13,3 +13,15 @@ is_command (mode ∷ []) = false
 is_command (mode ∷ source ∷ []) = false
 is_command (mode ∷ source ∷ out ∷ []) = bytes_eq mode (codes "build") && is_folder source && is_folder out
 is_command (mode ∷ source ∷ out ∷ more ∷ rest) = false
+
+-- the second word and the third
+abbrev pub source_in : List (List ℕ) → List ℕ
+source_in [] = []
+source_in (mode ∷ []) = []
+source_in (mode ∷ source ∷ rest) = source
+
+abbrev pub out_in : List (List ℕ) → List ℕ
+out_in [] = []
+out_in (mode ∷ []) = []
+out_in (mode ∷ source ∷ []) = []
+out_in (mode ∷ source ∷ out ∷ rest) = out

@@ -1,5 +1,5 @@
 -- Ends that come before the session's own.
-use Rattle.std.specs.Prelude.{◌≡◌, ◌≤◌, ℕ, List, Bool, true, ◌++◌, ◌||◌, bytes_eq, codes, Result, IfErr, Option, Some, None, IfSome, ◌⊎◌}
+use Rattle.std.specs.Prelude.{◌≡◌, ◌≤◌, ℕ, List, Bool, true, ◌++◌, ◌||◌, bytes_eq, codes, Result, IfErr, OnOk, Option, Some, None, IfSome, ◌⊎◌}
 use Rattle.outside.specs.Causes.{Rose}
 use Rattle.pan_top.specs.declared.status.End.{End}
 use Rattle.pan_top.specs.declared.status.End.TheVariants as E
@@ -65,7 +65,8 @@ IsEndOf caller e = IfSome (caller_of e) (λ c. c ≡ caller)
 abbrev pub IsRoundEnd : End → Type 0
 IsRoundEnd e = IfSome (caller_of e) (λ c. (c ≡ OfName) ⊎ (c ≡ OfSink))
 
--- the count didn't fall, and it rose where the call ended with this status
+-- the count didn't fall; it rose where the call ended with this status, and is as before where it succeeded
 pub record Caused {T : Type 0} (status : Status) (before now : ℕ) (result : Result T End) : Type 0 where
   pub later : before ≤ now
   pub rose : IfErr result (λ e. status_of e ≡ status → Rose before now)
+  pub done : OnOk result (now ≡ before)

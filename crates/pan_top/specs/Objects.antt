@@ -1,5 +1,6 @@
 -- What compiling an object gives.
 use Rattle.std.specs.Prelude.{◌≡◌, ℕ, List, [], ◌∷◌, ◌++◌, Result, Ok, Err, nat_lt, length, if◌then◌else◌, bytes_eq, codes}
+use Rattle.base.specs.declared.limits.TheConstants.{MAX_TEXT_BYTES, MAX_DETAIL_CHARACTERS}
 use Rattle.pan_ast.specs.Detail.{first_chars}
 use Rattle.pan_ast.specs.declared.place.Place.{Place}
 use Rattle.pan_ast.specs.declared.token.Token.{Token}
@@ -25,14 +26,14 @@ use Rattle.pan_top.specs.Statements.{Read, assignments}
 
 -- a text over 1,000,000 bytes is too large for a tree
 abbrev pub literal_tree : Literal → Result Plain PutError
-literal_tree (literal.Text text) = if nat_lt 1000000 (length text) then Err refusal.TooLarge else Ok (plain.text text)
+literal_tree (literal.Text text) = if nat_lt MAX_TEXT_BYTES (length text) then Err refusal.TooLarge else Ok (plain.text text)
 literal_tree (literal.Long z) = Ok (plain.long z)
 literal_tree (literal.Boolean b) = Ok (plain.boolean b)
 
 -- The fault of a refused assignment, at its statement: a path that does not fit, with the path as written, or a
 -- value that makes the tree too large or too high.
 abbrev pub path_fault : Assignment → Fault
-path_fault a = record { code = code.BadPath; place = a.place; detail = first_chars 200 a.path }
+path_fault a = record { code = code.BadPath; place = a.place; detail = first_chars MAX_DETAIL_CHARACTERS a.path }
 
 abbrev pub size_fault : Assignment → Fault
 size_fault a = record { code = code.TooLarge; place = a.place; detail = [] }
@@ -75,12 +76,12 @@ abbrev pub tree_of_read : Read (List Assignment) → Plain → Result Plain Faul
 tree_of_read (Ok assignments) tree = tree_after assignments tree
 tree_of_read (Err place) tree = Err (not_built place)
 
--- a template with another name than its file's
-abbrev pub wrong_template : Place → Fault
-wrong_template place = record { code = code.WrongTemplate; place = place; detail = [] }
+-- a template with another name than the one that it was found by
+abbrev pub wrong_template : List ℕ → Place → Fault
+wrong_template name place = record { code = code.WrongTemplate; place = place; detail = first_chars MAX_DETAIL_CHARACTERS name }
 
 abbrev pub tree_of_template : List ℕ → Template → Result Plain Fault
-tree_of_template name z = if bytes_eq z.name name then tree_of_read (assignments z.statements) (dict no_fields) else Err (wrong_template z.name_place)
+tree_of_template name z = if bytes_eq z.name name then tree_of_read (assignments z.statements) (dict no_fields) else Err (wrong_template name z.name_place)
 
 abbrev pub tree_of_parsed : List ℕ → Result Template Fault → Result Plain Fault
 tree_of_parsed name (Ok z) = tree_of_template name z

@@ -1,12 +1,14 @@
 -- What a scan makes of a source's picture.
 use Rattle.std.specs.Prelude.{ℕ, Bool, List, [], Option, Some, None, if◌then◌else◌, nat_lt, length, is_some, option_map, count_by, sum_by, fold}
-use Rattle.outside.specs.Pictures.{is_short}
-use Rattle.outside.specs.FileNames.{is_file_name}
-use Rattle.outside.specs.Files.{content_in, with_file}
+use Rattle.base.specs.declared.limits.TheConstants.{MAX_SCAN_FILES, MAX_SCAN_BYTES}
+use Rattle.pan_top.specs.declared.scan.TheConstants.{TOO_LONG_BYTES}
+use Rattle.load_path.specs.Pictures.{is_short}
+use Rattle.load_path.specs.FileNames.{is_file_name}
+use Rattle.load_path.specs.Pictures.{content_in, with_file}
 use Rattle.outside.specs.declared.source.MemFile.{MemFile}
-use Rattle.outside.specs.declared.picture.PictureFile.{PictureFile}
-use Rattle.outside.specs.declared.picture.Content.{Content}
-use Rattle.outside.specs.declared.picture.Content.TheVariants.{Bytes, TooLong}
+use Rattle.load_path.specs.declared.picture.PictureFile.{PictureFile}
+use Rattle.load_path.specs.declared.picture.Content.{Content}
+use Rattle.load_path.specs.declared.picture.Content.TheVariants.{Bytes, TooLong}
 
 abbrev pub has_file_name : MemFile → Bool
 has_file_name f = is_file_name f.name
@@ -22,7 +24,7 @@ found_of f = if has_file_name f then option_map content_of f.content else None
 -- what a read counts: the bytes, and one more than a file may have of one that is too long
 abbrev pub content_weight : Content → ℕ
 content_weight (Bytes bytes) = length bytes
-content_weight TooLong = 1000001
+content_weight TooLong = TOO_LONG_BYTES
 
 abbrev pub found_weight : Option Content → ℕ
 found_weight None = 0
@@ -42,6 +44,6 @@ taken_in picture f = with_found f.name (found_of f) picture
 -- The scanned picture, or None where it is too much: over 50,000 file names, or over 256 MiB that are read.
 abbrev pub scanned_of : List MemFile → Option (List PictureFile)
 scanned_of files =
-    if nat_lt 50000 (count_by has_file_name files) then None
-    else (if nat_lt 268435456 (sum_by weight_of files) then None
+    if nat_lt MAX_SCAN_FILES (count_by has_file_name files) then None
+    else (if nat_lt MAX_SCAN_BYTES (sum_by weight_of files) then None
     else Some (fold taken_in [] files))

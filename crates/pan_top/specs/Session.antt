@@ -1,10 +1,11 @@
 -- The session of a call, by the words and the source's next picture, and how a call ends.
-use Rattle.std.specs.Prelude.{◌≡◌, ℕ, Bool, true, false, List, Option, Some, None, if◌then◌else◌, codes, option_map, nat_eq, nat_lt, count_by, ◌⊎◌}
+use Rattle.std.specs.Prelude.{◌≡◌, ◌≤◌, ℕ, Bool, true, false, List, Option, Some, None, if◌then◌else◌, codes, option_map, nat_eq, nat_lt, count_by, ◌⊎◌}
+use Rattle.base.specs.declared.limits.TheConstants.{MAX_OBJECTS}
 use Rattle.outside.specs.Cells.{Cell}
 use Rattle.outside.specs.Contents.{Appends, AppendsPart}
 use Rattle.outside.specs.Pictures.{later_pictures}
 use Rattle.outside.specs.declared.source.MemFile.{MemFile}
-use Rattle.outside.specs.declared.picture.PictureFile.{PictureFile}
+use Rattle.load_path.specs.declared.picture.PictureFile.{PictureFile}
 use Rattle.pan_top.specs.declared.status.End.{End}
 use Rattle.pan_top.specs.declared.status.End.TheVariants as E
 use Rattle.pan_top.specs.declared.status.Status.{Status}
@@ -39,7 +40,7 @@ build_of answers = record {
 }
 
 abbrev pub round_of : List PictureFile → Session
-round_of picture = if nat_lt 10000 (count_by is_object_file picture) then too_much else build_of (answers_of picture)
+round_of picture = if nat_lt MAX_OBJECTS (count_by is_object_file picture) then too_much else build_of (answers_of picture)
 
 abbrev pub scanned_session : Option (List PictureFile) → Session
 scanned_session None = too_much
@@ -156,6 +157,32 @@ Takes SourceFault old new = (new ≡ old) ⊎ (new ≡ option_map later_pictures
 Takes ShelfFault old new = (new ≡ old) ⊎ (new ≡ option_map later_pictures old)
 Takes OutFault old new = (new ≡ old) ⊎ (new ≡ option_map later_pictures old)
 Takes Memory old new = (new ≡ old) ⊎ (new ≡ option_map later_pictures old)
+
+abbrev pub IsPerhapsOpened : List ℕ → Option (List ℕ) → Option (List ℕ) → Type 0
+IsPerhapsOpened folder old new = (new ≡ old) ⊎ (new ≡ Some folder)
+
+-- What a device was opened at, by the status: the folder that the words name; where the run ended early, this or
+-- what it was opened at before.
+abbrev pub IsOpened : Status → List ℕ → Option (List ℕ) → Option (List ℕ) → Type 0
+IsOpened Clean folder old new = new ≡ Some folder
+IsOpened SomeFaults folder old new = new ≡ Some folder
+IsOpened TooMuch folder old new = new ≡ Some folder
+IsOpened Usage folder old new = new ≡ old
+IsOpened SourceFault folder old new = IsPerhapsOpened folder old new
+IsOpened ShelfFault folder old new = IsPerhapsOpened folder old new
+IsOpened OutFault folder old new = IsPerhapsOpened folder old new
+IsOpened Memory folder old new = IsPerhapsOpened folder old new
+
+-- A device's count of faults, by the status: as before where the session came to its end, and never less.
+abbrev pub IsCounted : Status → ℕ → ℕ → Type 0
+IsCounted Clean before now = now ≡ before
+IsCounted SomeFaults before now = now ≡ before
+IsCounted TooMuch before now = now ≡ before
+IsCounted Usage before now = now ≡ before
+IsCounted SourceFault before now = before ≤ now
+IsCounted ShelfFault before now = before ≤ now
+IsCounted OutFault before now = before ≤ now
+IsCounted Memory before now = before ≤ now
 
 -- the status of an end, or that its line could not be written
 abbrev pub Concludes : End → Status → Type 0

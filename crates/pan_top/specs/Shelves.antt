@@ -2,7 +2,7 @@
 use Rattle.std.specs.Prelude.{◌≡◌, ℕ, Bool, true, false, List, [], ◌∷◌, Option, Some, None, IfSome, is_some, not, nat_eq, if◌then◌else◌, bytes_eq, codes, ◌&&◌, ◌||◌, ◌⊎◌}
 use Rattle.std.specs.List.{list_any, ends_with}
 use Rattle.std.specs.HashSet.{HashSet, contains}
-use Rattle.outside.specs.Cells.{Cell, given}
+use Rattle.outside.specs.Cells.{Cell, with_content}
 use Rattle.pan_top.specs.declared.publish.Want.{Want}
 use Rattle.pan_top.specs.declared.status.End.{End}
 use Rattle.pan_top.specs.declared.status.End.TheVariants as E
@@ -23,7 +23,7 @@ proper (w ∷ ws) = is_own w.name && not (is_some (wanted ws w.name)) && proper 
 
 -- A publication: every wanted name has its bytes, no other own name is there, and all others are as they were.
 abbrev pub published : List Want → List ℕ → Cell → Cell
-published ws n before = if is_own n then given (wanted ws n) before else before
+published ws n before = if is_own n then with_content (wanted ws n) before else before
 
 -- no profile wants this own name
 abbrev pub goes : List Want → List ℕ → Bool
@@ -31,15 +31,15 @@ goes ws n = is_own n && not (is_some (wanted ws n))
 
 -- this name goes where no profile wants it
 abbrev pub swept : List ℕ → List Want → List ℕ → Cell → Cell
-swept m ws n c = if goes ws m then (if bytes_eq m n then given None c else c) else c
+swept m ws n c = if goes ws m then (if bytes_eq m n then with_content None c else c) else c
 
 -- the two halves of a publication: these names go where no profile wants them, and each wanted name gets its bytes
 abbrev pub cleared : List (List ℕ) → List Want → List ℕ → Cell → Cell
-cleared names ws n c = if list_any (λ m. bytes_eq m n) names && goes ws n then given None c else c
+cleared names ws n c = if list_any (λ m. bytes_eq m n) names && goes ws n then with_content None c else c
 
 abbrev pub put_where : Option (List ℕ) → Cell → Cell
 put_where None c = c
-put_where (Some b) c = given (Some b) c
+put_where (Some b) c = with_content (Some b) c
 
 abbrev pub placed : List Want → List ℕ → Cell → Cell
 placed ws n c = put_where (wanted ws n) c

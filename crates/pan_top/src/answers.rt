@@ -1,12 +1,13 @@
 ghost use Rattle.std.specs.Prelude.{◌≡◌, ◌≤◌, ◌++◌, [], true, length, IfSome, IfOk, OnOk, map, count_by, option_map};
-ghost use Rattle.outside.specs.Files.{has_short_content, are_short};
+ghost use Rattle.load_path.specs.Pictures.{has_short_content, are_short};
 ghost use Rattle.pan_top.specs.Objects.{file_of};
 ghost use Rattle.pan_top.specs.Answers.{Object, object_of, is_object_file, with_outcome, answer_of, answers_of, wants_with, wants_of, is_fault};
+ghost use Rattle.base.specs.declared.limits.TheConstants.{MAX_FILE_BYTES};
 
 use crate::compile::{Outcome, compile};
 use crate::publish::Want;
 use base::Text;
-use outside::{Content, PictureFile};
+use load_path::{Content, PictureFile};
 use pan_lexer::is_object;
 use path_tree::is_name;
 use std::alloc::{AllocError, Global};
@@ -30,7 +31,7 @@ struct Object<'a> {
 fn object_in(file: &PictureFile) -> Option<Object<'_>>
     ensures object { option_map (λ o. record { name = o.name.now; text = o.text.now }) result ≡ object_of file.now }
     ensures named { IfSome result (λ o. file.now.name ≡ file_of o.name.now) }
-    ensures short { has_short_content file.now.content ≡ true → IfSome result (λ o. length o.text.now ≤ 1000000) }
+    ensures short { has_short_content file.now.content ≡ true → IfSome result (λ o. length o.text.now ≤ MAX_FILE_BYTES) }
 {
     let Some(name) = file.name.as_str().strip_suffix(".pan") else {
         return None;

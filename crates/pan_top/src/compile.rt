@@ -1,4 +1,5 @@
 ghost use Rattle.std.specs.Prelude.{◌≡◌, ◌≢◌, ◌≤◌, ◌++◌, [], ◌∷◌, List, IfOk, IfErr, OnOk, Ok, Err, codes, length, map};
+ghost use Rattle.base.specs.declared.limits.TheConstants.{MAX_FILE_BYTES};
 ghost use Rattle.pan_ast.specs.TemplatesSeen.{statement_seen, template_seen};
 ghost use Rattle.path_tree.specs.Plain.{Plain};
 ghost use Rattle.path_tree.specs.Plain as plain;
@@ -169,14 +170,14 @@ fn tree_of_template(alloc: Global, name: &str, template: &Template) -> Result<Tr
 {
     if template.name.as_str() != name {
         let place = template.name_place.share()?;
-        return Err(CompileError::Fault(fault_at(alloc, Code::WrongTemplate, place)?));
+        return Err(CompileError::Fault(Fault::new(alloc, Code::WrongTemplate, place, name)?));
     }
     tree_of_statements(alloc, &template.statements)
 }
 
 /// The template of a text, from the file of this name.
 fn template_of(alloc: Global, file: &Text, text: &[u8]) -> Result<Template, CompileError>
-    requires { length text.now ≤ 1000000 }
+    requires { length text.now ≤ MAX_FILE_BYTES }
     ensures ok { IfOk result (λ t. template_of file.now text.now ≡ Ok (template_seen t)) }
     ensures err { IfErr result (IsFault (template_of file.now text.now)) }
 {
@@ -194,7 +195,7 @@ fn template_of(alloc: Global, file: &Text, text: &[u8]) -> Result<Template, Comp
 
 /// The tree of an object.
 fn tree_of(alloc: Global, name: &str, file: &Text, text: &[u8]) -> Result<Tree, CompileError>
-    requires short { length text.now ≤ 1000000 }
+    requires short { length text.now ≤ MAX_FILE_BYTES }
     requires file { file.now ≡ file_of name.now }
     ensures ok { IfOk result (λ t. tree_of name.now text.now ≡ Ok t) }
     ensures err { IfErr result (IsFault (tree_of name.now text.now)) }
@@ -218,7 +219,7 @@ fn dependencies_of(alloc: Global, file: &str) -> Result<Bytes, AllocError>
 /// Compiles the object of this name, whose template is the text of this file.
 pub fn compile(alloc: Global, file: &Text, name: &str, text: &[u8]) -> Result<Outcome, AllocError>
     requires file { file.now ≡ file_of name.now }
-    requires short { length text.now ≤ 1000000 }
+    requires short { length text.now ≤ MAX_FILE_BYTES }
     ensures { IfOk result (λ o. o ≡ outcome_of name.now text.now) }
 {
     match tree_of(alloc, name, file, text) {

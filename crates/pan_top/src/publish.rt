@@ -1,5 +1,5 @@
 ghost use Rattle.std.specs.Prelude.{◌≡◌, ℕ, List, IfOk, OnOk, OnErr, IfErr, IfSome, Option, Some, None, true, false, bytes_eq};
-ghost use Rattle.outside.specs.Cells.{Gives, Opens};
+ghost use Rattle.outside.specs.Cells.{Sets, AllBut};
 ghost use Rattle.pan_top.specs.Shelves.{is_own, swept, cleared, placed, published, proper, Stopped, Names, Lists};
 ghost use Rattle.pan_top.specs.Ends.{IsEndOf, Caused, IsEndAt, OfName, OfShelf, is_file_of};
 ghost use Rattle.pan_top.specs.declared.publish.Want.{Want};
@@ -63,6 +63,7 @@ fn holds<H: Shelf>(
     requires { is_own name.now ≡ true }
     ensures ok { IfOk result (λ same. same ≡ true → IfSome (H.cell shelf.old name.now) (λ content. content ≡ Some bytes.now)) }
     ensures same { (n : List ℕ) → H.cell shelf.new n ≡ H.cell shelf.old n }
+    ensures opened { H.opened shelf.new ≡ H.opened shelf.old }
     ensures at { IfErr result (IsEndAt name.now) }
     ensures cause { Caused Status.ShelfFault (H.fault_count shelf.old) (H.fault_count shelf.new) result }
 {
@@ -82,8 +83,9 @@ fn bring<H: Shelf>(
     held: &mut Vec<u8>,
 ) -> Result<(), End>
     requires { is_own name.now ≡ true }
-    ensures ok { OnOk result (Gives (H.cell shelf.old) name.now (Some bytes.now) (H.cell shelf.new)) }
-    ensures err { OnErr result (Opens (H.cell shelf.old) name.now (H.cell shelf.new)) }
+    ensures ok { OnOk result (Sets (H.cell shelf.old) name.now (Some bytes.now) (H.cell shelf.new)) }
+    ensures err { OnErr result (AllBut (H.cell shelf.old) name.now (H.cell shelf.new)) }
+    ensures opened { H.opened shelf.new ≡ H.opened shelf.old }
     ensures at { IfErr result (IsEndAt name.now) }
     ensures cause { Caused Status.ShelfFault (H.fault_count shelf.old) (H.fault_count shelf.new) result }
 {
@@ -115,8 +117,9 @@ fn sweep<H: Shelf>(
     names: &HashSet<Text>,
 ) -> Result<(), End>
     ensures ok { OnOk result ((wants : List Want) → Names names.now wants → (n : List ℕ) → H.cell shelf.new n ≡ swept name.now wants n (H.cell shelf.old n)) }
-    ensures err { OnErr result (Opens (H.cell shelf.old) name.now (H.cell shelf.new)) }
+    ensures err { OnErr result (AllBut (H.cell shelf.old) name.now (H.cell shelf.new)) }
     ensures own { OnErr result (is_own name.now ≡ true) }
+    ensures opened { H.opened shelf.new ≡ H.opened shelf.old }
     ensures at { IfErr result (IsEndAt name.now) }
     ensures cause { Caused Status.ShelfFault (H.fault_count shelf.old) (H.fault_count shelf.new) result }
 {
@@ -143,6 +146,7 @@ fn clear<H: Shelf>(
     requires { Names names.now wants.now }
     ensures ok { OnOk result ((n : List ℕ) → H.cell shelf.new n ≡ cleared listed.now wants.now n (H.cell shelf.old n)) }
     ensures err { IfErr result (λ e. Stopped e (cleared listed.now wants.now) (H.cell shelf.old) (H.cell shelf.new)) }
+    ensures opened { H.opened shelf.new ≡ H.opened shelf.old }
     ensures kind { IfErr result (IsEndOf OfName) }
     ensures cause { Caused Status.ShelfFault (H.fault_count shelf.old) (H.fault_count shelf.new) result }
 {
@@ -157,6 +161,7 @@ fn place<H: Shelf>(alloc: Global, shelf: &mut H, wants: &[Want]) -> Result<(), E
     requires { proper wants.now ≡ true }
     ensures ok { OnOk result ((n : List ℕ) → H.cell shelf.new n ≡ placed wants.now n (H.cell shelf.old n)) }
     ensures err { IfErr result (λ e. Stopped e (placed wants.now) (H.cell shelf.old) (H.cell shelf.new)) }
+    ensures opened { H.opened shelf.new ≡ H.opened shelf.old }
     ensures kind { IfErr result (IsEndOf OfName) }
     ensures cause { Caused Status.ShelfFault (H.fault_count shelf.old) (H.fault_count shelf.new) result }
 {
@@ -177,6 +182,7 @@ fn place<H: Shelf>(alloc: Global, shelf: &mut H, wants: &[Want]) -> Result<(), E
 pub fn listed<H: Shelf>(alloc: Global, shelf: &mut H) -> Result<Vec<Text>, End>
     ensures ok { IfOk result (λ names. Lists names.items (H.cell shelf.old)) }
     ensures same { (n : List ℕ) → H.cell shelf.new n ≡ H.cell shelf.old n }
+    ensures opened { H.opened shelf.new ≡ H.opened shelf.old }
     ensures kind { IfErr result (IsEndOf OfShelf) }
     ensures cause { Caused Status.ShelfFault (H.fault_count shelf.old) (H.fault_count shelf.new) result }
 {
@@ -202,6 +208,7 @@ pub fn publish<H: Shelf>(
     requires listed { Lists listed.now (H.cell shelf.old) }
     ensures ok { OnOk result ((n : List ℕ) → H.cell shelf.new n ≡ published wants.now n (H.cell shelf.old n)) }
     ensures err { IfErr result (λ e. Stopped e (published wants.now) (H.cell shelf.old) (H.cell shelf.new)) }
+    ensures opened { H.opened shelf.new ≡ H.opened shelf.old }
     ensures kind { IfErr result (IsEndOf OfName) }
     ensures cause { Caused Status.ShelfFault (H.fault_count shelf.old) (H.fault_count shelf.new) result }
 {

@@ -2,11 +2,11 @@ ghost use Rattle.std.specs.Prelude.{◌≡◌, ◌≤◌, ◌⊎◌, ℕ, List, 
 ghost use Rattle.outside.specs.Causes.{Rose};
 ghost use Rattle.outside.specs.Contents.{Appends, AppendsPart};
 ghost use Rattle.outside.specs.Pictures.{next_picture, later_pictures};
-ghost use Rattle.outside.specs.Files.{is_rising};
-ghost use Rattle.pan_top.specs.Commands.{is_command};
+ghost use Rattle.load_path.specs.Pictures.{is_rising};
+ghost use Rattle.pan_top.specs.Commands.{is_command, source_in, out_in};
 ghost use Rattle.pan_top.specs.Scans.{scanned_of};
 ghost use Rattle.pan_top.specs.Shelves.{Stopped, Lists, proper};
-ghost use Rattle.pan_top.specs.Session.{Session, line_alone, build_of, round_of, scanned_session, session_of, Finished, WritesEarly, Says, Comes, Concludes, IsSessions, IsBuilds, IsUsage, IsUsageEnd, Completes, Takes};
+ghost use Rattle.pan_top.specs.Session.{Session, line_alone, build_of, round_of, scanned_session, session_of, Finished, WritesEarly, Says, Comes, Concludes, IsSessions, IsBuilds, IsUsage, IsUsageEnd, Completes, Takes, IsOpened, IsPerhapsOpened, IsCounted};
 ghost use Rattle.pan_top.specs.Answers.{wants_of};
 ghost use Rattle.pan_top.specs.Reports.{report_of};
 ghost use Rattle.pan_top.specs.Ends.{IsEndOf, Caused, OfSink, OfShelf, OfSource, IsRoundEnd, status_of, line_of};
@@ -19,11 +19,10 @@ use crate::scan::scan;
 use crate::status::{End, Status};
 use crate::words::command;
 use base::Text;
-use outside::{Picture, Shelf, Sink, Source, StoreError};
+use base::limits::MAX_OBJECTS;
+use load_path::Picture;
+use outside::{Shelf, Sink, Source, StoreError};
 use std::alloc::{AllocError, Global};
-
-/// The most objects of a picture.
-const MAX_OBJECTS: usize = 10_000;
 
 fn write<O: Sink>(out: &mut O, text: &[u8]) -> Result<(), End>
     ensures ok { OnOk result (Appends (O.held out.old) text.now (O.held out.new)) }
@@ -39,6 +38,8 @@ fn write<O: Sink>(out: &mut O, text: &[u8]) -> Result<(), End>
 }
 
 fn open_source<S: Source>(source: &mut S, root: &str) -> Result<(), End>
+    ensures opened { OnOk result (S.opened source.new ≡ Some root.now) }
+    ensures refused { OnErr result (S.opened source.new ≡ S.opened source.old) }
     ensures coming { S.coming source.new ≡ S.coming source.old }
     ensures kind { IfErr result (IsEndOf OfSource) }
     ensures cause { Caused Status.SourceFault (S.fault_count source.old) (S.fault_count source.new) result }
@@ -51,6 +52,8 @@ fn open_source<S: Source>(source: &mut S, root: &str) -> Result<(), End>
 }
 
 fn open_shelf<H: Shelf>(shelf: &mut H, root: &str) -> Result<(), End>
+    ensures opened { OnOk result (H.opened shelf.new ≡ Some root.now) }
+    ensures refused { OnErr result (H.opened shelf.new ≡ H.opened shelf.old) }
     ensures same { (n : List ℕ) → H.cell shelf.new n ≡ H.cell shelf.old n }
     ensures kind { IfErr result (IsEndOf OfShelf) }
     ensures cause { Caused Status.ShelfFault (H.fault_count shelf.old) (H.fault_count shelf.new) result }
@@ -98,6 +101,7 @@ fn build<H: Shelf, O: Sink>(
     ensures text { IfErr result (λ e. WritesEarly (report_of answers.items) e (O.held out.old) (O.held out.new)) }
     ensures shelf { IfErr result (λ e. Stopped e (build_of answers.items).shelf (H.cell shelf.old) (H.cell shelf.new)) }
     ensures kind { IfErr result IsRoundEnd }
+    ensures opened { H.opened shelf.new ≡ H.opened shelf.old }
     ensures shelf_cause { Caused Status.ShelfFault (H.fault_count shelf.old) (H.fault_count shelf.new) result }
     ensures out_cause { Caused Status.OutFault (O.fault_count out.old) (O.fault_count out.new) result }
 {
@@ -122,6 +126,7 @@ fn round<H: Shelf, O: Sink>(
     ensures text { IfErr result (λ e. WritesEarly (round_of picture.now).text e (O.held out.old) (O.held out.new)) }
     ensures shelf { IfErr result (λ e. Stopped e (round_of picture.now).shelf (H.cell shelf.old) (H.cell shelf.new)) }
     ensures kind { IfErr result IsRoundEnd }
+    ensures opened { H.opened shelf.new ≡ H.opened shelf.old }
     ensures shelf_cause { Caused Status.ShelfFault (H.fault_count shelf.old) (H.fault_count shelf.new) result }
     ensures out_cause { Caused Status.OutFault (O.fault_count out.old) (O.fault_count out.new) result }
 {
@@ -147,6 +152,8 @@ fn scan_and_build<S: Source, H: Shelf, O: Sink>(
     ensures shelf { IfErr result (λ e. IfSome (S.coming source.old) (λ ps. Stopped e (scanned_session (scanned_of (next_picture ps))).shelf (H.cell shelf.old) (H.cell shelf.new))) }
     ensures taken { OnOk result (S.coming source.new ≡ option_map later_pictures (S.coming source.old)) }
     ensures perhaps { (S.coming source.new ≡ S.coming source.old) ⊎ (S.coming source.new ≡ option_map later_pictures (S.coming source.old)) }
+    ensures source_opened { S.opened source.new ≡ S.opened source.old }
+    ensures shelf_opened { H.opened shelf.new ≡ H.opened shelf.old }
     ensures source_cause { Caused Status.SourceFault (S.fault_count source.old) (S.fault_count source.new) result }
     ensures shelf_cause { Caused Status.ShelfFault (H.fault_count shelf.old) (H.fault_count shelf.new) result }
     ensures out_cause { Caused Status.OutFault (O.fault_count out.old) (O.fault_count out.new) result }
@@ -173,6 +180,10 @@ fn run<S: Source, H: Shelf, O: Sink>(
     ensures quiet { IfErr result (λ e. is_command words.now ≡ false → IsEndOf OfSink e) }
     ensures taken { IfOk result (λ status. Takes status (S.coming source.old) (S.coming source.new)) }
     ensures perhaps { (S.coming source.new ≡ S.coming source.old) ⊎ (S.coming source.new ≡ option_map later_pictures (S.coming source.old)) }
+    ensures source_opened { IfOk result (λ status. IsOpened status (source_in words.now) (S.opened source.old) (S.opened source.new)) }
+    ensures shelf_opened { IfOk result (λ status. IsOpened status (out_in words.now) (H.opened shelf.old) (H.opened shelf.new)) }
+    ensures source_perhaps { IsPerhapsOpened (source_in words.now) (S.opened source.old) (S.opened source.new) }
+    ensures shelf_perhaps { IsPerhapsOpened (out_in words.now) (H.opened shelf.old) (H.opened shelf.new) }
     ensures source_cause { Caused Status.SourceFault (S.fault_count source.old) (S.fault_count source.new) result }
     ensures shelf_cause { Caused Status.ShelfFault (H.fault_count shelf.old) (H.fault_count shelf.new) result }
     ensures out_cause { Caused Status.OutFault (O.fault_count out.old) (O.fault_count out.new) result }
@@ -239,6 +250,11 @@ pub fn pan<S: Source, H: Shelf, O: Sink>(
 ) -> Status
     ensures session { IfSome (S.coming source.old) (λ ps. Comes (session_of words.now (next_picture ps)) result (O.held out.old) (O.held out.new) (H.cell shelf.old) (H.cell shelf.new)) }
     ensures taken { Takes result (S.coming source.old) (S.coming source.new) }
+    ensures source_opened { IsOpened result (source_in words.now) (S.opened source.old) (S.opened source.new) }
+    ensures shelf_opened { IsOpened result (out_in words.now) (H.opened shelf.old) (H.opened shelf.new) }
+    ensures source_counted { IsCounted result (S.fault_count source.old) (S.fault_count source.new) }
+    ensures shelf_counted { IsCounted result (H.fault_count shelf.old) (H.fault_count shelf.new) }
+    ensures out_counted { IsCounted result (O.fault_count out.old) (O.fault_count out.new) }
     ensures usage { result ≡ Status.Usage → is_command words.now ≡ false }
     ensures no_command { is_command words.now ≡ false → IsUsageEnd result }
     ensures source_cause { result ≡ Status.SourceFault → Rose (S.fault_count source.old) (S.fault_count source.new) }

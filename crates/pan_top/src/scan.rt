@@ -1,22 +1,19 @@
 ghost use Rattle.std.specs.Prelude.{◌≡◌, ◌≤◌, ◌<◌, ◌⊎◌, ℕ, IfOk, IfErr, IfSome, OnOk, OnErr, Some, true, option_map, length, count_by, slice_get, if◌then◌else◌};
 ghost use Rattle.outside.specs.Pictures.{next_picture, later_pictures};
-ghost use Rattle.outside.specs.Files.{has_short_content};
+ghost use Rattle.load_path.specs.Pictures.{has_short_content};
 ghost use Rattle.pan_top.specs.Scans.{has_file_name, found_of, content_weight, weight_of, with_found, taken_in, scanned_of};
+ghost use Rattle.pan_top.specs.declared.scan.TheConstants.{TOO_LONG_BYTES};
 ghost use Rattle.pan_top.specs.Ends.{IsEndOf, Caused, OfSource};
 
 use crate::status::{End, Status};
+use base::limits::{MAX_FILE_BYTES, MAX_SCAN_BYTES, MAX_SCAN_FILES};
 use base::{Bytes, Text};
-use outside::{Content, Got, Picture, Source, StoreError, is_file_name};
+use load_path::{Content, Picture, is_file_name};
+use outside::{Got, Source, StoreError};
 use std::alloc::{AllocError, Global};
 
-/// The most file names of a scan.
-const MAX_NAMES: usize = 50_000;
-
-/// The most bytes that a scan reads.
-const MAX_BYTES: usize = 268_435_456;
-
 /// What the read of a file counts that is too long.
-const TOO_LONG_BYTES: usize = 1_000_001;
+const TOO_LONG_BYTES: usize = MAX_FILE_BYTES + 1;
 
 fn has_file_name<S: Source>(source: &S, i: usize) -> bool
     requires { i < S.count source.now }
@@ -61,6 +58,7 @@ fn find<S: Source>(
     ensures scanned { S.scanned source.new ≡ S.scanned source.old }
     ensures coming { S.coming source.new ≡ S.coming source.old }
     ensures count { S.count source.new ≡ S.count source.old }
+    ensures opened { S.opened source.new ≡ S.opened source.old }
     ensures kind { IfErr result (IsEndOf OfSource) }
     ensures cause { Caused Status.SourceFault (S.fault_count source.old) (S.fault_count source.new) result }
 {
@@ -106,10 +104,11 @@ fn read_one<S: Source>(
 ) -> Result<usize, End>
     requires { i < S.count source.old }
     ensures ok { IfOk result (λ weight. IfSome (S.scanned source.old) (λ files. IfSome (slice_get files i) (λ f. (weight ≡ weight_of f) × (picture.new ≡ taken_in picture.old f)))) }
-    ensures few { IfOk result (λ weight. weight ≤ 1000001) }
+    ensures few { IfOk result (λ weight. weight ≤ TOO_LONG_BYTES) }
     ensures scanned { S.scanned source.new ≡ S.scanned source.old }
     ensures coming { S.coming source.new ≡ S.coming source.old }
     ensures count { S.count source.new ≡ S.count source.old }
+    ensures opened { S.opened source.new ≡ S.opened source.old }
     ensures kind { IfErr result (IsEndOf OfSource) }
     ensures cause { Caused Status.SourceFault (S.fault_count source.old) (S.fault_count source.new) result }
 {
@@ -127,6 +126,7 @@ pub fn scan<S: Source>(alloc: Global, source: &mut S) -> Result<Option<Picture>,
     ensures ok { IfOk result (λ got. IfSome (S.coming source.old) (λ ps. got ≡ scanned_of (next_picture ps))) }
     ensures taken { OnOk result (S.coming source.new ≡ option_map later_pictures (S.coming source.old)) }
     ensures err { OnErr result ((S.coming source.new ≡ S.coming source.old) ⊎ (S.coming source.new ≡ option_map later_pictures (S.coming source.old))) }
+    ensures opened { S.opened source.new ≡ S.opened source.old }
     ensures kind { IfErr result (IsEndOf OfSource) }
     ensures cause { Caused Status.SourceFault (S.fault_count source.old) (S.fault_count source.new) result }
 {
@@ -135,7 +135,7 @@ pub fn scan<S: Source>(alloc: Global, source: &mut S) -> Result<Option<Picture>,
         Err(StoreError::Failed) => return Err(End::Source),
         Err(StoreError::Memory) => return Err(End::Memory),
     };
-    if count_names(source, count) > MAX_NAMES {
+    if count_names(source, count) > MAX_SCAN_FILES {
         return Ok(None);
     }
     let mut picture = Picture::new(alloc);
@@ -143,7 +143,7 @@ pub fn scan<S: Source>(alloc: Global, source: &mut S) -> Result<Option<Picture>,
     let mut passed = 0;
     for i in 0..count {
         passed += read_one(alloc, source, i, &mut picture, &mut bytes)?;
-        if passed > MAX_BYTES {
+        if passed > MAX_SCAN_BYTES {
             return Ok(None);
         }
     }

@@ -1,5 +1,5 @@
 use Rattle.std.proofs.Common.{◌≡◌, [], drop, fold, true}
-use Rattle.outside.specs.Files.{are_short}
+use Rattle.load_path.specs.Pictures.{are_short}
 use Rattle.pan_top.specs.Answers.{with_outcome}
 use Rattle.pan_top.proofs.answers.answers.Given as goal
 

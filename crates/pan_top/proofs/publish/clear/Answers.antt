@@ -1,4 +1,4 @@
-use Rattle.std.proofs.Common.{◌≡◌, ◌+◌, ◌∷◌, drop, arith, rules, IfErr}
+use Rattle.std.proofs.Common.{◌∙◌, ◌≡◌, ◌+◌, ◌∷◌, drop, arith, rules, IfErr}
 use Rattle.std.proofs.lemmas.Grind.{common_steps}
 use Rattle.std.proofs.lemmas.Result.{IfErr-weaker}
 use Rattle.pan_top.specs.Ends.{IsEndAt}
@@ -15,6 +15,7 @@ pub loop-name-preserved : goal.loop-name-preserved
 loop-name-preserved g c =
     let e : drop c.loop-name.name-index c.args.listed.now ≡ c.name-item.result ∷ drop (c.loop-name.name-index + 1) c.args.listed.now = grind (arith, common_steps, c.name-item.is, c.loop-name-test.true) in
     record {
-      faults = omega (arith, c.loop-name.invariant.faults, c.sweep.ensures.cause.later);
+      faults = c.in_ok-sweep.ensures.cause.done ∙ c.loop-name.invariant.faults;
+      opened = c.sweep.ensures.opened ∙ c.loop-name.invariant.opened;
       cells = clear_step c.name-item.result _ _ _ _ _ _ (rw e at c.loop-name.invariant.cells) (c.in_ok-sweep.ensures.ok c.args.wants.now c.requires);
     }

@@ -16,7 +16,8 @@ pub loop-want-preserved : goal.loop-want-preserved
 loop-want-preserved g c =
     let e : drop c.loop-want.want-index c.args.wants.now ≡ c.want-item.result ∷ drop (c.loop-want.want-index + 1) c.args.wants.now = grind (arith, common_steps, c.want-item.is, c.loop-want-test.true) in
     record {
-      faults = omega (arith, c.loop-want.invariant.faults, c.bring.ensures.cause.later);
+      faults = c.in_ok-bring.ensures.cause.done ∙ c.loop-want.invariant.faults;
+      opened = c.bring.ensures.opened ∙ c.loop-want.invariant.opened;
       proper = proper_rest c.want-item.result (drop (c.loop-want.want-index + 1) c.args.wants.now) (rw e at c.loop-want.invariant.proper);
       cells = place_step c.want-item.result (drop (c.loop-want.want-index + 1) c.args.wants.now) _ _ _ _ (rw e at c.loop-want.invariant.proper) (rw e at c.loop-want.invariant.cells) (rw (c.as_str.ensures.text, c.as_slice.ensures) at c.in_ok-bring.ensures.ok);
     }

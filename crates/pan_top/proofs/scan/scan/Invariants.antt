@@ -1,11 +1,13 @@
 use Rattle.std.proofs.Common.{◌≡◌, ◌≤◌, ◌+◌, drop, IfSome, [], sum_by, fold}
+use Rattle.base.specs.declared.limits.TheConstants.{MAX_SCAN_BYTES}
 use Rattle.pan_top.specs.Scans.{weight_of, taken_in}
 use Rattle.pan_top.proofs.scan.scan.Given as goal
 
 abbrev pub invariant-loop-i : goal.invariant-loop-i
 invariant-loop-i g l = record {
-  faults : g.S.Source.fault_count l.fn.source ≤ g.S.Source.fault_count l.source;
-  few : l.passed ≤ 268435456;
+  faults : g.S.Source.fault_count l.source ≡ g.S.Source.fault_count l.initial.source;
+  opened : g.S.Source.opened l.source ≡ g.S.Source.opened l.initial.source;
+  few : l.passed ≤ MAX_SCAN_BYTES;
   count : g.S.Source.count l.source ≡ l.count;
   scanned : g.S.Source.scanned l.source ≡ g.S.Source.scanned l.initial.source;
   coming : g.S.Source.coming l.source ≡ g.S.Source.coming l.initial.source;

@@ -1,0 +1,17 @@
+use Rattle.std.proofs.Common.{None}
+use Rattle.std.proofs.lemmas.Result.{IfOk-weaker, on_err_weaker}
+use Rattle.publication.specs.declared.trouble.Which.TheVariants.{Json}
+use Rattle.publication.specs.Published.{BringsFile}
+use Rattle.publication.proofs.Files.{json_failed, json_done, partly}
+use Rattle.publication.proofs.publisher.Publisher.bring_profile.Goals as goal
+
+pub returns-in-Some-clause-ok : goal.returns-in-Some-clause-ok
+returns-in-Some-clause-ok g c = json_failed c.args.profile.now c.in-Some.trouble _ _ _ _ c.requires.proper (rw (c.as_slice-json.ensures, c.in-Some.is) at c.in_ok-trouble.ensures.ok)
+
+pub returns-clause-ok : goal.returns-clause-ok
+returns-clause-ok g c = IfOk-weaker _ _ _ (λ t file. json_done c.args.profile.now t _ _ _ _ _ _ c.requires.proper (rw (c.as_slice-json.ensures, c.in_default.is) at c.in_ok-trouble.ensures.ok) (rw c.as_slice-dep.ensures at file)) c.bring_file-2.ensures.ok
+
+pub returns-clause-err : goal.returns-clause-err
+returns-clause-err g c =
+    let json : BringsFile c.args.profile.now.name Json c.args.profile.now.json None (g.H.Shelf.fault_count c.args.shelf.now) (g.H.Shelf.fault_count c.bring_file.new.shelf) (g.H.Shelf.cell c.args.shelf.now) (g.H.Shelf.cell c.bring_file.new.shelf) = rw (c.as_slice-json.ensures, c.in_default.is) at c.in_ok-trouble.ensures.ok in
+    on_err_weaker c.bring_file-2.result (λ unsettles. partly c.args.profile.now _ _ _ json.brings.left unsettles) c.bring_file-2.ensures.unsettles

@@ -1,0 +1,9 @@
+use base::{Bytes, Text};
+
+/// The two files of an object.
+#[derive(Debug, Drop)]
+pub struct Profile {
+    pub name: Text,
+    pub json: Bytes,
+    pub dep: Bytes,
+}

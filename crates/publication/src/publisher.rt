@@ -1,0 +1,401 @@
+ghost use Rattle.std.specs.Prelude.{◌≡◌, ◌≤◌, ◌++◌, ◌∷◌, [], ℕ, List, IfOk, OnOk, OnErr, IfErr, IfSome, Option, Some, None, true, false, MatchOption, bytes_eq};
+ghost use Rattle.std.specs.List.{list_any, list_all};
+ghost use Rattle.std.specs.Prelude.{cond};
+ghost use Rattle.std.specs.HashMap.{get};
+ghost use Rattle.outside.specs.Causes.{HasCause};
+ghost use Rattle.outside.specs.Cells.{Cell, Sets, AllBut};
+ghost use Rattle.publication.specs.OwnNames.{is_own, json_name, dep_name};
+ghost use Rattle.publication.specs.Wants.{wants_of, proper, goes, wanted};
+ghost use Rattle.publication.specs.Published.{Knows, Came, Brings, BringsFile, BringsProfile, Partly, Placing, Clearing, Sweeps, Interrupted, Holding, one_or_none, Covers, Names, Published};
+ghost use Rattle.publication.specs.Listings.{Lists};
+ghost use Rattle.std.specs.HashSet.{contains};
+ghost use Rattle.std.specs.Prelude.{not, ◌&&◌, if◌then◌else◌};
+ghost use Rattle.publication.specs.Troubles.{name_of};
+ghost use Rattle.publication.specs.declared.publisher.Known.{Known};
+
+use crate::profile::Profile;
+use crate::trouble::{Call, Trouble, Which, not_removed};
+use base::{Bytes, Text};
+use outside::{Shelf, StoreError};
+use std::alloc::{AllocError, Global};
+use std::collections::{HashMap, HashSet};
+
+/// What is known of a name that may be on the shelf.
+#[derive(Debug, Drop)]
+pub(crate) enum Known {
+    Unread,
+    /// It holds these bytes.
+    Holds(Bytes),
+}
+
+/// What is known of the program's own names on a shelf: all those that may be there.
+#[derive(Drop)]
+pub struct Publisher {
+    own: HashMap<Text, Known>,
+}
+
+/// Whether the name holds the bytes. A longer file is known without reading it whole.
+fn holds<H: Shelf>(
+    shelf: &mut H,
+    name: &str,
+    bytes: &[u8],
+    held: &mut Vec<u8>,
+) -> Result<bool, StoreError>
+    ensures ok { IfOk result (λ same. same ≡ true → IfSome (H.cell shelf.old name.now) (λ content. content ≡ Some bytes.now)) }
+    ensures same { (n : List ℕ) → H.cell shelf.new n ≡ H.cell shelf.old n }
+    ensures cause { HasCause (H.fault_count shelf.old) (H.fault_count shelf.new) result }
+{
+    match shelf.read(name, bytes.len() + 1, held) {
+        Ok(true) => Ok(held.as_slice() == bytes),
+        Ok(false) => Ok(false),
+        Err(error) => Err(error),
+    }
+}
+
+/// The name gets the bytes, or gives the call that failed.
+fn bring_unread<H: Shelf>(
+    shelf: &mut H,
+    name: &str,
+    bytes: &[u8],
+    held: &mut Vec<u8>,
+) -> Result<Option<Call>, AllocError>
+    ensures ok { IfOk result (λ failed. Brings name.now bytes.now failed (H.fault_count shelf.old) (H.fault_count shelf.new) (H.cell shelf.old) (H.cell shelf.new)) }
+    ensures unsettles { OnErr result (AllBut (H.cell shelf.old) name.now (H.cell shelf.new)) }
+    ensures later { H.fault_count shelf.old ≤ H.fault_count shelf.new }
+{
+    match holds(shelf, name, bytes, held) {
+        Ok(true) => return Ok(None),
+        Ok(false) => {}
+        Err(StoreError::Failed) => return Ok(Some(Call::Read)),
+        Err(StoreError::Memory) => return Err(AllocError),
+    }
+    match shelf.put(name, bytes) {
+        Ok(()) => Ok(None),
+        Err(StoreError::Failed) => Ok(Some(Call::Put)),
+        Err(StoreError::Memory) => Err(AllocError),
+    }
+}
+
+/// An own name is taken away from the shelf, or the call failed.
+fn remove_name<H: Shelf>(shelf: &mut H, name: &str) -> Result<bool, AllocError>
+    ensures came { IfOk result (λ done. Came name.now None done (H.fault_count shelf.old) (H.fault_count shelf.new) (H.cell shelf.old) (H.cell shelf.new)) }
+    ensures unsettles { OnErr result (AllBut (H.cell shelf.old) name.now (H.cell shelf.new)) }
+    ensures later { H.fault_count shelf.old ≤ H.fault_count shelf.new }
+{
+    match shelf.remove(name) {
+        Ok(()) => Ok(true),
+        Err(StoreError::Failed) => Ok(false),
+        Err(StoreError::Memory) => Err(AllocError),
+    }
+}
+
+fn file_name(alloc: Global, object: &str, which: Which) -> Result<Text, AllocError>
+    ensures { IfOk result (λ name. name ≡ name_of which object.now) }
+{
+    match which {
+        Which::Json => Text::joined(alloc, object, ".json"),
+        Which::Dep => Text::joined(alloc, object, ".dep"),
+    }
+}
+
+fn is_own(name: &str) -> bool
+    ensures { result ≡ is_own name.now }
+{
+    name.as_bytes().ends_with(b".json") || name.as_bytes().ends_with(b".dep")
+}
+
+fn add_name(
+    alloc: Global,
+    names: &mut HashSet<Text>,
+    object: &Text,
+    which: Which,
+) -> Result<(), AllocError>
+    ensures { OnOk result ((n : List ℕ) → contains bytes_eq names.new n ≡ cond (bytes_eq (name_of which object.now) n) true (contains bytes_eq names.old n)) }
+{
+    names.insert(file_name(alloc, object.as_str(), which)?)?;
+    Ok(())
+}
+
+/// The names that profiles want.
+fn wanted_names(alloc: Global, profiles: &[Profile]) -> Result<HashSet<Text>, AllocError>
+    ensures { IfOk result (λ names. Names names (wants_of profiles.now)) }
+{
+    let mut names = HashSet::new(alloc);
+    for profile in profiles {
+        add_name(alloc, &mut names, &profile.name, Which::Json)?;
+        add_name(alloc, &mut names, &profile.name, Which::Dep)?;
+    }
+    Ok(names)
+}
+
+/// Adds the name, where it is an own one and none of these.
+fn add_unwanted(gone: &mut Vec<Text>, name: &Text, names: &HashSet<Text>) -> Result<(), AllocError>
+    ensures { OnOk result (gone.new.items ≡ gone.old.items ++ (if is_own name.now && not (contains bytes_eq names.now name.now) then name.now ∷ [] else [])) }
+{
+    if is_own(name.as_str()) && !names.contains(name) {
+        gone.push(name.share()?)?;
+    }
+    Ok(())
+}
+
+fn keep(troubles: &mut Vec<Trouble>, trouble: Option<Trouble>) -> Result<(), AllocError>
+    ensures { OnOk result (troubles.new.items ≡ troubles.old.items ++ one_or_none trouble) }
+{
+    if let Some(trouble) = trouble {
+        troubles.push(trouble)?;
+    }
+    Ok(())
+}
+
+impl Publisher {
+    /// Whether the name is known to hold these bytes.
+    fn is_known(&self, name: &Text, bytes: &[u8]) -> bool
+        ensures { result ≡ true → Holding bytes.now (get bytes_eq self.now.own name.now) }
+    {
+        match self.own.get(name) {
+            Some(Known::Holds(known)) => known.as_slice() == bytes,
+            _ => false,
+        }
+    }
+
+    /// Nothing is known of the name any more.
+    fn forget(&mut self, name: &Text) -> Result<(), AllocError>
+        ensures { OnOk result ((n : List ℕ) → get bytes_eq self.new.own n ≡ cond (bytes_eq name.now n) (Some Known.Unread) (get bytes_eq self.old.own n)) }
+    {
+        self.own.insert(name.share()?, Known::Unread)?;
+        Ok(())
+    }
+
+    /// The name is known to hold these bytes.
+    fn note(&mut self, alloc: Global, name: &Text, bytes: &[u8]) -> Result<(), AllocError>
+        ensures { OnOk result ((n : List ℕ) → get bytes_eq self.new.own n ≡ cond (bytes_eq name.now n) (Some (Known.Holds bytes.now)) (get bytes_eq self.old.own n)) }
+    {
+        let bytes = Bytes::from_slice(alloc, bytes)?;
+        self.own.insert(name.share()?, Known::Holds(bytes))?;
+        Ok(())
+    }
+
+    /// The name is known to be absent.
+    fn drop_name(&mut self, name: &Text)
+        ensures { (n : List ℕ) → get bytes_eq self.new.own n ≡ cond (bytes_eq name.now n) None (get bytes_eq self.old.own n) }
+    {
+        self.own.remove(name);
+    }
+
+    /// An own name is taken away from the shelf, or the call failed.
+    fn remove<H: Shelf>(&mut self, shelf: &mut H, name: &Text) -> Result<bool, AllocError>
+        requires { Knows self.old (H.cell shelf.old) }
+        ensures came { IfOk result (λ done. Came name.now None done (H.fault_count shelf.old) (H.fault_count shelf.new) (H.cell shelf.old) (H.cell shelf.new)) }
+        ensures knows { OnOk result (Knows self.new (H.cell shelf.new)) }
+        ensures unsettles { OnErr result (AllBut (H.cell shelf.old) name.now (H.cell shelf.new)) }
+        ensures later { H.fault_count shelf.old ≤ H.fault_count shelf.new }
+    {
+        self.forget(name)?;
+        let done = remove_name(shelf, name.as_str())?;
+        if done {
+            self.drop_name(name);
+        }
+        Ok(done)
+    }
+
+    /// The name gets the bytes, or gives the call that failed. What is known to hold them is not read.
+    fn bring<H: Shelf>(
+        &mut self,
+        alloc: Global,
+        shelf: &mut H,
+        name: &Text,
+        bytes: &[u8],
+        held: &mut Vec<u8>,
+    ) -> Result<Option<Call>, AllocError>
+        requires own { is_own name.now ≡ true }
+        requires knows { Knows self.old (H.cell shelf.old) }
+        ensures ok { IfOk result (λ failed. Brings name.now bytes.now failed (H.fault_count shelf.old) (H.fault_count shelf.new) (H.cell shelf.old) (H.cell shelf.new)) }
+        ensures knows { OnOk result (Knows self.new (H.cell shelf.new)) }
+        ensures unsettles { OnErr result (AllBut (H.cell shelf.old) name.now (H.cell shelf.new)) }
+        ensures later { H.fault_count shelf.old ≤ H.fault_count shelf.new }
+    {
+        if self.is_known(name, bytes) {
+            return Ok(None);
+        }
+        self.forget(name)?;
+        let failed = bring_unread(shelf, name.as_str(), bytes, held)?;
+        if failed.is_none() {
+            self.note(alloc, name, bytes)?;
+        }
+        Ok(failed)
+    }
+
+    /// A file of an object gets its bytes, or gives the call that failed.
+    fn bring_file<H: Shelf>(
+        &mut self,
+        alloc: Global,
+        shelf: &mut H,
+        object: &Text,
+        which: Which,
+        bytes: &[u8],
+        held: &mut Vec<u8>,
+    ) -> Result<Option<Trouble>, AllocError>
+        requires own { is_own (name_of which object.now) ≡ true }
+        requires knows { Knows self.old (H.cell shelf.old) }
+        ensures ok { IfOk result (λ trouble. BringsFile object.now which bytes.now trouble (H.fault_count shelf.old) (H.fault_count shelf.new) (H.cell shelf.old) (H.cell shelf.new)) }
+        ensures knows { OnOk result (Knows self.new (H.cell shelf.new)) }
+        ensures unsettles { OnErr result (AllBut (H.cell shelf.old) (name_of which object.now) (H.cell shelf.new)) }
+        ensures later { H.fault_count shelf.old ≤ H.fault_count shelf.new }
+    {
+        let name = file_name(alloc, object.as_str(), which)?;
+        match self.bring(alloc, shelf, &name, bytes, held)? {
+            Some(call) => Ok(Some(Trouble {
+                object: object.share()?,
+                which,
+                call,
+            })),
+            None => Ok(None),
+        }
+    }
+
+    /// The files of an object get their bytes, or gives the call that failed.
+    fn bring_profile<H: Shelf>(
+        &mut self,
+        alloc: Global,
+        shelf: &mut H,
+        profile: &Profile,
+        held: &mut Vec<u8>,
+    ) -> Result<Option<Trouble>, AllocError>
+        requires proper { proper (wants_of (profile.now ∷ [])) ≡ true }
+        requires knows { Knows self.old (H.cell shelf.old) }
+        ensures ok { IfOk result (λ trouble. BringsProfile profile.now trouble (H.fault_count shelf.old) (H.fault_count shelf.new) (H.cell shelf.old) (H.cell shelf.new)) }
+        ensures knows { OnOk result (Knows self.new (H.cell shelf.new)) }
+        ensures err { OnErr result (Partly profile.now (H.cell shelf.old) (H.cell shelf.new)) }
+        ensures later { H.fault_count shelf.old ≤ H.fault_count shelf.new }
+    {
+        let json = profile.json.as_slice();
+        if let Some(trouble) = self.bring_file(
+            alloc,
+            shelf,
+            &profile.name,
+            Which::Json,
+            json,
+            held,
+        )? {
+            return Ok(Some(trouble));
+        }
+        let dep = profile.dep.as_slice();
+        self.bring_file(alloc, shelf, &profile.name, Which::Dep, dep, held)
+    }
+
+    /// Each profile's files get their bytes, in the order of the list; calls that fail are added to the troubles.
+    fn place<H: Shelf>(
+        &mut self,
+        alloc: Global,
+        shelf: &mut H,
+        profiles: &[Profile],
+        troubles: &mut Vec<Trouble>,
+    ) -> Result<(), AllocError>
+        requires proper { proper (wants_of profiles.now) ≡ true }
+        requires knows { Knows self.old (H.cell shelf.old) }
+        ensures ok { OnOk result ((before : ℕ) (start : List ℕ → Cell) → let ws = wants_of profiles.now in Placing ws ws troubles.old.items before (H.fault_count shelf.old) start (H.cell shelf.old) → Placing ws [] troubles.new.items before (H.fault_count shelf.new) start (H.cell shelf.new)) }
+        ensures knows { OnOk result (Knows self.new (H.cell shelf.new)) }
+        ensures err { OnErr result ((before : ℕ) (start : List ℕ → Cell) → let ws = wants_of profiles.now in Placing ws ws troubles.old.items before (H.fault_count shelf.old) start (H.cell shelf.old) → Interrupted ws before (H.fault_count shelf.new) start (H.cell shelf.new)) }
+        ensures later { H.fault_count shelf.old ≤ H.fault_count shelf.new }
+    {
+        let mut held = Vec::new(alloc);
+        for profile in profiles {
+            let trouble = self.bring_profile(alloc, shelf, profile, &mut held)?;
+            keep(troubles, trouble)?;
+        }
+        Ok(())
+    }
+
+    /// An own name goes, in the same way.
+    fn sweep<H: Shelf>(
+        &mut self,
+        alloc: Global,
+        shelf: &mut H,
+        name: &Text,
+        troubles: &mut Vec<Trouble>,
+    ) -> Result<(), AllocError>
+        requires own { is_own name.now ≡ true }
+        requires knows { Knows self.old (H.cell shelf.old) }
+        ensures ok { OnOk result (Sweeps name.now troubles.old.items troubles.new.items (H.fault_count shelf.old) (H.fault_count shelf.new) (H.cell shelf.old) (H.cell shelf.new)) }
+        ensures knows { OnOk result (Knows self.new (H.cell shelf.new)) }
+        ensures unsettles { OnErr result (AllBut (H.cell shelf.old) name.now (H.cell shelf.new)) }
+        ensures later { H.fault_count shelf.old ≤ H.fault_count shelf.new }
+    {
+        let done = self.remove(shelf, name)?;
+        if done {
+            return Ok(());
+        }
+        troubles.push(not_removed(alloc, name.as_str())?)?;
+        Ok(())
+    }
+
+    /// These names go, in the order of the list; calls that fail are added to the troubles.
+    fn clear<H: Shelf>(
+        &mut self,
+        alloc: Global,
+        shelf: &mut H,
+        names: &[Text],
+        wants: &[Profile],
+        troubles: &mut Vec<Trouble>,
+    ) -> Result<(), AllocError>
+        requires going { list_all (goes (wants_of wants.now)) names.now ≡ true }
+        requires knows { Knows self.old (H.cell shelf.old) }
+        ensures ok { OnOk result ((before : ℕ) (start : List ℕ → Cell) → let ws = wants_of wants.now in Clearing ws names.now troubles.old.items before (H.fault_count shelf.old) start (H.cell shelf.old) → Clearing ws [] troubles.new.items before (H.fault_count shelf.new) start (H.cell shelf.new)) }
+        ensures knows { OnOk result (Knows self.new (H.cell shelf.new)) }
+        ensures err { OnErr result ((before : ℕ) (start : List ℕ → Cell) → let ws = wants_of wants.now in Clearing ws names.now troubles.old.items before (H.fault_count shelf.old) start (H.cell shelf.old) → Interrupted ws before (H.fault_count shelf.new) start (H.cell shelf.new)) }
+        ensures later { H.fault_count shelf.old ≤ H.fault_count shelf.new }
+    {
+        for name in names {
+            self.sweep(alloc, shelf, name, troubles)?;
+        }
+        Ok(())
+    }
+
+    /// The own names that may be there and that no profile wants, in byte order.
+    fn unwanted(&self, alloc: Global, profiles: &[Profile]) -> Result<Vec<Text>, AllocError>
+        ensures going { IfOk result (λ gone. list_all (goes (wants_of profiles.now)) gone.items ≡ true) }
+        ensures covers { IfOk result (λ gone. Covers gone.items (wants_of profiles.now) self.now) }
+    {
+        let names = wanted_names(alloc, profiles)?;
+        let mut gone = Vec::new(alloc);
+        for (name, _known) in &self.own {
+            add_unwanted(&mut gone, name, &names)?;
+        }
+        gone.sort()?;
+        Ok(gone)
+    }
+
+    /// Publishes profiles: first each own name that no profile wants is removed, in byte order, and then each file
+    /// of theirs is read, and put where its bytes differ. It goes on behind calls that fail, and gives them in the
+    /// order in which they were made.
+    pub fn publish<H: Shelf>(
+        &mut self,
+        alloc: Global,
+        shelf: &mut H,
+        profiles: &[Profile],
+    ) -> Result<Vec<Trouble>, AllocError>
+        requires proper { proper (wants_of profiles.now) ≡ true }
+        requires knows { Knows self.old (H.cell shelf.old) }
+        ensures ok { IfOk result (λ troubles. Published (wants_of profiles.now) troubles.items (H.fault_count shelf.old) (H.fault_count shelf.new) (H.cell shelf.old) (H.cell shelf.new)) }
+        ensures knows { OnOk result (Knows self.new (H.cell shelf.new)) }
+        ensures err { OnErr result (Interrupted (wants_of profiles.now) (H.fault_count shelf.old) (H.fault_count shelf.new) (H.cell shelf.old) (H.cell shelf.new)) }
+        ensures later { H.fault_count shelf.old ≤ H.fault_count shelf.new }
+    {
+        let gone = self.unwanted(alloc, profiles)?;
+        let mut troubles = Vec::new(alloc);
+        self.clear(alloc, shelf, &gone, profiles, &mut troubles)?;
+        self.place(alloc, shelf, profiles, &mut troubles)?;
+        Ok(troubles)
+    }
+
+    /// A publisher for a shelf on which these names are.
+    pub fn new(alloc: Global, names: &[Text]) -> Result<Publisher, AllocError>
+        ensures { IfOk result (λ p. (cell : List ℕ → Cell) → Lists names.now cell → Knows p cell) }
+    {
+        let mut own = HashMap::with_capacity(alloc, names.len())?;
+        for name in names {
+            own.insert(name.share()?, Known::Unread)?;
+        }
+        Ok(Publisher { own })
+    }
+}

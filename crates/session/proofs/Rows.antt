@@ -1,0 +1,88 @@
+-- Written sessions.
+use Rattle.std.proofs.Common.{◌≡◌, ℕ, List, [], ◌∷◌, ◌++◌, Option, Some, None, refl, codes}
+use Rattle.std.specs.Prelude.{option_map}
+use Rattle.std.specs.Fmt.{digits}
+use Rattle.outside.specs.declared.source.MemFile.{MemFile}
+use Rattle.publication.specs.declared.trouble.Trouble.{Trouble}
+use Rattle.publication.specs.declared.trouble.Which.TheVariants.{Json}
+use Rattle.publication.specs.declared.trouble.Call.TheVariants.{Put}
+use Rattle.publication.specs.Stands.{Stand, AtStart, Has, Unspecified}
+use Rattle.session.specs.Sessions.{State, Round, Quits, BrokeOff, Done, next, reached, started}
+use Rattle.session.specs.Toy.{Toy, toy, new_toy}
+
+abbrev file : List ℕ → List ℕ → MemFile
+file name text = record { name = name; content = Some text }
+
+-- a round whose devices meet no fault
+abbrev plain : List ℕ → Round
+plain line = record { line = line; scan = Done; troubles = [] }
+
+abbrev written : Option (State Toy) → Option (List ℕ)
+written s = option_map (λ (t : State Toy). t.text) s
+
+abbrev stands_at : List ℕ → Option (State Toy) → Option Stand
+stands_at name s = option_map (λ (t : State Toy). t.shelf name) s
+
+-- three lines over an empty folder, and the end
+abbrev idle : List Round
+idle = plain (codes "show h") ∷ plain (codes "turn 1") ∷ plain (codes "stop") ∷ []
+
+idle_text : written (reached toy idle (started new_toy [])) ≡ Some (codes "no object\nturns 0 left 0\nbad line\n")
+unfolding digits
+idle_text = refl
+
+-- a file of the site that changes between two scans
+abbrev sites : List (List MemFile)
+sites = site (codes "1") ∷ site (codes "2") ∷ site (codes "2") ∷ [] where
+  site : List ℕ → List MemFile
+  site digit = file (codes "h.pan") (codes "object template h;\ninclude 'site/h';\n") ∷ file (codes "site/h.pan") (codes "template site/h;\n'/v' = " ++ digit ++ codes ";\n") ∷ []
+
+abbrev changing : List Round
+changing = plain (codes "scan") ∷ plain (codes "turn 2") ∷ plain (codes "scan") ∷ plain (codes "show h") ∷ plain (codes "build") ∷ plain (codes "show h") ∷ []
+
+changing_text : written (reached toy changing (started new_toy sites)) ≡ Some (codes "files 2 objects 1\nturns 2 left 2\nfiles 2 objects 1\npending\nrun h\nobjects 1 ok 1 faults 0 run 1\nprofile {\"v\":2}\n")
+unfolding digits
+changing_text = refl
+
+-- a scan that breaks off, and a put that fails and is made again
+abbrev pictures : List (List MemFile)
+pictures = picture (codes "1") ∷ picture (codes "1") ∷ picture (codes "2") ∷ picture (codes "2") ∷ [] where
+  picture : List ℕ → List MemFile
+  picture digit = file (codes "a.txt") (codes "a") ∷ file (codes "h.pan") (codes "object template h;\n'/a' = " ++ digit ++ codes ";\n") ∷ file (codes "z.txt") (codes "z") ∷ []
+
+abbrev json_not_put : Trouble
+json_not_put = record { object = codes "h"; which = Json; call = Put }
+
+abbrev mending : List Round
+mending = plain (codes "build") ∷ record { line = codes "scan"; scan = BrokeOff; troubles = [] } ∷ plain (codes "show h")
+    ∷ record { line = codes "build"; scan = Done; troubles = json_not_put ∷ [] } ∷ plain (codes "build") ∷ []
+
+mending_text : written (reached toy mending (started new_toy pictures)) ≡ Some (codes "run h\nobjects 1 ok 1 faults 0 run 1\nsource fault\nprofile {\"a\":1}\nshelf fault h\nrun h\nobjects 1 ok 1 faults 0 run 1\nobjects 1 ok 1 faults 0 run 0\n")
+unfolding digits
+mending_text = refl
+
+mending_shelf : stands_at (codes "h.json") (reached toy mending (started new_toy pictures)) ≡ Some (Has (Some (codes "{\"a\":2}\n")))
+unfolding digits
+mending_shelf = refl
+
+abbrev troubled : List Round
+troubled = plain (codes "build") ∷ plain (codes "scan") ∷ record { line = codes "build"; scan = Done; troubles = json_not_put ∷ [] } ∷ []
+
+troubled_json : stands_at (codes "h.json") (reached toy troubled (started new_toy pictures)) ≡ Some Unspecified
+unfolding digits
+troubled_json = refl
+
+troubled_dep : stands_at (codes "h.dep") (reached toy troubled (started new_toy pictures)) ≡ Some (Has (Some (codes "template h.pan\n")))
+unfolding digits
+troubled_dep = refl
+
+gone : stands_at (codes "z.json") (reached toy troubled (started new_toy pictures)) ≡ Some (Has None)
+unfolding digits
+gone = refl
+
+foreign : stands_at (codes "z.txt") (reached toy troubled (started new_toy pictures)) ≡ Some AtStart
+unfolding digits
+foreign = refl
+
+quits : next toy (plain (codes "quit")) (started new_toy pictures) ≡ Quits
+quits = refl

@@ -1,0 +1,32 @@
+//! What a session of lines is: what is written, what stands on the shelf, and how it ends.
+//!
+//! In reading order, of `specs/`: `Orders` (what a line says), `Machines` (the engine), `Texts` (what is written),
+//! `Sessions` (rounds, and what they lead to).
+#![tactic(auto)]
+
+use base::{Bytes, Text};
+
+/// What compiling an object gives.
+#[derive(Debug, Drop)]
+pub enum Outcome {
+    /// The bytes of its profile.
+    Profile(Bytes),
+    /// The printed fault.
+    Fault(Bytes),
+}
+
+/// What stands under an object's name, with the text of its dependencies.
+#[derive(Debug, Drop)]
+pub struct Answer {
+    pub name: Text,
+    pub outcome: Outcome,
+    pub deps: Bytes,
+}
+
+/// What an engine says of a name.
+#[derive(Debug, Drop)]
+pub enum Shown {
+    Pending,
+    NoObject,
+    Settled(Answer),
+}
