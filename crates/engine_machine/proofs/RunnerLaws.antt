@@ -1,6 +1,6 @@
 -- A lawful runner meets the laws of the machine.
 use Rattle.std.proofs.Common.{◌≡◌, ◌<◌, ◌||◌, ℕ, List, [], ◌∷◌, Bool, true, false, cond, Option, Some, None, Ok, Err, length, refl, sym, ap, ◌∙◌, inl, inr}
-use Rattle.outside.specs.declared.picture.PictureFile.{PictureFile}
+use Rattle.load_path.specs.declared.picture.PictureFile.{PictureFile}
 use Rattle.pan_ast.specs.declared.fault.Fault.{Fault}
 use Rattle.asking.specs.Asked.{Answer, Ends, Asks, RunsTo}
 use Rattle.questions.specs.declared.key.Key.{Key}

@@ -1,7 +1,7 @@
 -- Pictures as the machine sees them.
 use Rattle.std.specs.Prelude.{List, cond, Option, Some, None}
-use Rattle.outside.specs.Files.{content_in}
-use Rattle.outside.specs.declared.picture.PictureFile.{PictureFile}
+use Rattle.load_path.specs.Pictures.{content_in}
+use Rattle.load_path.specs.declared.picture.PictureFile.{PictureFile}
 use Rattle.questions.specs.declared.key.Key.{Key}
 use Rattle.questions.specs.declared.key.Key.TheVariants.{File, Under}
 use Rattle.questions.specs.Contents.{Content, Absent}

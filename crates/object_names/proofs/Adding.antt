@@ -3,10 +3,9 @@ use Rattle.std.proofs.Common.{◌≡◌, ◌⊎◌, ◌<◌, ◌+◌, ℕ, suc, 
 use Rattle.std.proofs.lemmas.List.{drop_more}
 use Rattle.std.specs.Prelude.{bytes_eq, codes}
 use Rattle.load_path.specs.Pictures.{content_in}
-use Rattle.load_path.specs.Candidates.{with_slash}
 use Rattle.load_path.specs.declared.picture.PictureFile.{PictureFile}
 use Rattle.object_names.specs.Objects.{stands_in, are_rising, is_object_in, AreObjects}
-use Rattle.object_names.specs.Finding.{with_object, with_found, IsIn, Adds}
+use Rattle.object_names.specs.Finding.{with_object, with_found, HasFile, Adds}
 use Rattle.object_names.proofs.Places.{rising_with, stands_with, bytes_same, bytes_refl}
 
 or_right : (a b : Bool) → b ≡ true → a || b ≡ true
@@ -77,12 +76,12 @@ module _ (files : List PictureFile) (dirs : List (List ℕ)) where
       covers_on n object (inl e) = inl (s.keeps n e)
       covers_on n object (inr e) = here n object (bytes_eq f.name (front ++ (n ++ codes ".pan"))) refl (sym (ap (λ fs. is_some (content_in fs (front ++ (n ++ codes ".pan")))) more) ∙ e)
 
-  pub added_last : (i : ℕ) (dir front : List ℕ) (old now : List (List ℕ)) → drop i files ≡ [] → front ≡ with_slash dir → AddedTo i front old now → Adds files dirs (IsIn files dir) old now
-  added_last i dir front old now end is a = record {
+  pub added_last : (i : ℕ) (front : List ℕ) (old now : List (List ℕ)) → drop i files ≡ [] → AddedTo i front old now → Adds files dirs (HasFile files front) old now
+  added_last i front old now end a = record {
     rising = a.rising;
     keeps = a.keeps;
     sound = a.sound;
-    covers = λ n so e. covers_on n (a.covers n (ap (λ p. is_some (content_in files (p ++ (n ++ codes ".pan")))) is ∙ so) e);
+    covers = λ n so e. covers_on n (a.covers n so e);
   }
     where
       covers_on : (n : List ℕ) → (stands_in n now ≡ true) ⊎ Later i front n → stands_in n now ≡ true

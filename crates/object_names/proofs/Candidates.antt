@@ -1,6 +1,6 @@
 -- An object has a file in some directory.
 use Rattle.std.proofs.Common.{◌≡◌, ◌⊎◌, ◌<◌, ◌+◌, ℕ, suc, Bool, true, false, List, [], ◌∷◌, ◌++◌, length, drop, get_or, map, fold, flat_map, Option, Some, None, is_some, ◌&&◌, ◌||◌, if◌then◌else◌, refl, sym, ap, ◌∙◌, inl, inr, arith}
-use Rattle.std.proofs.lemmas.List.{drop_more, append-nil}
+use Rattle.std.proofs.lemmas.List.{drop_more, append-nil, append_assoc}
 use Rattle.std.specs.Prelude.{bytes_eq, codes}
 use Rattle.std.specs.List.{list_any}
 use Rattle.path_tree.specs.Grammar.{is_name}
@@ -9,7 +9,7 @@ use Rattle.load_path.specs.Candidates.{with_slash, candidate, all_candidates, wi
 use Rattle.load_path.specs.declared.picture.Content.{Content}
 use Rattle.load_path.specs.declared.picture.PictureFile.{PictureFile}
 use Rattle.object_names.specs.Objects.{or_next, first_there, stands_in, are_rising, is_object_content, is_object_in, AreObjects}
-use Rattle.object_names.specs.Finding.{IsIn, Adds}
+use Rattle.object_names.specs.Finding.{HasFile, Adds}
 
 module _ (files : List PictureFile) where
   -- some of these files are there
@@ -53,9 +53,12 @@ module _ (files : List PictureFile) where
   Reaches [] name = false
   Reaches (d ∷ ds) name = is_some (content_in files (with_slash d ++ (name ++ codes ".pan"))) || Reaches ds name
 
+  candidate_is : (name d : List ℕ) → candidate name (codes ".pan") [] d ≡ with_slash d ++ (name ++ codes ".pan")
+  candidate_is name d = append_assoc (with_slash d ++ []) name (codes ".pan") ∙ ap (λ z. z ++ (name ++ codes ".pan")) (append-nil (with_slash d))
+
   there_dirs : (ds : List (List ℕ)) (name : List ℕ) → are_there (map (candidate name (codes ".pan") []) ds) ≡ Reaches ds name
   there_dirs [] name = refl
-  there_dirs (d ∷ ds) name = ap (λ b. is_some (content_in files (with_slash d ++ (name ++ codes ".pan"))) || b) (there_dirs ds name)
+  there_dirs (d ∷ ds) name = ap (λ n. is_some (content_in files n) || are_there (map (candidate name (codes ".pan") []) ds)) (candidate_is name d) ∙ ap (λ b. is_some (content_in files (with_slash d ++ (name ++ codes ".pan"))) || b) (there_dirs ds name)
 
   none_there : (ds : List (List ℕ)) (name : List ℕ) → Reaches ds name ≡ false → are_there (candidates name (codes ".pan") [] ds) ≡ false
   none_there ds name e = there_fold [] (all_candidates name (codes ".pan") [] ds) refl (ap are_there (append-nil (map (candidate name (codes ".pan") []) ds)) ∙ there_dirs ds name ∙ e)
@@ -92,7 +95,7 @@ module _ (files : List PictureFile) where
     covers = λ name e. inr (reaches dirs name e);
   }
 
-  pub found_next : (dirs : List (List ℕ)) (j : ℕ) (now new : List (List ℕ)) (d : List ℕ) → j < length dirs → d ≡ get_or dirs j d → FoundTo dirs j now → Adds files dirs (IsIn files d) now new → FoundTo dirs (j + 1) new
+  pub found_next : (dirs : List (List ℕ)) (j : ℕ) (now new : List (List ℕ)) (d : List ℕ) → j < length dirs → d ≡ get_or dirs j d → FoundTo dirs j now → Adds files dirs (HasFile files (with_slash d)) now new → FoundTo dirs (j + 1) new
   found_next dirs j now new d lt is f s = record {
     rising = s.rising;
     sound = λ n e. sound_on n (s.sound n e);

@@ -5,7 +5,7 @@ use Rattle.std.specs.List.{insert}
 use Rattle.std.specs.List.Sorted.{IsPartitionPoint, IsPartitionedBy}
 use Rattle.load_path.specs.Pictures.{is_below}
 use Rattle.object_names.specs.Objects.{stands_in, begins_above, are_rising}
-use Rattle.object_names.specs.Finding.{place_in, with_object}
+use Rattle.object_names.specs.Finding.{place_in, is_same, with_object}
 use Rattle.std.proofs.lemmas.Slice.Eq.{bytes_eq-Decides}
 use Rattle.object_names.proofs.Order.{below_chain, below_differs, above_differs, else_above}
 
@@ -112,3 +112,15 @@ stands_with n m (x ∷ xs) = at (is_below x n) (bytes_eq x n) refl (stands_with 
     at true e same ih = ap (λ c. bytes_eq x m || c) ih ∙ either_turned (bytes_eq x m) (bytes_eq n m) (stands_in m xs)
     at false true same ih = doubled (bytes_eq x m) (stands_in m xs) ∙ ap (λ z. bytes_eq z m || (bytes_eq x m || stands_in m xs)) (bytes_same x n same)
     at false false same ih = refl
+
+-- what stands at the place of a name is the name
+pub there_by : (n : List ℕ) (xs : List (List ℕ)) (b : Bool) → b ≡ is_same n (slice_get xs (place_in xs n)) → b ≡ true → xs ≡ with_object n xs
+there_by n xs b is so = at (slice_get xs (place_in xs n)) refl (sym is ∙ so)
+  where
+    at : (x : Option (List ℕ)) → slice_get xs (place_in xs n) ≡ x → is_same n x ≡ true → xs ≡ with_object n xs
+    at None e same = absurd (let clash : false ≡ true = same in cc)
+    at (Some y) e same = there_is n xs y e same
+
+-- or it is not
+pub put_by : (n : List ℕ) (xs : List (List ℕ)) (b : Bool) → b ≡ is_same n (slice_get xs (place_in xs n)) → b ≡ false → insert xs (place_in xs n) n ≡ with_object n xs
+put_by n xs b is no_one = put_is n xs (λ y e. sym (ap (is_same n) e) ∙ sym is ∙ no_one)

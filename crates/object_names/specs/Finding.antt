@@ -1,8 +1,7 @@
 -- How objects are found, one name after another.
-use Rattle.std.specs.Prelude.{◌≡◌, ◌⊎◌, ℕ, suc, List, [], ◌∷◌, ◌++◌, Bool, true, is_some, codes, if◌then◌else◌}
+use Rattle.std.specs.Prelude.{◌≡◌, ◌⊎◌, ℕ, suc, List, [], ◌∷◌, ◌++◌, Bool, true, false, Option, Some, None, is_some, codes, if◌then◌else◌}
 use Rattle.std.specs.Str.{bytes_eq}
 use Rattle.load_path.specs.Pictures.{content_in, is_below}
-use Rattle.load_path.specs.Candidates.{with_slash}
 use Rattle.load_path.specs.declared.picture.PictureFile.{PictureFile}
 use Rattle.object_names.specs.Objects.{stands_in, are_rising, is_object_in}
 
@@ -10,6 +9,10 @@ use Rattle.object_names.specs.Objects.{stands_in, are_rising, is_object_in}
 abbrev pub place_in : List (List ℕ) → List ℕ → ℕ
 place_in [] name = 0
 place_in (n ∷ names) name = if is_below n name then suc (place_in names name) else 0
+
+abbrev pub is_same : List ℕ → Option (List ℕ) → Bool
+is_same name None = false
+is_same name (Some n) = bytes_eq n name
 
 -- a name in its place, once
 abbrev pub with_object : List ℕ → List (List ℕ) → List (List ℕ)
@@ -19,9 +22,9 @@ with_object name (n ∷ names) = if is_below n name then n ∷ with_object name 
 abbrev pub with_found : List PictureFile → List (List ℕ) → List ℕ → List (List ℕ) → List (List ℕ)
 with_found files dirs name names = if is_object_in files dirs name then with_object name names else names
 
--- a name has a file in this directory
-abbrev pub IsIn : List PictureFile → List ℕ → List ℕ → Type 0
-IsIn files dir name = is_some (content_in files (with_slash dir ++ (name ++ codes ".pan"))) ≡ true
+-- a name has a file below this front
+abbrev pub HasFile : List PictureFile → List ℕ → List ℕ → Type 0
+HasFile files front name = is_some (content_in files (front ++ (name ++ codes ".pan"))) ≡ true
 
 -- the objects that are so are added, and no other name
 pub record Adds (files : List PictureFile) (dirs : List (List ℕ)) (IsSo : List ℕ → Type 0) (old new : List (List ℕ)) : Type 0 where

@@ -19,10 +19,13 @@ abbrev pub first_there : List PictureFile → List (List ℕ) → Option Content
 first_there files [] = None
 first_there files (name ∷ names) = or_next (content_in files name) (first_there files names)
 
+abbrev pub is_object_text : Content → Bool
+is_object_text TooLong = false
+is_object_text (Bytes text) = is_object text
+
 abbrev pub is_object_content : Option Content → Bool
 is_object_content None = false
-is_object_content (Some TooLong) = false
-is_object_content (Some (Bytes text)) = is_object text
+is_object_content (Some content) = is_object_text content
 
 -- a template name is an object where the first of its files that is there begins as an object template
 abbrev pub is_object_in : List PictureFile → List (List ℕ) → List ℕ → Bool

@@ -1,10 +1,10 @@
 //! The objects of a picture: the template names whose first file that is there is an object template.
 #![tactic(auto)]
 
-ghost use Rattle.std.specs.Prelude.{◌≡◌, ◌++◌, ◌≤◌, ℕ, List, [], true, Some, codes, IfOk, IfSome, OnOk, option_copied, length};
+ghost use Rattle.std.specs.Prelude.{◌≡◌, ◌++◌, ◌≤◌, ℕ, List, [], true, Some, slice_get, codes, IfOk, IfSome, OnOk, option_copied, length};
 ghost use Rattle.load_path.specs.Candidates.{with_slash};
-ghost use Rattle.object_names.specs.Objects.{first_there, is_object_content, is_object_in, are_rising, AreObjects};
-ghost use Rattle.object_names.specs.Finding.{place_in, with_object, with_found, IsIn, Adds};
+ghost use Rattle.object_names.specs.Objects.{first_there, is_object_text, is_object_in, are_rising, AreObjects};
+ghost use Rattle.object_names.specs.Finding.{place_in, is_same, with_object, with_found, HasFile, Adds};
 
 use base::Text;
 use load_path::{Content, Picture, PictureFile, candidates};
@@ -32,12 +32,12 @@ fn first_there<'a>(picture: &'a Picture, names: &[Text]) -> Option<&'a Content>
     None
 }
 
-fn is_object_content(content: Option<&Content>) -> bool
-    ensures { result ≡ is_object_content (option_copied content) }
+fn is_object_text(content: &Content) -> bool
+    ensures { result ≡ is_object_text content.now }
 {
     match content {
-        Some(Content::Bytes(text)) => is_object(text.as_slice()),
-        _ => false,
+        Content::Bytes(text) => is_object(text.as_slice()),
+        Content::TooLong => false,
     }
 }
 
@@ -54,16 +54,27 @@ fn is_object_in(
         return Ok(false);
     }
     let names = candidates(alloc, name, ".pan", &[], dirs)?;
-    Ok(is_object_content(first_there(picture, names.as_slice())))
+    match first_there(picture, names.as_slice()) {
+        Some(content) => Ok(is_object_text(content)),
+        None => Ok(false),
+    }
 }
 
 /// How many names stand before the place of a name.
-#[tactic(auto, using(crate::proofs::Places::partitioned, crate::proofs::Places::place_is))]
 fn place_of(names: &[Name], name: &Name) -> usize
     requires { are_rising names.now ≡ true }
     ensures { result ≡ place_in names.now name.now }
 {
-    names.partition_point(|each| each < name)
+    names.partition_point(|each| each.as_str() < name.as_str())
+}
+
+fn stands_at(names: &[Name], place: usize, name: &Name) -> bool
+    ensures { result ≡ is_same name.now (slice_get names.now place) }
+{
+    match names.get(place) {
+        Some(there) => there == name,
+        None => false,
+    }
 }
 
 /// Adds a name at its place, where it does not stand there.
@@ -72,10 +83,8 @@ fn add_name(names: &mut Vec<Name>, name: Name) -> Result<(), AllocError>
     ensures { OnOk result (names.new.items ≡ with_object name names.old.items) }
 {
     let place = place_of(names, &name);
-    if let Some(there) = names.get(place) {
-        if *there == name {
-            return Ok(());
-        }
+    if stands_at(names, place, &name) {
+        return Ok(());
     }
     names.insert(place, name)?;
     Ok(())
@@ -130,6 +139,23 @@ fn front_of(alloc: Global, dir: &str) -> Result<Text, AllocError>
     Text::joined(alloc, dir, "/")
 }
 
+/// Adds the objects that have a file below a front.
+fn add_files(
+    alloc: Global,
+    names: &mut Vec<Name>,
+    picture: &Picture,
+    dirs: &[Text],
+    front: &str,
+) -> Result<(), AllocError>
+    requires { are_rising names.old.items ≡ true }
+    ensures { OnOk result (Adds picture.now dirs.now (HasFile picture.now front.now) names.old.items names.new.items) }
+{
+    for file in picture.files() {
+        add_file(alloc, names, picture, dirs, front, file.name.as_str())?;
+    }
+    Ok(())
+}
+
 /// Adds the objects that have a file in a directory.
 fn add_below(
     alloc: Global,
@@ -139,13 +165,10 @@ fn add_below(
     dir: &str,
 ) -> Result<(), AllocError>
     requires { are_rising names.old.items ≡ true }
-    ensures { OnOk result (Adds picture.now dirs.now (λ name. IsIn picture.now dir.now name) names.old.items names.new.items) }
+    ensures { OnOk result (Adds picture.now dirs.now (HasFile picture.now (with_slash dir.now)) names.old.items names.new.items) }
 {
     let front = front_of(alloc, dir)?;
-    for file in picture.files() {
-        add_file(alloc, names, picture, dirs, front.as_str(), file.name.as_str())?;
-    }
-    Ok(())
+    add_files(alloc, names, picture, dirs, front.as_str())
 }
 
 /// The objects of a picture with these include directories, in byte order: the template names whose first file that is

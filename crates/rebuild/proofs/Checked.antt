@@ -1,7 +1,7 @@
 -- The cases of a check part are those of the machine.
 use Rattle.std.proofs.Common.{◌≡◌, ℕ, List, [], Bool, true, false, Option, Some, None, option_map, map, Ok, Err, get_or, refl, sym, ap, ◌∙◌, subst}
 use Rattle.std.specs.Prelude.{slice_get}
-use Rattle.outside.specs.declared.picture.PictureFile.{PictureFile}
+use Rattle.load_path.specs.declared.picture.PictureFile.{PictureFile}
 use Rattle.pan_ast.specs.declared.fault.Fault.{Fault}
 use Rattle.foreign_values.specs.Chains.{below}
 use Rattle.questions.specs.declared.key.Key.{Key}

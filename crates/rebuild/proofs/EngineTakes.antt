@@ -1,7 +1,7 @@
 -- An engine after a take.
 use Rattle.std.proofs.Common.{◌≡◌, ℕ, List, [], ◌∷◌, true, Result, Ok, Err, OnOk, OnErr, refl, sym, ap, ◌∙◌, subst}
 use Rattle.std.proofs.Math.Logic.{∥∥₁_map}
-use Rattle.outside.specs.declared.picture.PictureFile.{PictureFile}
+use Rattle.load_path.specs.declared.picture.PictureFile.{PictureFile}
 use Rattle.pan_ast.specs.declared.work.Limits.{Limits}
 use Rattle.questions.specs.declared.key.Key.TheVariants.{File}
 use Rattle.runner.specs.Meaning.{IsLawful}

@@ -13,3 +13,5 @@ pub mod Taken
 pub mod Renewals
 pub mod EngineTakes
 pub mod New
+pub mod Objects
+pub mod Answering

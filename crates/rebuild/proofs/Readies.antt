@@ -1,5 +1,6 @@
 -- The engine's data stays ready.
 use Rattle.std.proofs.Common.{◌≡◌, ◌≤◌, ◌<◌, ◌&&◌, ◌+◌, ℕ, zero, suc, List, [], ◌∷◌, Bool, true, false, cond, Option, Some, None, Ok, Err, nat_le, length, get_or, slice_set, nat_eq, refl, sym, ap, ◌∙◌, subst, arith}
+use Rattle.base.specs.declared.limits.TheConstants.{END_OF_NUMBERS}
 use Rattle.foreign_values.specs.declared.Part.{Part}
 use Rattle.foreign_values.specs.declared.Part.TheVariants as part
 use Rattle.foreign_values.specs.Chains.{below}
@@ -88,6 +89,7 @@ ready_left c at r e ready lt same g mid new counter limits dirs files rows chain
       dirs = dirs;
       files = files;
       objects = ns;
+      low = λ h. subst (λ n. n ≤ END_OF_NUMBERS) (sym counter) h;
     })
   where
     ns : names mid.rows.items ≡ names c.rows.items
@@ -107,6 +109,7 @@ ready_above c p ready free among new counter limits dirs files ns g chain = reco
   dirs = dirs;
   files = files;
   objects = ns;
+  low = λ h. subst (λ n. n ≤ END_OF_NUMBERS) (sym counter) h;
 }
 
 -- a check part comes on top of nothing
@@ -123,19 +126,21 @@ ready_check c p ready empty among new chain = record {
   dirs = refl;
   files = refl;
   objects = refl;
+  low = λ h. h;
 }
 
 pub stays_same : {T : Type 0} → (c : Core T) → IsReady c → StaysReady c c
-stays_same c ready = record { ready = ready; limits = refl; dirs = refl; files = refl; objects = refl }
+stays_same c ready = record { ready = ready; limits = refl; dirs = refl; files = refl; objects = refl; low = λ h. h }
 
 -- after a number was given
-pub after_given : {T : Type 0} → (c : Core T) (m : ℕ) (mid new : Core T) → mid ≡ record c { counter = next_counter m c.counter } → StaysReady mid new → StaysReady c new
-after_given c m mid new given s = record {
+pub after_given : {T : Type 0} → (c : Core T) (m : ℕ) (mid new : Core T) → mid ≡ record c { counter = next_counter m c.counter } → (c.counter ≤ END_OF_NUMBERS → mid.counter ≤ END_OF_NUMBERS) → StaysReady mid new → StaysReady c new
+after_given c m mid new given up s = record {
   ready = s.ready;
   limits = s.limits ∙ ap (λ z. z.limits) given;
   dirs = s.dirs ∙ ap (λ z. z.dirs) given;
   files = s.files ∙ ap (λ z. z.files.items) given;
   objects = s.objects ∙ ap (λ z. names z.rows.items) given;
+  low = λ h. s.low (up h);
 }
 
 -- a number was given

@@ -1,5 +1,6 @@
 -- The rows after a Take are the machine's state after it.
-use Rattle.std.proofs.Common.{◌≡◌, ◌||◌, ℕ, List, [], ◌∷◌, Bool, true, false, cond, Option, Some, None, refl, ap, ◌∙◌, arith}
+use Rattle.std.proofs.Common.{◌≡◌, ◌≤◌, ◌||◌, ℕ, List, [], ◌∷◌, Bool, true, false, cond, Option, Some, None, refl, ap, ◌∙◌, arith}
+use Rattle.base.specs.declared.limits.TheConstants.{END_OF_NUMBERS}
 use Rattle.foreign_values.specs.declared.Part.{Part}
 use Rattle.engine_laws.specs.Names.{Name, equal}
 use Rattle.engine_laws.proofs.Names.{equal-true}
@@ -9,7 +10,7 @@ use Rattle.rebuild.specs.declared.rows.Row.{Row}
 use Rattle.rebuild.specs.Places.{row_in, of_row, column, names}
 use Rattle.rebuild.specs.States.{number_in, last_of, reads_of, checked_of, why_of, held_of, picture_of, state_of, is_graded, are_graded}
 use Rattle.rebuild.specs.Taking.{taken_row, taken_rows, numbered, counter_after}
-use Rattle.outside.specs.declared.picture.PictureFile.{PictureFile}
+use Rattle.load_path.specs.declared.picture.PictureFile.{PictureFile}
 use Rattle.rebuild.specs.declared.core_data.Core.{Core}
 use Rattle.rebuild.specs.Renewing.{taken_state, IsTaken}
 use Rattle.rebuild.specs.Ready.{are_once, is_chain, are_known, IsReady}
@@ -116,8 +117,8 @@ graded_taken : {T : Type 0} → (rows : List (Row T)) (objects : List Name) → 
 graded_taken rows [] g = refl
 graded_taken rows (o ∷ objects) g = both_true (is_graded (taken_row o (row_in o rows)).last) (are_graded (taken_rows rows objects)) (graded_one rows o g (row_in o rows) refl) (graded_taken rows objects g)
 
-pub core_taken : {T : Type 0} → (c : Core T) (files : List PictureFile) (objects : List Name) → IsReady c → are_once objects ≡ true → (new : Core T) → new.limits ≡ c.limits → new.dirs ≡ c.dirs → new.counter ≡ counter_after c.files.items c.counter files → new.files.items ≡ numbered c.files.items c.counter files → new.rows.items ≡ taken_rows c.rows.items objects → new.chain ≡ [] → IsTaken files objects c new
-core_taken c files objects ready once new limits dirs counter numbers rows chain = record {
+pub core_taken : {T : Type 0} → (c : Core T) (files : List PictureFile) (objects : List Name) → IsReady c → are_once objects ≡ true → (new : Core T) → new.limits ≡ c.limits → new.dirs ≡ c.dirs → new.counter ≡ counter_after c.files.items c.counter files → new.files.items ≡ numbered c.files.items c.counter files → new.rows.items ≡ taken_rows c.rows.items objects → new.chain ≡ [] → (c.counter ≤ END_OF_NUMBERS → new.counter ≤ END_OF_NUMBERS) → IsTaken files objects c new
+core_taken c files objects ready once new limits dirs counter numbers rows chain low = record {
   state = data_taken c files objects new.counter new.files.items new.rows.items new.chain counter numbers rows chain;
   ready = record {
     three = let u = counter_up c.files.items c.counter files in let t = ready.three in omega (arith, u, t, counter);
@@ -130,6 +131,7 @@ core_taken c files objects ready once new limits dirs counter numbers rows chain
   dirs = dirs;
   files_are = numbers;
   objects_are = ns;
+  low = low;
 }
   where
     ns : names new.rows.items ≡ objects

@@ -1,10 +1,10 @@
 -- The numbers of a Take are numbers as the machine wants them.
 use Rattle.std.proofs.Common.{◌≡◌, ◌<◌, ◌≤◌, ◌⊎◌, ℕ, List, [], ◌∷◌, Bool, true, false, cond, Option, Some, None, refl, sym, ap, ◌∙◌, subst, inl, inr, arith}
 use Rattle.std.specs.Prelude.{bytes_eq}
-use Rattle.outside.specs.Files.{content_in}
-use Rattle.outside.specs.declared.picture.Content.{Content}
-use Rattle.outside.specs.declared.picture.Content.TheVariants.{Bytes, TooLong}
-use Rattle.outside.specs.declared.picture.PictureFile.{PictureFile}
+use Rattle.load_path.specs.Pictures.{content_in}
+use Rattle.load_path.specs.declared.picture.Content.{Content}
+use Rattle.load_path.specs.declared.picture.Content.TheVariants.{Bytes, TooLong}
+use Rattle.load_path.specs.declared.picture.PictureFile.{PictureFile}
 use Rattle.questions.specs.declared.key.Key.{Key}
 use Rattle.questions.specs.declared.key.Key.TheVariants.{File, Under}
 use Rattle.runner.specs.Words.{file_content}

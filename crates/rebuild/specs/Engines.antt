@@ -1,7 +1,7 @@
 -- An engine as contracts see it, and what its calls make of it.
 use Rattle.std.specs.Prelude.{ℕ, List, [], Bool, ◌&&◌, nat_le}
 use Rattle.base.specs.declared.limits.TheConstants.{END_OF_NUMBERS}
-use Rattle.outside.specs.declared.picture.PictureFile.{PictureFile}
+use Rattle.load_path.specs.declared.picture.PictureFile.{PictureFile}
 use Rattle.pan_ast.specs.declared.work.Limits.{Limits}
 use Rattle.questions.specs.declared.key.Key.{Key}
 use Rattle.questions.specs.Contents.{Content}
@@ -36,6 +36,9 @@ Meanings T = List (List ℕ) → Limits → Meaning T
 -- the engine's picture and state
 abbrev pub situation_of : {T : Type 0} → Core T → EngineSituation T
 situation_of c = record { picture = core_picture c; state = core_state c }
+
+abbrev pub objects_of : {T : Type 0} → Core T → List Name
+objects_of c = names c.rows.items
 
 abbrev pub value_of : {T : Type 0} → Core T → EngineValue T
 value_of c = record { limits = c.limits; dirs = c.dirs; files = c.files.items; situation = situation_of c }

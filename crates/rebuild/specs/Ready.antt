@@ -1,5 +1,6 @@
 -- What the engine's data keeps from turn to turn.
 use Rattle.std.specs.Prelude.{◌≡◌, ◌≤◌, ◌<◌, length, ℕ, List, [], ◌∷◌, Bool, true, false, not, ◌&&◌, Some}
+use Rattle.base.specs.declared.limits.TheConstants.{END_OF_NUMBERS}
 use Rattle.foreign_values.specs.declared.Part.{Part}
 use Rattle.foreign_values.specs.declared.Part.TheVariants as part
 use Rattle.questions.specs.declared.key.Key.{Key}
@@ -73,6 +74,7 @@ pub record StaysReady {T : Type 0} (c new : Core T) : Type 0 where
   pub dirs : new.dirs ≡ c.dirs
   pub files : new.files.items ≡ c.files.items
   pub objects : names new.rows.items ≡ names c.rows.items
+  pub low : c.counter ≤ END_OF_NUMBERS → new.counter ≤ END_OF_NUMBERS
 
 -- the row at this place is the one of the build part on top
 pub record IsBuildTop {T : Type 0} (c : Core T) (at : ℕ) : Type 0 where

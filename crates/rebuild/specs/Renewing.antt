@@ -1,9 +1,11 @@
 -- Rows that take what was kept of their objects.
-use Rattle.std.specs.Prelude.{◌≡◌, ℕ, zero, suc, List, [], ◌∷◌, true, false, Option, Some, None, map, get_or, slice_set}
+use Rattle.std.specs.Prelude.{◌≡◌, ◌≤◌, length, ℕ, zero, suc, List, [], ◌∷◌, true, false, Option, Some, None, map, get_or, slice_set}
+use Rattle.base.specs.declared.limits.TheConstants.{END_OF_NUMBERS, MAX_OBJECTS}
+use Rattle.object_names.specs.Objects.{AreObjects}
 use Rattle.engine_laws.specs.Names.{Name, equal}
 use Rattle.rebuild.specs.declared.rows.Row.{Row}
 use Rattle.rebuild.specs.Places.{row_in, names}
-use Rattle.outside.specs.declared.picture.PictureFile.{PictureFile}
+use Rattle.load_path.specs.declared.picture.PictureFile.{PictureFile}
 use Rattle.engine_laws.specs.Engine.{taken}
 use Rattle.rebuild.specs.declared.core_data.Core.{Core}
 use Rattle.rebuild.specs.States.{EngineState, number_in, picture_of}
@@ -42,3 +44,10 @@ pub record IsTaken {T : Type 0} (files : List PictureFile) (objects : List Name)
   pub dirs : new.dirs ≡ c.dirs
   pub files_are : new.files.items ≡ numbered c.files.items c.counter files
   pub objects_are : names new.rows.items ≡ objects
+  pub low : c.counter ≤ END_OF_NUMBERS → new.counter ≤ END_OF_NUMBERS
+
+-- the data after a Take of a picture: its objects are those of the picture, and not too many
+pub record IsPictureTaken {T : Type 0} (files : List PictureFile) (c new : Core T) : Type 0 where
+  pub taken : IsTaken files (names new.rows.items) c new
+  pub objects : AreObjects files c.dirs (names new.rows.items)
+  pub few : length new.rows.items ≤ MAX_OBJECTS

@@ -1,6 +1,6 @@
 -- The engine's data as a state of the machine.
 use Rattle.std.specs.Prelude.{ℕ, List, [], ◌∷◌, Bool, true, false, ◌&&◌, nat_eq, nat_le, cond, Option, Some, None, option_map, map, Ok, Err}
-use Rattle.outside.specs.declared.picture.PictureFile.{PictureFile}
+use Rattle.load_path.specs.declared.picture.PictureFile.{PictureFile}
 use Rattle.questions.specs.declared.key.Key.{Key}
 use Rattle.questions.specs.declared.key.Key.TheVariants.{File, Under}
 use Rattle.read_sets.specs.Items.{pairs_of}

@@ -1,8 +1,8 @@
 -- The numbers of files at a Take.
 use Rattle.std.specs.Prelude.{ℕ, ◌+◌, List, [], ◌∷◌, Bool, true, false, cond, Option, Some, None, map, bytes_eq}
-use Rattle.outside.specs.declared.picture.Content.{Content}
-use Rattle.outside.specs.declared.picture.Content.TheVariants.{Bytes, TooLong}
-use Rattle.outside.specs.declared.picture.PictureFile.{PictureFile}
+use Rattle.load_path.specs.declared.picture.Content.{Content}
+use Rattle.load_path.specs.declared.picture.Content.TheVariants.{Bytes, TooLong}
+use Rattle.load_path.specs.declared.picture.PictureFile.{PictureFile}
 use Rattle.engine_laws.specs.Names.{Name}
 use Rattle.rebuild.specs.declared.rows.Cause.TheVariants as cause
 use Rattle.rebuild.specs.declared.rows.FileRow.{FileRow}

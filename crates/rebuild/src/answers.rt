@@ -1,13 +1,14 @@
 //! What the engine answers.
 
-ghost use Rattle.std.specs.Prelude.{◌≡◌, option_copied};
-ghost use Rattle.rebuild.specs.Answers.{seen_answer, answer_of_row, answer_in, seen_why, why_in, count_rows};
-ghost use Rattle.rebuild.specs.Places.{row_in};
+ghost use Rattle.std.specs.Prelude.{◌≡◌, ◌≤◌, ◌++◌, [], IfOk, length, option_copied};
+ghost use Rattle.rebuild.specs.Answers.{seen_answer, answer_of_row, answer_found, seen_why, why_found, seen_reads, reads_of_row, reads_found, run_names, count_rows};
+ghost use Rattle.rebuild.specs.Places.{row_in, names};
 
 use crate::rows::{Cause, Row};
 use pan_ast::Fault;
-use path_tree::Tree;
-use read_sets::Key;
+use path_tree::{Name, Tree};
+use read_sets::{Key, Trace};
+use std::alloc::{AllocError, Global};
 
 /// The answer for a name: its profile's tree, its fault, that it is not settled, or that it is no object.
 pub enum Answer<'a> {
@@ -15,6 +16,20 @@ pub enum Answer<'a> {
     Fault(&'a Fault),
     Pending,
     NoObject,
+}
+
+/// Why a name was run last.
+pub enum Why<'a> {
+    NotRun,
+    NoRecord,
+    Changed(&'a Key),
+    NoObject,
+}
+
+/// What an object asked for in its build and in its check.
+pub struct Reads<'a> {
+    pub build: &'a Trace,
+    pub check: &'a Trace,
 }
 
 /// The row of a name.
@@ -53,7 +68,7 @@ fn answer_of_row<T>(row: &Row<T>) -> Answer<'_>
 
 /// The answer for a name.
 pub(crate) fn answer_in<'a, T>(rows: &'a [Row<T>], name: &str) -> Answer<'a>
-    ensures { seen_answer result ≡ answer_in rows.now name.now }
+    ensures { seen_answer result ≡ answer_found (row_in name.now rows.now) }
 {
     match row_of_text(rows, name) {
         None => Answer::NoObject,
@@ -62,16 +77,8 @@ pub(crate) fn answer_in<'a, T>(rows: &'a [Row<T>], name: &str) -> Answer<'a>
 }
 
 /// Why a name was run last.
-pub enum Why<'a> {
-    NotRun,
-    NoRecord,
-    Changed(&'a Key),
-    NoObject,
-}
-
-/// Why a name was run last.
 pub(crate) fn why_in<'a, T>(rows: &'a [Row<T>], name: &str) -> Why<'a>
-    ensures { seen_why result ≡ why_in rows.now name.now }
+    ensures { seen_why result ≡ why_found (row_in name.now rows.now) }
 {
     match row_of_text(rows, name) {
         None => Why::NoObject,
@@ -81,6 +88,56 @@ pub(crate) fn why_in<'a, T>(rows: &'a [Row<T>], name: &str) -> Why<'a>
             Cause::Changed(key) => Why::Changed(key),
         },
     }
+}
+
+/// What the object of a row asked for.
+fn reads_of_row<T>(row: &Row<T>) -> Option<Reads<'_>>
+    ensures { seen_reads result ≡ reads_of_row row.now }
+{
+    if row.open_build || row.open_check {
+        return None;
+    }
+    match (&row.build, &row.check) {
+        (Some(build), Some(check)) => Some(Reads {
+            build,
+            check: &check.reads,
+        }),
+        _ => None,
+    }
+}
+
+/// What an object asked for.
+pub(crate) fn reads_in<'a, T>(rows: &'a [Row<T>], name: &str) -> Option<Reads<'a>>
+    ensures { seen_reads result ≡ reads_found (row_in name.now rows.now) }
+{
+    match row_of_text(rows, name) {
+        None => None,
+        Some(row) => reads_of_row(row),
+    }
+}
+
+/// The names of all rows.
+pub(crate) fn names_in<T>(alloc: Global, rows: &[Row<T>]) -> Result<Vec<Name>, AllocError>
+    ensures { IfOk result (λ made. made.items ≡ names rows.now) }
+{
+    let mut made = Vec::with_capacity(alloc, rows.len())?;
+    for row in rows {
+        made.push(row.name.share()?)?;
+    }
+    Ok(made)
+}
+
+/// The names of the rows that were run.
+pub(crate) fn runs_in<T>(alloc: Global, rows: &[Row<T>]) -> Result<Vec<Name>, AllocError>
+    ensures { IfOk result (λ made. made.items ≡ run_names rows.now) }
+{
+    let mut made = Vec::new(alloc);
+    for row in rows {
+        if row.run {
+            made.push(row.name.share()?)?;
+        }
+    }
+    Ok(made)
 }
 
 /// How many build parts are unsettled.

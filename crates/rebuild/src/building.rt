@@ -1,6 +1,7 @@
 //! The cases of a turn with a build part on top.
 
-ghost use Rattle.std.specs.Prelude.{◌≡◌, OnOk, OnErr, Err, Ok, true, false};
+ghost use Rattle.base.specs.declared.limits.TheConstants.{END_OF_NUMBERS};
+ghost use Rattle.std.specs.Prelude.{◌≡◌, ◌≤◌, OnOk, OnErr, Err, Ok, true, false};
 ghost use Rattle.read_sets.specs.Items.{pairs_of};
 ghost use Rattle.foreign_values.specs.Chains.{below};
 ghost use Rattle.engine_laws.specs.Engine.{is_among};
@@ -85,6 +86,7 @@ fn number_for<T>(row: &Row<T>, tree: &Tree, counter: u64) -> u64
 /// A number is given: the counter is drawn where it is this number.
 fn give_number<T: Drop>(core: &mut Core<T>, number: u64) -> Result<(), TurnError>
     ensures given { OnOk result (core.new ≡ record core.old { counter = next_counter number core.old.counter }) }
+    ensures low { OnOk result (core.old.counter ≤ END_OF_NUMBERS → core.new.counter ≤ END_OF_NUMBERS) }
     ensures before { OnErr result (core.new ≡ core.old) }
 {
     if number == core.counter {

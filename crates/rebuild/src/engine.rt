@@ -1,22 +1,22 @@
 //! The engine.
 
-ghost use Rattle.std.specs.Prelude.{◌≡◌, true, OnOk, OnErr};
-ghost use Rattle.rebuild.specs.States.{pictured};
+ghost use Rattle.std.specs.Prelude.{◌≡◌, ◌≤◌, ◌+◌, true, IfOk, IfErr, OnOk, OnErr, length};
+ghost use Rattle.base.specs.declared.limits.TheConstants.{END_OF_NUMBERS, MAX_OBJECTS};
 ghost use Rattle.rebuild.specs.Engines.{is_ready, IsEngine, value_of};
 
-use crate::answers::{Answer, Why, answer_in, why_in};
+use crate::answers::{Answer, Reads, Why, answer_in, names_in, reads_in, runs_in, why_in};
 use crate::core_data::Core;
-use crate::renewing::take_core;
+use crate::renewing::take_picture;
 use crate::taking::TakeError;
 use crate::turned::{TurnError, Turned};
 use crate::turning::turn;
 use base::{Seq, Steps, Text};
 use foreign_values::Chain;
-use outside::PictureFile;
+use load_path::Picture;
 use pan_ast::Limits;
 use path_tree::Name;
 use runner::Runner;
-use std::alloc::Global;
+use std::alloc::{AllocError, Global};
 use std::sync::ledger::Ledger;
 
 /// The incremental engine, over a runner that it does not keep.
@@ -24,13 +24,28 @@ use std::sync::ledger::Ledger;
 pub struct Engine<R: Runner> {
     core: Core<R::Rest>,
     ghost ready: { is_ready core ≡ true },
+    ghost low: { core.counter ≤ END_OF_NUMBERS },
+    ghost few: { length core.rows.items ≤ MAX_OBJECTS },
     ghost reached: { ∥ IsEngine R.meaning (value_of core) ∥₁ },
 }
 
+/// The same texts, shared.
+fn shared(alloc: Global, texts: &[Text]) -> Result<Seq<Text>, AllocError>
+    ensures { IfOk result (λ same. same ≡ texts.now) }
+{
+    let mut same = Vec::with_capacity(alloc, texts.len())?;
+    for text in texts {
+        same.push(text.share()?)?;
+    }
+    Ok(Seq::from_vec(same))
+}
+
 impl<R: Runner> Engine<R> {
-    ghost use Rattle.rebuild.specs.Engines.{situation_of, new_situation, after_take, after_turn, IsTrue};
-    ghost use Rattle.rebuild.specs.Ready.{are_once};
-    ghost use Rattle.rebuild.specs.Answers.{seen_answer, answer_in, seen_why, why_in};
+    ghost use Rattle.object_names.specs.Objects.{AreObjects};
+    ghost use Rattle.rebuild.specs.Answers.{seen_answer, answer_at, seen_why, why_at, seen_reads, reads_at, runs_at};
+    ghost use Rattle.rebuild.specs.Engines.{situation_of, new_situation, after_take, after_turn, IsTrue, objects_of};
+    ghost use Rattle.rebuild.specs.Refused.{IsRefused};
+    ghost use Rattle.rebuild.specs.States.{pictured};
 
     /// An engine with an empty picture and no records.
     pub fn new(alloc: Global, limits: Limits, dirs: Seq<Text>) -> Engine<R>
@@ -50,6 +65,40 @@ impl<R: Runner> Engine<R> {
         }
     }
 
+    /// Takes a picture: its objects are those of the engine from now on, and all of them are unsettled. The runner gets
+    /// the picture and the engine's directories.
+    ///
+    /// `steps` rises by one for each file. `TooManyObjects` where the picture has over [MAX_OBJECTS], `NumbersSpent`
+    /// where the numbers that its files need pass [END_OF_NUMBERS]. A refused take leaves engine and runner as before.
+    pub fn take<L: Ledger>(
+        &mut self,
+        alloc: Global,
+        picture: Picture,
+        runner: &mut R,
+        steps: &mut Steps<L>,
+    ) -> Result<(), TakeError>
+        ensures objects { OnOk result (AreObjects picture self.old.core.dirs (objects_of self.new.core)) }
+        ensures few { OnOk result (length (objects_of self.new.core) ≤ MAX_OBJECTS) }
+        ensures state { OnOk result (situation_of self.new.core ≡ after_take R.meaning (value_of self.old.core) picture (objects_of self.new.core)) }
+        ensures files { OnOk result (pictured self.new.core.files.items ≡ picture) }
+        ensures dirs { self.new.core.dirs ≡ self.old.core.dirs }
+        ensures limits { self.new.core.limits ≡ self.old.core.limits }
+        ensures steps { OnOk result (steps.new ≡ steps.old + length picture) }
+        ensures given { OnOk result (R.files_of runner.new ≡ picture) }
+        ensures given_dirs { OnOk result (R.dirs_of runner.new ≡ self.old.core.dirs) }
+        ensures runs { R.runs_of runner.new ≡ R.runs_of runner.old }
+        ensures refused { IfErr result (IsRefused self.old.core.files.items self.old.core.counter picture self.old.core.dirs) }
+        ensures before { OnErr result (self.new.core ≡ self.old.core) }
+        ensures runner_before { OnErr result (runner.new ≡ runner.old) }
+        ensures refused_steps { OnErr result (steps.new ≤ steps.old + length picture) }
+        ensures scratch { ∥ IsTrue R.meaning (value_of self.new.core) ∥₁ }
+    {
+        let dirs = shared(alloc, self.core.dirs.as_slice())?;
+        take_picture(alloc, &mut self.core, &picture, steps)?;
+        runner.set_picture(picture, dirs);
+        Ok(())
+    }
+
     /// One turn.
     pub fn turn<L: Ledger>(
         &mut self,
@@ -66,32 +115,42 @@ impl<R: Runner> Engine<R> {
         turn(alloc, &mut self.core, runner, steps)
     }
 
-    /// Takes the files of a picture, whose objects these are.
-    pub fn take(
-        &mut self,
-        alloc: Global,
-        files: &[PictureFile],
-        objects: &[Name],
-    ) -> Result<(), TakeError>
-        requires once { are_once objects.now ≡ true }
-        ensures state { OnOk result (situation_of self.new.core ≡ after_take R.meaning (value_of self.old.core) files.now objects.now) }
-        ensures before { OnErr result (self.new.core ≡ self.old.core) }
-    {
-        take_core(alloc, &mut self.core, files, objects)
-    }
-
-    /// The answer for a name.
+    /// The answer for a name. `Pending` where it is an object with an unsettled part, `NoObject` where it is none, or
+    /// there was no take.
     pub fn answer(&self, name: &str) -> Answer<'_>
-        ensures exact { seen_answer result ≡ answer_in self.now.core.rows.items name.now }
+        ensures exact { seen_answer result ≡ answer_at (situation_of self.now.core) name.now }
         ensures scratch { ∥ IsTrue R.meaning (value_of self.now.core) ∥₁ }
     {
         answer_in(&self.core.rows, name)
     }
 
-    /// Why a name was run last.
+    /// Why a name was run last: it was not run since it became an object, it had no whole record, or the first item of
+    /// its record that had changed.
     pub fn why(&self, name: &str) -> Why<'_>
-        ensures { seen_why result ≡ why_in self.now.core.rows.items name.now }
+        ensures { seen_why result ≡ why_at (situation_of self.now.core) name.now }
     {
         why_in(&self.core.rows, name)
+    }
+
+    /// What an object asked for. None where its answer is `Pending` or `NoObject`.
+    pub fn reads(&self, name: &str) -> Option<Reads<'_>>
+        ensures exact { seen_reads result ≡ reads_at (situation_of self.now.core) name.now }
+        ensures scratch { ∥ IsTrue R.meaning (value_of self.now.core) ∥₁ }
+    {
+        reads_in(&self.core.rows, name)
+    }
+
+    /// The objects, in byte order.
+    pub fn objects(&self, alloc: Global) -> Result<Vec<Name>, AllocError>
+        ensures { IfOk result (λ made. made.items ≡ objects_of self.now.core) }
+    {
+        names_in(alloc, &self.core.rows)
+    }
+
+    /// The objects that were run, in byte order.
+    pub fn runs(&self, alloc: Global) -> Result<Vec<Name>, AllocError>
+        ensures { IfOk result (λ made. made.items ≡ runs_at (situation_of self.now.core)) }
+    {
+        runs_in(alloc, &self.core.rows)
     }
 }

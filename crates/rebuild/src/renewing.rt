@@ -1,18 +1,23 @@
 //! The rows of a Take.
 
-ghost use Rattle.std.specs.Prelude.{◌≡◌, ◌<◌, true, IfOk, OnOk, OnErr, length, map, get_or, slice_set};
+ghost use Rattle.std.specs.Prelude.{◌≡◌, ◌<◌, ◌≤◌, ◌+◌, true, IfOk, IfErr, OnOk, OnErr, length, map, get_or, slice_set};
 ghost use Rattle.rebuild.specs.Places.{names};
 ghost use Rattle.rebuild.specs.Ready.{are_once, IsReady};
-ghost use Rattle.rebuild.specs.Taking.{new_row, taken_rows};
-ghost use Rattle.rebuild.specs.Renewing.{reopened, IsRenewed, IsTaken};
+ghost use Rattle.rebuild.specs.Taking.{new_row, taken_rows, counter_after};
+ghost use Rattle.rebuild.specs.Refused.{IsSpent, IsRefused};
+ghost use Rattle.rebuild.specs.Renewing.{reopened, IsRenewed, IsTaken, IsPictureTaken};
 
 use crate::core_data::Core;
 use crate::rows::{Cause, Row, row_place};
 use crate::taking::{TakeError, number_files};
+use base::Steps;
+use base::limits::MAX_OBJECTS;
 use foreign_values::Chain;
-use outside::PictureFile;
+use load_path::{Picture, PictureFile};
+use object_names::objects;
 use path_tree::Name;
 use std::alloc::Global;
+use std::sync::ledger::Ledger;
 
 /// A fresh row for each object.
 pub(crate) fn fresh_rows<T: Drop>(alloc: Global, objects: &[Name]) -> Result<Vec<Row<T>>, TakeError>
@@ -79,24 +84,49 @@ pub(crate) fn renew_all<T: Drop>(fresh: &mut Vec<Row<T>>, old: &mut Vec<Row<T>>,
 }
 
 /// The data after a picture with these files and objects was taken.
-pub(crate) fn take_core<T: Drop>(
+fn take_files<T: Drop, L: Ledger>(
     alloc: Global,
     core: &mut Core<T>,
     files: &[PictureFile],
     objects: &[Name],
+    steps: &mut Steps<L>,
 ) -> Result<(), TakeError>
     requires ready { IsReady core.old }
     requires once { are_once objects.now ≡ true }
     ensures taken { OnOk result (IsTaken files.now objects.now core.old core.new) }
     ensures before { OnErr result (core.new ≡ core.old) }
+    ensures steps { OnOk result (steps.new ≡ steps.old + length files.now) }
+    ensures refused { IfErr result (λ e. IsSpent e (counter_after core.old.files.items core.old.counter files.now)) }
+    ensures refused_steps { OnErr result (steps.new ≤ steps.old + length files.now) }
 {
-    let mut counter = core.counter;
-    let numbered = number_files(alloc, &core.files, files, &mut counter)?;
     let mut rows = fresh_rows(alloc, objects)?;
+    let mut counter = core.counter;
+    let numbered = number_files(alloc, &core.files, files, &mut counter, steps)?;
     renew_all(&mut rows, &mut core.rows, objects);
     core.counter = counter;
     core.files = numbered;
     core.rows = rows;
     core.chain = Chain::new(alloc);
     Ok(())
+}
+
+/// The data after a picture was taken.
+pub(crate) fn take_picture<T: Drop, L: Ledger>(
+    alloc: Global,
+    core: &mut Core<T>,
+    picture: &Picture,
+    steps: &mut Steps<L>,
+) -> Result<(), TakeError>
+    requires ready { IsReady core.old }
+    ensures taken { OnOk result (IsPictureTaken picture.now core.old core.new) }
+    ensures before { OnErr result (core.new ≡ core.old) }
+    ensures steps { OnOk result (steps.new ≡ steps.old + length picture.now) }
+    ensures refused { IfErr result (λ e. IsRefused core.old.files.items core.old.counter picture.now core.old.dirs e) }
+    ensures refused_steps { OnErr result (steps.new ≤ steps.old + length picture.now) }
+{
+    let found = objects(alloc, picture, core.dirs.as_slice())?;
+    if found.len() > MAX_OBJECTS {
+        return Err(TakeError::TooManyObjects);
+    }
+    take_files(alloc, core, picture.files(), &found, steps)
 }

@@ -2,7 +2,7 @@ ghost use Rattle.std.specs.Prelude.{◌≡◌, option_copied};
 ghost use Rattle.rebuild.specs.Places.{row_place, row_in, file_number_in};
 
 use base::Text;
-use outside::Content;
+use load_path::Content;
 use pan_ast::Fault;
 use path_tree::{Name, Tree};
 use read_sets::{Key, Trace};

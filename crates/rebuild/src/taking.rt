@@ -1,14 +1,17 @@
 //! The numbers of files at a Take.
 
-ghost use Rattle.std.specs.Prelude.{◌≡◌, IfOk, OnOk, option_copied};
-ghost use Rattle.rebuild.specs.Taking.{same_content, file_in, old_or_none, number_or, counter_or, numbered, counter_after};
+ghost use Rattle.std.specs.Prelude.{◌≡◌, ◌≤◌, ◌+◌, IfOk, IfErr, OnOk, OnErr, option_copied, length};
+ghost use Rattle.base.specs.declared.limits.TheConstants.{END_OF_NUMBERS};
+ghost use Rattle.rebuild.specs.Taking.{same_content, file_in, old_or_none, number_or, counter_or, with_number, numbered, counter_after};
+ghost use Rattle.rebuild.specs.Refused.{IsSpent};
 ghost use Rattle.rebuild.specs.declared.taking.TakeError.TheVariants.{Memory};
 
 use crate::rows::FileRow;
-use base::Bytes;
 use base::limits::END_OF_NUMBERS;
-use outside::{Content, PictureFile};
+use base::{Bytes, Steps};
+use load_path::{Content, PictureFile};
 use std::alloc::{AllocError, AllocFailed, Global};
+use std::sync::ledger::Ledger;
 
 /// Why a picture was not taken.
 #[derive(Clone, Copy, Debug, PartialEq, Eq)]
@@ -90,6 +93,8 @@ fn old_or_none(old: &[FileRow], file: &PictureFile) -> Option<u64>
 fn give(counter: &mut u64, before: Option<u64>) -> Result<u64, TakeError>
     ensures number { IfOk result (λ n. n ≡ number_or counter.old before) }
     ensures counter { OnOk result (counter.new ≡ counter_or counter.old before) }
+    ensures low { OnOk result (counter.old ≤ END_OF_NUMBERS → counter.new ≤ END_OF_NUMBERS) }
+    ensures refused { IfErr result (λ e. IsSpent e (counter_or counter.old before)) }
 {
     match before {
         Some(number) => Ok(number),
@@ -104,26 +109,47 @@ fn give(counter: &mut u64, before: Option<u64>) -> Result<u64, TakeError>
     }
 }
 
-/// The files of a picture with their numbers. The counter is drawn from in their order.
-pub(crate) fn number_files(
+/// A file with the number that it had before, or with one that is drawn.
+fn number_file(
+    alloc: Global,
+    old: &[FileRow],
+    file: &PictureFile,
+    counter: &mut u64,
+) -> Result<FileRow, TakeError>
+    ensures file { IfOk result (λ row. row ≡ with_number file.now (number_or counter.old (old_or_none old.now file.now.name file.now.content))) }
+    ensures counter { OnOk result (counter.new ≡ counter_or counter.old (old_or_none old.now file.now.name file.now.content)) }
+    ensures low { OnOk result (counter.old ≤ END_OF_NUMBERS → counter.new ≤ END_OF_NUMBERS) }
+    ensures refused { IfErr result (λ e. IsSpent e (counter_or counter.old (old_or_none old.now file.now.name file.now.content))) }
+{
+    let name = file.name.share()?;
+    let content = copy_content(alloc, &file.content)?;
+    let number = give(counter, old_or_none(old, file))?;
+    Ok(FileRow {
+        name,
+        number,
+        content,
+    })
+}
+
+/// The files of a picture with their numbers, a step for each. The counter is drawn from in their order.
+pub(crate) fn number_files<L: Ledger>(
     alloc: Global,
     old: &[FileRow],
     files: &[PictureFile],
     counter: &mut u64,
+    steps: &mut Steps<L>,
 ) -> Result<Vec<FileRow>, TakeError>
     ensures files { IfOk result (λ made. made.items ≡ numbered old.now counter.old files.now) }
     ensures counter { OnOk result (counter.new ≡ counter_after old.now counter.old files.now) }
+    ensures low { OnOk result (counter.old ≤ END_OF_NUMBERS → counter.new ≤ END_OF_NUMBERS) }
+    ensures steps { OnOk result (steps.new ≡ steps.old + length files.now) }
+    ensures refused { IfErr result (λ e. IsSpent e (counter_after old.now counter.old files.now)) }
+    ensures refused_steps { OnErr result (steps.new ≤ steps.old + length files.now) }
 {
     let mut made = Vec::new(alloc);
     for file in files {
-        let number = give(counter, old_or_none(old, file))?;
-        let name = file.name.share()?;
-        let content = copy_content(alloc, &file.content)?;
-        made.push(FileRow {
-            name,
-            number,
-            content,
-        })?;
+        steps.tick();
+        made.push(number_file(alloc, old, file, counter)?)?;
     }
     Ok(made)
 }

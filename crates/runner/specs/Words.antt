@@ -2,10 +2,10 @@
 use Rattle.std.specs.Prelude.{ℕ, zero, suc, List, Option, Some, None, option_map, option_copied}
 use Rattle.path_tree.specs.Plain.{Plain}
 use Rattle.path_tree.specs.declared.path.Term.{Term}
-use Rattle.outside.specs.declared.picture.Content.{Content as FileContent}
-use Rattle.outside.specs.declared.picture.Content.TheVariants as file
-use Rattle.outside.specs.declared.picture.PictureFile.{PictureFile}
-use Rattle.outside.specs.Files.{content_in}
+use Rattle.load_path.specs.declared.picture.Content.{Content as FileContent}
+use Rattle.load_path.specs.declared.picture.Content.TheVariants as file
+use Rattle.load_path.specs.declared.picture.PictureFile.{PictureFile}
+use Rattle.load_path.specs.Pictures.{content_in}
 use Rattle.asking.specs.Asked.{Word, Tells, Needs}
 use Rattle.questions.specs.declared.key.Key.{Key}
 use Rattle.questions.specs.declared.key.Key.TheVariants.{File, Under}

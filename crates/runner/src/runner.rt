@@ -8,7 +8,7 @@ ghost use Rattle.runner.specs.Meaning.{counted};
 use crate::ends::{BuildEnd, Built, CheckEnd};
 use crate::known::Known;
 use base::{Seq, Steps, Text};
-use outside::Picture;
+use load_path::Picture;
 use pan_ast::Limits;
 use path_tree::Name;
 use std::alloc::AllocError;
@@ -21,7 +21,7 @@ use std::sync::ledger::Ledger;
 /// meaning but its laws.
 pub trait Runner {
     ghost use Rattle.std.specs.Prelude.{ℕ, List};
-    ghost use Rattle.outside.specs.declared.picture.PictureFile.{PictureFile};
+    ghost use Rattle.load_path.specs.declared.picture.PictureFile.{PictureFile};
     ghost use Rattle.pan_ast.specs.declared.work.Limits.{Limits};
     ghost use Rattle.runner.specs.Meaning.{Meaning, IsLawful};
 

@@ -19,7 +19,7 @@ returns-clause-ready g c =
     let number = c.number_for-number.result in
     let row = c.index_mut.result.now in
     let first = c.index.result.now in
-    after_given old number mid c.leave.new.core given
+    after_given old number mid c.leave.new.core given c.in_ok-give_number.ensures.low
     (ready_left mid c.args.at c.settle_build.new.row row (ready_counted old number c.requires.ready mid given) (subst (λ z. c.args.at < length z.rows.items) (sym given) c.requires.top.within)
     (ap (λ z. z.name) c.settle_build.ensures ∙ ap (λ z. z.name) c.index_mut.ensures.value)
     (ap (λ z. is_graded z.last) c.settle_build.ensures ∙ ap (nat_le 3) c.number_for-number.ensures ∙ number_large old.counter c.in_ok-tree.tree first.last c.requires.ready.three (ap (λ z. is_graded z.last) c.index.ensures ∙ graded_at old.rows.items c.args.at first c.requires.top.within c.requires.ready.graded))
