@@ -7,7 +7,7 @@ use Rattle.rebuild.specs.declared.rows.Row.{Row}
 use Rattle.rebuild.specs.Places.{row_place, row_in, of_row, column, names}
 
 pub row_named : {T : Type 0} → (p : Name) (rows : List (Row T)) (r : Row T) → row_in p rows ≡ Some r → r.name ≡ p
-row_named p [] r e = absurd (let clash : ◌≡◌ {A = Option (Row T)} None (Some r) = e in cc)
+row_named {T} p [] r e = absurd (let clash : ◌≡◌ {A = Option (Row T)} None (Some r) = e in cc)
 row_named p (x ∷ rows) r e = at (row_named p rows r) (equal x.name p) refl e
   where
     at : (row_in p rows ≡ Some r → r.name ≡ p) → (b : Bool) → equal x.name p ≡ b → cond b (Some x) (row_in p rows) ≡ Some r → r.name ≡ p
@@ -23,7 +23,7 @@ no_row {T} p (x ∷ rows) e = at (no_row p rows) (equal x.name p) refl e
     at later false is e = ap (λ b. b || is_among p (names rows)) is ∙ later e
 
 pub some_row : {T : Type 0} → (p : Name) (rows : List (Row T)) (r : Row T) → row_in p rows ≡ Some r → is_among p (names rows) ≡ true
-some_row p [] r e = absurd (let clash : ◌≡◌ {A = Option (Row T)} None (Some r) = e in cc)
+some_row {T} p [] r e = absurd (let clash : ◌≡◌ {A = Option (Row T)} None (Some r) = e in cc)
 some_row p (x ∷ rows) r e = at (some_row p rows r) (equal x.name p) refl e
   where
     at : (row_in p rows ≡ Some r → is_among p (names rows) ≡ true) → (b : Bool) → equal x.name p ≡ b → cond b (Some x) (row_in p rows) ≡ Some r → equal x.name p || is_among p (names rows) ≡ true
@@ -44,7 +44,7 @@ pub record IsAt {T : Type 0} (p : Name) (rows : List (Row T)) (i : ℕ) : Type 0
   pub set : (r : Row T) → r.name ≡ p → (q : Name) → row_in q (slice_set rows i r) ≡ cond (equal q p) (Some r) (row_in q rows)
 
 at_head : {T : Type 0} → (p : Name) (x : Row T) (rows : List (Row T)) → equal x.name p ≡ true → IsAt p (x ∷ rows) 0
-at_head p x rows is = record {
+at_head {T} p x rows is = record {
   within = omega arith;
   here = λ d. ap (λ b. cond b (Some x) (row_in p rows)) is;
   set = λ r named q. at r named q (equal q p) refl;
@@ -57,7 +57,7 @@ at_head p x rows is = record {
         ∙ sym (ap (λ b. cond b (Some x) (row_in q rows)) (other_name x.name p q (equal-true x.name p is) e))
 
 at_tail : {T : Type 0} → (p : Name) (x : Row T) (rows : List (Row T)) (i : ℕ) → equal x.name p ≡ false → IsAt p rows i → IsAt p (x ∷ rows) (suc i)
-at_tail p x rows i off a = record {
+at_tail {T} p x rows i off a = record {
   within = omega (arith, a.within);
   here = λ d. ap (λ b. cond b (Some x) (row_in p rows)) off ∙ a.here d;
   set = λ r named q. at r q (a.set r named q) (equal x.name q) refl;

@@ -1,6 +1,9 @@
 -- An engine after a take.
-use Rattle.std.proofs.Common.{◌≡◌, ℕ, List, [], ◌∷◌, true, Result, Ok, Err, OnOk, OnErr, refl, sym, ap, ◌∙◌, subst}
+use Rattle.std.proofs.Common.{◌≡◌, ◌≤◌, length, ℕ, List, [], ◌∷◌, true, Result, Ok, Err, OnOk, OnErr, refl, sym, ap, ◌∙◌, subst}
 use Rattle.std.proofs.Math.Logic.{∥∥₁_map}
+use Rattle.std.proofs.lemmas.List.{length-map}
+use Rattle.base.specs.declared.limits.TheConstants.{END_OF_NUMBERS, MAX_OBJECTS}
+use Rattle.object_names.specs.Objects.{AreObjects}
 use Rattle.load_path.specs.declared.picture.PictureFile.{PictureFile}
 use Rattle.pan_ast.specs.declared.work.Limits.{Limits}
 use Rattle.questions.specs.declared.key.Key.TheVariants.{File}
@@ -15,12 +18,12 @@ use Rattle.engine_machine.proofs.RunnerLaws.{laws_of, keep_laws_of}
 use Rattle.rebuild.specs.declared.core_data.Core.{Core}
 use Rattle.rebuild.specs.declared.rows.FileRow.{FileRow}
 use Rattle.rebuild.specs.declared.taking.TakeError.{TakeError}
-use Rattle.rebuild.specs.Places.{names}
+use Rattle.rebuild.specs.Places.{name_of, names}
 use Rattle.rebuild.specs.States.{picture_of, pictured, number_in}
 use Rattle.rebuild.specs.Taking.{old_or_none, number_or, counter_or, numbered, counter_after}
-use Rattle.rebuild.specs.Renewing.{IsTaken}
+use Rattle.rebuild.specs.Renewing.{IsTaken, IsPictureTaken}
 use Rattle.rebuild.specs.Ready.{core_picture, IsReady}
-use Rattle.rebuild.specs.Engines.{EngineSituation, Meanings, situation_of, value_of, is_ready, IsEngine, take_of, after_take}
+use Rattle.rebuild.specs.Engines.{EngineSituation, Meanings, situation_of, objects_of, value_of, is_ready, IsEngine, take_of, after_take}
 use Rattle.rebuild.proofs.Engines.{ready_is, is_ready_of}
 use Rattle.rebuild.proofs.Takings.{are_numbered}
 
@@ -45,22 +48,41 @@ module _ {T : Type 0} (m : Meanings T) (lawful : (dirs : List (List ℕ)) (limit
       let P : Limits → List (List ℕ) → EngineSituation T → Type 0 = λ l d x. IsReached (runner_of (m d l).build) keeping (judge_of (m d l).check) x in
       subst (λ l. P l n.dirs (situation_of n)) (sym t.limits) (subst (λ d. P c.limits d (situation_of n)) (sym t.dirs) (subst (P c.limits c.dirs) (sym (take_situation files objects c n t)) next))
 
-  pub record AfterTake (files : List PictureFile) (objects : List Name) (c n : Core T) {A : Type 0} (r : Result A TakeError) : Type 0 where
+  -- what holds of the engine after a take, refused or not
+  pub record AfterTake (files : List PictureFile) (c n : Core T) {A : Type 0} (r : Result A TakeError) : Type 0 where
     pub ready : is_ready n ≡ true
+    pub low : n.counter ≤ END_OF_NUMBERS
+    pub few : length n.rows.items ≤ MAX_OBJECTS
     pub reached : ∥ IsEngine m (value_of n) ∥₁
-    pub state : OnOk r (situation_of n ≡ after_take m (value_of c) files objects)
-    pub before : OnErr r (value_of n ≡ value_of c)
+    pub dirs : n.dirs ≡ c.dirs
+    pub limits : n.limits ≡ c.limits
+    pub state : OnOk r (situation_of n ≡ after_take m (value_of c) files (objects_of n))
+    pub objects : OnOk r (AreObjects files c.dirs (objects_of n))
+    pub few_objects : OnOk r (length (objects_of n) ≤ MAX_OBJECTS)
+    pub files_are : OnOk r (pictured n.files.items ≡ files)
 
-  pub take_facts : {A : Type 0} (files : List PictureFile) (objects : List Name) (c n : Core T) (r : Result A TakeError) → OnOk r (IsTaken files objects c n) → OnErr r (n ≡ c) → is_ready c ≡ true → ∥ IsEngine m (value_of c) ∥₁ → AfterTake files objects c n r
-  take_facts files objects c n (Ok a) t before ready kept = record {
-    ready = is_ready_of n t.ready;
-    reached = ∥∥₁_map kept (λ e. engine_taken files objects c n (ready_is c ready) t e);
-    state = take_situation files objects c n t;
-    before = tt;
+  pub take_facts : {A : Type 0} (files : List PictureFile) (c n : Core T) (r : Result A TakeError) → OnOk r (IsPictureTaken files c n) → OnErr r (n ≡ c) → is_ready c ≡ true → c.counter ≤ END_OF_NUMBERS → length c.rows.items ≤ MAX_OBJECTS → ∥ IsEngine m (value_of c) ∥₁ → AfterTake files c n r
+  take_facts files c n (Ok a) t before ready low few kept = record {
+    ready = is_ready_of n t.taken.ready;
+    low = t.taken.low low;
+    few = t.few;
+    reached = ∥∥₁_map kept (λ e. engine_taken files (objects_of n) c n (ready_is c ready) t.taken e);
+    dirs = t.taken.dirs;
+    limits = t.taken.limits;
+    state = take_situation files (objects_of n) c n t.taken;
+    objects = t.objects;
+    few_objects = subst (λ k. k ≤ MAX_OBJECTS) (sym (length-map name_of n.rows.items)) t.few;
+    files_are = ap pictured t.taken.files_are ∙ pictured_numbered c.files.items c.counter files;
   }
-  take_facts files objects c n (Err e) t before ready kept = record {
+  take_facts files c n (Err e) t before ready low few kept = record {
     ready = ap is_ready before ∙ ready;
+    low = subst (λ z. z.counter ≤ END_OF_NUMBERS) (sym before) low;
+    few = subst (λ z. length z.rows.items ≤ MAX_OBJECTS) (sym before) few;
     reached = subst (λ z. ∥ IsEngine m (value_of z) ∥₁) (sym before) kept;
+    dirs = ap (λ z. z.dirs) before;
+    limits = ap (λ z. z.limits) before;
     state = tt;
-    before = ap value_of before;
+    objects = tt;
+    few_objects = tt;
+    files_are = tt;
   }

@@ -15,3 +15,7 @@ pub mod EngineTakes
 pub mod New
 pub mod Objects
 pub mod Answering
+pub mod Fewer
+pub mod Forgotten
+pub mod Spent
+pub mod Works

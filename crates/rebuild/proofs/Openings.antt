@@ -144,7 +144,7 @@ check_top_at c p i top place =
     record { top = b.0; place = ap (λ n. row_place n 0 c.rows.items) b.1 ∙ place; within = (placed p c.rows.items i place).within }
 
 pub first_known : {T : Type 0} → (test : Row T → Bool) (rows : List (Row T)) (r : Row T) → first_row test rows ≡ Some r → is_among r.name (names rows) ≡ true
-first_known test [] r e = absurd (let clash : ◌≡◌ {A = Option (Row T)} None (Some r) = e in cc)
+first_known {T} test [] r e = absurd (let clash : ◌≡◌ {A = Option (Row T)} None (Some r) = e in cc)
 first_known test (x ∷ rows) r e = at (first_known test rows r) (test x) e
   where
     later : (b : Bool) → is_among r.name (names rows) ≡ true → b || is_among r.name (names rows) ≡ true

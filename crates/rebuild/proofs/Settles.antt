@@ -116,7 +116,7 @@ module _ {T : Type 0} (c : Core T) (at : ℕ) (ready : IsReady c) (top : IsBuild
   }
 
   -- settling under the number that the machine gives
-  pub settled_is : (differs : Option ℕ) (m : ℕ) (e : End T) (k : Kept) (v : Option (Built T)) (items : List Item) → keep e ≡ k → held_by (runner_of no_build) keeping (grade (keep e)) e ≡ option_map held_end v → number_by (runner_of no_build) keeping (grade (keep e)) c.counter (keep e) (column last_of None c.rows.items (top_name c.chain)) ≡ m → state_of (next_counter m c.counter) c.files.items (slice_set c.rows.items at (settled_row m k v items (dropped_row (cause_for differs r) r))) (below c.chain) ≡ settled_turn c (top_cause differs c) (pairs_of items) e
+  pub settled_is : (differs : Option ℕ) (m : ℕ) (e : End T) (k : Kept) (v : Option (Built T)) (items : List Item) → keep e ≡ k → held_by (runner_of {T = T} no_build) keeping (grade (keep e)) e ≡ option_map held_end v → number_by (runner_of {T = T} no_build) keeping (grade (keep e)) c.counter (keep e) (column last_of None c.rows.items (top_name c.chain)) ≡ m → state_of (next_counter m c.counter) c.files.items (slice_set c.rows.items at (settled_row m k v items (dropped_row (cause_for differs r) r))) (below c.chain) ≡ settled_turn c (top_cause differs c) (pairs_of items) e
   settled_is differs m e k v items kept_e held_e number_e i = record {
     counter = next_counter (sym number_e i) c.counter;
     number = number_in c.files.items;
@@ -135,14 +135,14 @@ module _ {T : Type 0} (c : Core T) (at : ℕ) (ready : IsReady c) (top : IsBuild
       r' : Row T
       r' = settled_row m k v items (dropped_row (cause_for differs r) r)
 
-      last_e : put (column last_of None c.rows.items) (top_name c.chain) (Some (m, k)) ≡ put (column last_of None c.rows.items) (top_name c.chain) (Some (number_by (runner_of no_build) keeping (grade (keep e)) c.counter (keep e) (column last_of None c.rows.items (top_name c.chain)), keep e))
+      last_e : put (column last_of None c.rows.items) (top_name c.chain) (Some (m, k)) ≡ put (column last_of None c.rows.items) (top_name c.chain) (Some (number_by (runner_of {T = T} no_build) keeping (grade (keep e)) c.counter (keep e) (column last_of None c.rows.items (top_name c.chain)), keep e))
       last_e i = put (column last_of None c.rows.items) (top_name c.chain) (Some (sym number_e i, sym kept_e i))
 
-  graded_number : (b : Bool) (t : Kept) (l : Option (ℕ × Kept)) → number_by (runner_of no_build) keeping (fault_grade b) c.counter t l ≡ failed_number (fault_grade b)
+  graded_number : (b : Bool) (t : Kept) (l : Option (ℕ × Kept)) → number_by (runner_of {T = T} no_build) keeping (fault_grade b) c.counter t l ≡ failed_number (fault_grade b)
   graded_number true t l = refl
   graded_number false t l = refl
 
-  graded_held : (b : Bool) (e : End T) → held_by (runner_of no_build) keeping (fault_grade b) e ≡ None
+  graded_held : (b : Bool) (e : End T) → held_by (runner_of {T = T} no_build) keeping (fault_grade b) e ≡ None
   graded_held true e = refl
   graded_held false e = refl
 
@@ -160,14 +160,14 @@ module _ {T : Type 0} (c : Core T) (at : ℕ) (ready : IsReady c) (top : IsBuild
       stays true = small_stays 2 (omega arith) (nat_eq 2 c.counter) refl
       stays false = small_stays 1 (omega arith) (nat_eq 1 c.counter) refl
 
-  pair_number : (n : ℕ) (t : Plain) (l : Option Last) → old_or_drawn (runner_of no_build) keeping n (Ok t) (option_map last_pair l) ≡ number_for n t l
+  pair_number : (n : ℕ) (t : Plain) (l : Option Last) → old_or_drawn (runner_of {T = T} no_build) keeping n (Ok t) (option_map last_pair l) ≡ number_for n t l
   pair_number n t None = refl
   pair_number n t (Some l) = refl
 
   pub value_is : (differs : Option ℕ) (b : Built T) (items : List Item) → let m = number_for c.counter b.tree r.last in state_of (next_counter m c.counter) c.files.items (slice_set c.rows.items at (settled_row m (Ok b.tree) (Some b) items (dropped_row (cause_for differs r) r))) (below c.chain) ≡ settled_turn c (top_cause differs c) (pairs_of items) (Ok b)
   value_is differs b items =
       settled_is differs (number_for c.counter b.tree r.last) (Ok b) (Ok b.tree) (Some b) items refl refl
-      (ap (old_or_drawn (runner_of no_build) keeping c.counter (Ok b.tree)) (here last_of None) ∙ pair_number c.counter b.tree r.last)
+      (ap (old_or_drawn (runner_of {T = T} no_build) keeping c.counter (Ok b.tree)) (here last_of None) ∙ pair_number c.counter b.tree r.last)
 
 pub pushed_is : {T : Type 0} → (c : Core T) (q : Name) → is_check_top c.chain ≡ false → state_of c.counter c.files.items c.rows.items (part.Build q ∷ c.chain) ≡ pushed_turn c q
 pushed_is c q free i = record {
@@ -186,7 +186,7 @@ pushed_is c q free i = record {
 }
 
 same_row : {T : Type 0} → (c : Core T) (at : ℕ) → IsReady c → IsBuildTop c at → (r r' : Row T) → r ≡ get_or c.rows.items at r → r' ≡ get_or c.rows.items at r' → r ≡ r'
-same_row c at ready top r r' is is' =
+same_row {T} c at ready top r r' is is' =
     let a = placed (top_name c.chain) c.rows.items at top.place in
     let both : ◌≡◌ {A = Option (Row T)} (Some (get_or c.rows.items at r)) (Some (get_or c.rows.items at r')) = sym (a.here r) ∙ a.here r' in
     let same : get_or c.rows.items at r ≡ get_or c.rows.items at r' = cc in

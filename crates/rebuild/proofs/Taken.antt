@@ -52,7 +52,7 @@ module _ {T : Type 0} {A : Type 0} (get : Row T → A) (d : A) (rows : List (Row
       at false = refl
 
 pub taken_is : {T : Type 0} → (counter counter' : ℕ) (files files' : List FileRow) (rows : List (Row T)) (parts : List Part) (objects : List Name) → state_of counter' files' (taken_rows rows objects) [] ≡ taken (picture_of files' objects) (number_in files') counter' (state_of counter files rows parts)
-taken_is counter counter' files files' rows parts objects i = record {
+taken_is {T} counter counter' files files' rows parts objects i = record {
   counter = counter';
   number = number_in files';
   last = kept_column last_of None rows objects last_kept i;

@@ -29,7 +29,7 @@ chain_among p (part.Build q ∷ parts) = ap (λ b. equal q p || b) (chain_among 
 chain_among p (part.Check q ∷ parts) = chain_among p parts
 
 pub graded_row : {T : Type 0} → (rows : List (Row T)) (p : Name) (r : Row T) → are_graded rows ≡ true → row_in p rows ≡ Some r → is_graded r.last ≡ true
-graded_row [] p r g e = absurd (let clash : ◌≡◌ {A = Option (Row T)} None (Some r) = e in cc)
+graded_row {T} [] p r g e = absurd (let clash : ◌≡◌ {A = Option (Row T)} None (Some r) = e in cc)
 graded_row (x ∷ rows) p r g e = at (graded_row rows p r (both (is_graded x.last) (are_graded rows) g).1) (equal x.name p) e
   where
     at : (row_in p rows ≡ Some r → is_graded r.last ≡ true) → (b : Bool) → cond b (Some x) (row_in p rows) ≡ Some r → is_graded r.last ≡ true

@@ -68,3 +68,7 @@ abbrev pub check_cause : Option ℕ → Option CheckRecord → Cause
 check_cause None c = cause.NoRecord
 check_cause (Some i) None = cause.NoRecord
 check_cause (Some i) (Some c) = cause_at i c.reads
+
+-- the object was not run
+abbrev pub forgotten_row : {T : Type 0} → Row T → Row T
+forgotten_row r = record r { run = false }

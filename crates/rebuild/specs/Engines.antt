@@ -8,7 +8,7 @@ use Rattle.questions.specs.Contents.{Content}
 use Rattle.runner.specs.Ends.{End, Verdict}
 use Rattle.runner.specs.Meaning.{Meaning}
 use Rattle.engine_laws.specs.Names.{Name}
-use Rattle.engine_laws.specs.Engine.{Situation, Event, Take, Turn, happens, IsFromScratch}
+use Rattle.engine_laws.specs.Engine.{Situation, Event, Take, Turn, happens, on_chain, turns_left, IsFromScratch}
 use Rattle.engine_laws.specs.Reached.{IsReached}
 use Rattle.engine_machine.specs.Machine.{Kept, runner_of, keeping, judge_of}
 use Rattle.engine_machine.specs.Pictures.{picture_in}
@@ -39,6 +39,14 @@ situation_of c = record { picture = core_picture c; state = core_state c }
 
 abbrev pub objects_of : {T : Type 0} → Core T → List Name
 objects_of c = names c.rows.items
+
+-- the parts on the chain
+abbrev pub parts_of : {T : Type 0} → Core T → ℕ
+parts_of c = on_chain (core_state c)
+
+-- twice the unsettled parts less the parts on the chain
+abbrev pub turns_left_of : {T : Type 0} → Core T → ℕ
+turns_left_of c = turns_left (names c.rows.items) (core_state c)
 
 abbrev pub value_of : {T : Type 0} → Core T → EngineValue T
 value_of c = record { limits = c.limits; dirs = c.dirs; files = c.files.items; situation = situation_of c }

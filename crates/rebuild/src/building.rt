@@ -16,7 +16,7 @@ use crate::changes::{drop_record, keep_build, settle_build};
 use crate::comparing::{Found, compare_build};
 use crate::core_data::Core;
 use crate::rows::Row;
-use crate::turned::{TurnError, Turned};
+use crate::turned::TurnError;
 use base::Steps;
 use base::limits::END_OF_NUMBERS;
 use foreign_values::Part;
@@ -114,7 +114,7 @@ fn stop_top<T: Drop>(
     at: usize,
     differs: Option<usize>,
     name: Name,
-) -> Result<Turned, TurnError>
+) -> Result<(), TurnError>
     requires ready { IsReady core.old }
     requires top { IsBuildTop core.old at }
     requires known { is_among name (names core.old.rows.items) ≡ true }
@@ -124,7 +124,7 @@ fn stop_top<T: Drop>(
 {
     core.chain.push(Part::Build(name))?;
     drop_record(&mut core.rows[at], differs);
-    Ok(Turned::Demanded)
+    Ok(())
 }
 
 /// The build part on top settles with a fault.
@@ -152,7 +152,7 @@ fn settle_value<T: Drop>(
     differs: Option<usize>,
     built: Built<T>,
     reads: Trace,
-) -> Result<Turned, TurnError>
+) -> Result<(), TurnError>
     requires ready { IsReady core.old }
     requires top { IsBuildTop core.old at }
     ensures state { OnOk result (core_state core.new ≡ settled_turn core.old (top_cause differs core.old) (pairs_of reads) (Ok built)) }
@@ -171,7 +171,7 @@ fn settle_value<T: Drop>(
         differs,
     );
     leave(core);
-    Ok(Turned::Settled)
+    Ok(())
 }
 
 /// The build part on top is run: it has no record, or its record differs at an item.
@@ -181,7 +181,7 @@ fn run_top<R: Runner, L: Ledger>(
     differs: Option<usize>,
     runner: &mut R,
     steps: &mut Steps<L>,
-) -> Result<Turned, TurnError>
+) -> Result<(), TurnError>
     requires ready { IsReady core.old }
     requires top { IsBuildTop core.old at }
     requires picture { R.files_of runner.old ≡ pictured core.old.files.items }
@@ -194,7 +194,7 @@ fn run_top<R: Runner, L: Ledger>(
         BuildEnd::Need(name) => stop_top(core, at, differs, name),
         BuildEnd::Fault(fault, reads) => {
             settle_fault(core, at, differs, fault, reads);
-            Ok(Turned::Settled)
+            Ok(())
         }
         BuildEnd::Done(built, reads) => settle_value(core, at, differs, built, reads),
     }
@@ -206,7 +206,7 @@ pub(crate) fn build_top<R: Runner, L: Ledger>(
     at: usize,
     runner: &mut R,
     steps: &mut Steps<L>,
-) -> Result<Turned, TurnError>
+) -> Result<(), TurnError>
     requires ready { IsReady core.old }
     requires top { IsBuildTop core.old at }
     requires picture { R.files_of runner.old ≡ pictured core.old.files.items }
@@ -218,12 +218,12 @@ pub(crate) fn build_top<R: Runner, L: Ledger>(
         Found::Unread => run_top(core, at, None, runner, steps),
         Found::Equal => {
             keep_top(core, at);
-            Ok(Turned::Settled)
+            Ok(())
         }
         Found::Differs(item) => run_top(core, at, Some(item), runner, steps),
         Found::Waits(name) => {
             push_build(core, name)?;
-            Ok(Turned::Demanded)
+            Ok(())
         }
     }
 }

@@ -14,7 +14,7 @@ use crate::changes::{judge, judge_run, keep_check};
 use crate::comparing::{Found, compare_check};
 use crate::core_data::Core;
 use crate::rows::Row;
-use crate::turned::{TurnError, Turned};
+use crate::turned::TurnError;
 use base::Steps;
 use pan_ast::Fault;
 use read_sets::Trace;
@@ -183,7 +183,7 @@ pub(crate) fn check_top<R: Runner, L: Ledger>(
     at: usize,
     runner: &mut R,
     steps: &mut Steps<L>,
-) -> Result<Turned, TurnError>
+) -> Result<(), TurnError>
     requires ready { IsReady core.old }
     requires top { IsCheckTop core.old at }
     requires picture { R.files_of runner.old ≡ pictured core.old.files.items }
@@ -196,5 +196,5 @@ pub(crate) fn check_top<R: Runner, L: Ledger>(
         Some(false) => judge_top(core, at, Trace::new(alloc), None),
         Some(true) => compare_top(alloc, core, at, runner, steps)?,
     }
-    Ok(Turned::Settled)
+    Ok(())
 }

@@ -1,15 +1,18 @@
 //! The engine.
 
-ghost use Rattle.std.specs.Prelude.{◌≡◌, ◌≤◌, ◌+◌, true, IfOk, IfErr, OnOk, OnErr, length};
+ghost use Rattle.std.specs.Prelude.{◌≡◌, ◌≤◌, ◌+◌, ◌-◌, true, IfOk, IfErr, OnOk, OnErr, length};
 ghost use Rattle.base.specs.declared.limits.TheConstants.{END_OF_NUMBERS, MAX_OBJECTS};
 ghost use Rattle.rebuild.specs.Engines.{is_ready, IsEngine, value_of};
 
-use crate::answers::{Answer, Reads, Why, answer_in, names_in, reads_in, runs_in, why_in};
+use crate::answers::{
+    Answer, Reads, Why, answer_in, names_in, open_builds, open_checks, reads_in, runs_in, why_in,
+};
 use crate::core_data::Core;
+use crate::forgetting::forget_rows;
 use crate::renewing::take_picture;
 use crate::taking::TakeError;
 use crate::turned::{TurnError, Turned};
-use crate::turning::turn;
+use crate::turning::{step, turned_by};
 use base::{Seq, Steps, Text};
 use foreign_values::Chain;
 use load_path::Picture;
@@ -41,9 +44,11 @@ fn shared(alloc: Global, texts: &[Text]) -> Result<Seq<Text>, AllocError>
 }
 
 impl<R: Runner> Engine<R> {
+    ghost use Rattle.engine_laws.specs.Engine.{Forget};
     ghost use Rattle.object_names.specs.Objects.{AreObjects};
     ghost use Rattle.rebuild.specs.Answers.{seen_answer, answer_at, seen_why, why_at, seen_reads, reads_at, runs_at};
-    ghost use Rattle.rebuild.specs.Engines.{situation_of, new_situation, after_take, after_turn, IsTrue, objects_of};
+    ghost use Rattle.rebuild.specs.Engines.{situation_of, new_situation, after_event, after_take, after_turn, IsTrue, objects_of, parts_of, turns_left_of};
+    ghost use Rattle.rebuild.specs.Opening.{turned_by};
     ghost use Rattle.rebuild.specs.Refused.{IsRefused};
     ghost use Rattle.rebuild.specs.States.{pictured};
 
@@ -109,10 +114,16 @@ impl<R: Runner> Engine<R> {
         requires picture { R.files_of runner.old ≡ pictured self.old.core.files.items }
         requires dirs { R.dirs_of runner.old ≡ self.old.core.dirs }
         ensures state { OnOk result (situation_of self.new.core ≡ after_turn R.meaning (value_of self.old.core)) }
+        ensures turned { IfOk result (λ did. did ≡ turned_by (parts_of self.old.core) (parts_of self.new.core)) }
+        ensures fewer { OnOk result (turns_left_of self.new.core ≡ turns_left_of self.old.core - 1) }
+        ensures files { OnOk result (self.new.core.files.items ≡ self.old.core.files.items) }
+        ensures dirs { self.new.core.dirs ≡ self.old.core.dirs }
         ensures before { OnErr result (self.new.core ≡ self.old.core) }
         ensures scratch { ∥ IsTrue R.meaning (value_of self.new.core) ∥₁ }
     {
-        turn(alloc, &mut self.core, runner, steps)
+        let before = self.core.chain.len();
+        step(alloc, &mut self.core, runner, steps)?;
+        Ok(turned_by(before, self.core.chain.len()))
     }
 
     /// The answer for a name. `Pending` where it is an object with an unsettled part, `NoObject` where it is none, or
@@ -152,5 +163,24 @@ impl<R: Runner> Engine<R> {
         ensures { IfOk result (λ made. made.items ≡ runs_at (situation_of self.now.core)) }
     {
         runs_in(alloc, &self.core.rows)
+    }
+
+    /// How many turns are left: twice the unsettled parts less those on the chain. Each turn takes one.
+    pub fn turns_left(&self) -> u64
+        ensures { result ≡ turns_left_of self.now.core }
+    {
+        let rows = self.core.rows.as_slice();
+        let unsettled = open_builds(rows) + open_checks(rows);
+        (2 * unsettled).saturating_sub(self.core.chain.len()) as u64
+    }
+
+    /// The list of runs is forgotten, where nothing is unsettled.
+    pub fn forget_runs(&mut self)
+        requires settled { turns_left_of self.old.core ≡ 0 }
+        ensures state { situation_of self.new.core ≡ after_event R.meaning (value_of self.old.core) Forget }
+        ensures files { self.new.core.files.items ≡ self.old.core.files.items }
+        ensures dirs { self.new.core.dirs ≡ self.old.core.dirs }
+    {
+        forget_rows(&mut self.core.rows);
     }
 }

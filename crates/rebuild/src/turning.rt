@@ -6,7 +6,7 @@ ghost use Rattle.rebuild.specs.Places.{names};
 ghost use Rattle.rebuild.specs.States.{pictured};
 ghost use Rattle.rebuild.specs.Ready.{IsReady, StaysReady, core_state};
 ghost use Rattle.rebuild.specs.Turning.{open_state, turned};
-ghost use Rattle.rebuild.specs.Opening.{IsTop, first_open_build, first_open_check};
+ghost use Rattle.rebuild.specs.Opening.{IsTop, first_open_build, first_open_check, turned_by};
 
 use crate::building::{build_top, push_build};
 use crate::checking::check_top;
@@ -84,7 +84,7 @@ fn push_check<T: Drop>(core: &mut Core<T>, name: Name) -> Result<(), TurnError>
 }
 
 /// A turn with no part on the chain.
-fn open_part<T: Drop>(core: &mut Core<T>) -> Result<Turned, TurnError>
+fn open_part<T: Drop>(core: &mut Core<T>) -> Result<(), TurnError>
     requires ready { IsReady core.old }
     requires empty { core.old.chain ≡ [] }
     ensures state { OnOk result (core_state core.new ≡ open_state core.old) }
@@ -94,23 +94,23 @@ fn open_part<T: Drop>(core: &mut Core<T>) -> Result<Turned, TurnError>
     if let Some(row) = first_open_build(&core.rows) {
         let name = row.name.share()?;
         push_build(core, name)?;
-        return Ok(Turned::Opened);
+        return Ok(());
     }
     if let Some(row) = first_open_check(&core.rows) {
         let name = row.name.share()?;
         push_check(core, name)?;
-        return Ok(Turned::Opened);
+        return Ok(());
     }
-    Ok(Turned::Idle)
+    Ok(())
 }
 
-/// One turn.
-pub(crate) fn turn<R: Runner, L: Ledger>(
+/// What a turn does to the part on top, or to the first unsettled one.
+pub(crate) fn step<R: Runner, L: Ledger>(
     alloc: Global,
     core: &mut Core<R::Rest>,
     runner: &mut R,
     steps: &mut Steps<L>,
-) -> Result<Turned, TurnError>
+) -> Result<(), TurnError>
     requires ready { IsReady core.old }
     requires picture { R.files_of runner.old ≡ pictured core.old.files.items }
     ensures state { OnOk result (core_state core.new ≡ turned (R.meaning (R.dirs_of runner.old) core.old.limits).build (R.meaning (R.dirs_of runner.old) core.old.limits).check core.old) }
@@ -121,5 +121,20 @@ pub(crate) fn turn<R: Runner, L: Ledger>(
         Top::Nothing => open_part(core),
         Top::Build(at) => build_top(core, at, runner, steps),
         Top::Check(at) => check_top(alloc, core, at, runner, steps),
+    }
+}
+
+/// What a turn did, by the parts on the chain before it and after it.
+pub(crate) fn turned_by(before: usize, after: usize) -> Turned
+    ensures { result ≡ turned_by before after }
+{
+    if after < before {
+        Turned::Settled
+    } else if after == before {
+        Turned::Idle
+    } else if before == 0 {
+        Turned::Opened
+    } else {
+        Turned::Demanded
     }
 }
