@@ -30,7 +30,8 @@ module _ {R : Type 0} (may : Key → Type 0) (is_circular : R → Bool) (run : L
   cost_laws = record { grows = λ qs k trail asks. laws.grows qs k (tell k) asks; short = within }
 
   -- a key that is asked is one more
-  pub soon : (qs : List (Key × Content)) (k : Key) → IsTrail run tell qs → run qs ≡ Asks k → length qs + 1 < 2000001
+  pub soon : (qs : List (Key × Content)) (k : Key) → IsTrail run tell qs → run qs ≡ Asks k → length qs + 1 < more_than_asked
+  unfolding more_than_asked
   soon qs k trail asks = let all = within ((k, tell k) ∷ qs) (trail, asks, refl) in omega (arith, all)
 
 module _ {T : Type 0} (m : Meaning T) (laws : IsLawful m) (files : List PictureFile) (objects : List Name) where
@@ -46,14 +47,16 @@ module _ {T : Type 0} (m : Meaning T) (laws : IsLawful m) (files : List PictureF
       fault_short (q ∷ qs) trail = absurd (let clash : ◌≡◌ {A = Answer Key Verdict} (Ends _) (Asks q.0) = trail.1 in cc)
 
   pub are_costs : AreCosts (runner_of m.build) keeping (judge_of m.check) (costs_of m) (picture_in files objects) MAX_WORK
+  unfolding more_than_asked
   are_costs = record { room = omega arith; builds = build_laws; checks = check_laws }
 
-  build_soon : (o : Name) (qs : List (Key × Content)) (k : Key) → IsTrail (m.build o) (content (runner_of m.build) (picture_in files objects)) qs → m.build o qs ≡ Asks k → length qs + 1 < 2000001
+  build_soon : (o : Name) (qs : List (Key × Content)) (k : Key) → IsTrail (m.build o) (content (runner_of m.build) (picture_in files objects)) qs → m.build o qs ≡ Asks k → length qs + 1 < more_than_asked
   build_soon o = soon (MayAsk o) is_circular_end (m.build o) (m.build_work o) (laws.builds o) (content (runner_of m.build) (picture_in files objects))
 
-  check_soon : (r : End T) (qs : List (Key × Content)) (k : Key) → IsTrail (check_end m.check r) (content (runner_of m.build) (picture_in files objects)) qs → check_end m.check r qs ≡ Asks k → length qs + 1 < 2000001
+  check_soon : (r : End T) (qs : List (Key × Content)) (k : Key) → IsTrail (check_end m.check r) (content (runner_of m.build) (picture_in files objects)) qs → check_end m.check r qs ≡ Asks k → length qs + 1 < more_than_asked
   check_soon (Ok b) qs k trail asks = soon (MayAsk b.object) is_circular_verdict (m.check b) (m.check_work b) (laws.checks b) (content (runner_of m.build) (picture_in files objects)) qs k trail asks
   check_soon (Err f) qs k trail asks = absurd (let clash : ◌≡◌ {A = Answer Key Verdict} (Ends _) (Asks k) = asks in cc)
 
   pub ends_soon : IsOnce objects → EndsSoon (runner_of m.build) (judge_of m.check) (picture_in files objects)
+  unfolding more_than_asked
   ends_soon once = record { once = once; room = omega arith; builds = build_soon; checks = check_soon }

@@ -10,7 +10,7 @@ use Rattle.questions.specs.Contents.{Content, Answers, answer_in, with_key, is_c
 use Rattle.questions.specs.Run.{Meter, noted, Outcome, Done, Returned, Failed, Asks, Run}
 use Rattle.asking.specs.Asked.{AreAsked, read_on, Answer, Ends, Word, Tells, Needs, Ran, Finished, Stops, Lost, ran, with_word, run_next, next_told, word_told, told_in}
 use Rattle.asking.specs.Asked as asked
-use Rattle.questions.specs.Told.{keys_of, Ending, meter_of, answer_by, whole, work_of, content_of, answers_of, number_of, numbered, ran_by, IsPlainList, RunLaws, IsEnd, IsRanBy, IsWorkOf}
+use Rattle.questions.specs.Told.{keys_of, Ending, meter_of, answer_by, whole, work_of, content_of, answers_of, number_of, numbered, ran_by, IsPlainList, RunLaws, IsEnd, IsRanBy, IsWorkOf, more_than_asked}
 use Rattle.questions.proofs.Process.{Process, Over, Question, walk, walk_on, held, EndsCircular, Either, IsLawful}
 use Rattle.questions.proofs.Lawful.{Lawful}
 use Rattle.questions.proofs.Told.{Extends, StopsAt, is_asking, stops_at, ends_later, same_end, asked_stays, fault_plain}
@@ -243,7 +243,7 @@ module _ {S X R : Type 0} (may : Key → Type 0) (r : Run S X) (s : S) (f : Endi
 
   -- a run over words is the run that is told what they tell
   pub ran_is : IsRanBy f r s
-  unfolding run told AreTold full
+  unfolding run told AreTold full more_than_asked
   ran_is tells = gives_is tells (full tells) (ran run tells 2000001 []) (ran_from tells 2000001 [] refl tt tt)
 
   -- the outcome is that of the pairs that the run was told
@@ -269,7 +269,7 @@ module _ {S X R : Type 0} (may : Key → Type 0) (r : Run S X) (s : S) (f : Endi
 
   -- so is its work
   pub work_is : IsWorkOf f r s
-  unfolding run told AreTold full
+  unfolding run told AreTold full more_than_asked
   work_is tells = ap work_of (same_from tells 2000001 [] refl tt tt)
 
 -- a run asks only what its answers lack

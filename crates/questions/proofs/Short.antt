@@ -12,4 +12,5 @@ module _ {R : Type 0} (may : Key → Type 0) (is_circular_end : R → Bool) (run
 
   -- a run that ends asked fewer keys
   pub short : (qs : List (Key × Content)) (r : R) → RunsTo run [] qs r → length qs < more_than_asked
+  unfolding more_than_asked
   short qs r runs = let all = short_from [] qs r tt runs in omega arith

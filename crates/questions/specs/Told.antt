@@ -38,7 +38,7 @@ abbrev pub whole : Meter
 whole = record { left = MAX_WORK; asked = [] }
 
 -- as many keys no run asks, since each costs a step
-abbrev pub more_than_asked : ℕ
+unfoldable pub more_than_asked : ℕ
 more_than_asked = MAX_WORK + 1
 
 abbrev pub work_of : {S X : Type 0} → Outcome S X → ℕ

@@ -121,3 +121,7 @@ module _ {T : Type 0} {A : Type 0} (get : Row T → A) (d : A) (p : Name) (rows 
       at : (q : Name) (b : Bool) → equal q p ≡ b → row_in q (slice_set rows i r) ≡ cond b (Some r) (row_in q rows) → column get d (slice_set rows i r) q ≡ column get d rows q
       at q true same f = ap (of_row get d) f ∙ is ∙ sym (column_at e) ∙ ap (column get d rows) (sym (equal-true q p same))
       at q false same f = ap (of_row get d) f
+
+-- the name of the row at the place of a name
+pub row_at : {T : Type 0} → (rows : List (Row T)) (i : ℕ) (r : Row T) {p : Name} → row_place p 0 rows ≡ Some i → r ≡ get_or rows i r → r.name ≡ p
+row_at rows i r {p} found is = let a = placed p rows i found in ap (λ z. z.name) is ∙ row_named p rows (get_or rows i r) (a.here r)

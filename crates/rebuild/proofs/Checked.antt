@@ -28,13 +28,12 @@ use Rattle.rebuild.specs.Changes.{check_cause, changed_cause}
 use Rattle.rebuild.specs.Kinds.{is_tree, last_kind}
 use Rattle.rebuild.specs.States.{EngineState, pictured, last_pair, last_of, check_pair, checked_of, why_by, held_end, held_of, state_of}
 use Rattle.rebuild.specs.Ready.{core_state, core_picture, top_name, IsReady, IsCheckTop}
-use Rattle.rebuild.specs.Turning.{popped, judged_turn, judged_kept_turn, judged_run_turn, ended_turn, top_check_cause, run_check_state, with_check_state, check_state}
-use Rattle.rebuild.proofs.Runs.{ran_known}
+use Rattle.rebuild.specs.Turning.{popped, judged_turn, judged_kept_turn, judged_run_turn, ended_turn, top_check_cause, run_check_state, with_check_state, check_state, top_run, value_run}
 use Rattle.rebuild.proofs.Comparisons.{telling, FoundAs, finds}
 use Rattle.rebuild.proofs.Judges.{here, named, cause_is, alone}
 use Rattle.questions.specs.Told.{more_than_asked}
 
-module _ {T : Type 0} (build : Builds T) (check : Checks T) (c : Core T) (at : ℕ) (ready : IsReady c) (top : IsCheckTop c at) (r : Row T) (is : r ≡ get_or c.rows.items at r) (files : List PictureFile) (pic : files ≡ pictured c.files.items) where
+module _ {T : Type 0} (build : Builds T) (check : Checks T) (c : Core T) (at : ℕ) (ready : IsReady c) (top : IsCheckTop c at) (r : Row T) (is : r ≡ get_or c.rows.items at r) where
   -- the state in which the check part runs
   abbrev begun : Why Key → EngineState T
   begun y = entered (runner_of build) keeping (judge_of check) (core_picture c) (popped c) (top_name c.chain) y
@@ -48,9 +47,6 @@ module _ {T : Type 0} (build : Builds T) (check : Checks T) (c : Core T) (at : �
   abbrev by_rerun : Why Key → Ran Key (End T) → EngineState T
   by_rerun y = after_rerun (runner_of build) keeping (judge_of check) (core_picture c) (begun y) (top_name c.chain)
 
-  abbrev knows : {X : Type 0} → (List (Key × Content) → Answer Key X) → Ran Key X
-  knows ask = ran ask (words files (file_number_in c.files.items) (seen_in c.rows.items c.chain)) more_than_asked []
-
   held_here : column held_of None c.rows.items (top_name c.chain) ≡ option_map held_end r.held
   held_here = here c at ready top r is held_of None
 
@@ -58,30 +54,28 @@ module _ {T : Type 0} (build : Builds T) (check : Checks T) (c : Core T) (at : �
   none_held e = held_here ∙ ap (option_map held_end) e
 
   -- a held value is checked
-  pub held_ends : (b : Built T) → r.held ≡ Some b → (x : Ran Key Verdict) → knows (check b) ≡ x → (y : Why Key) → ended_turn c y x ≡ run_check_state build check c y
+  pub held_ends : (b : Built T) → r.held ≡ Some b → (x : Ran Key Verdict) → value_run build check c b ≡ x → (y : Why Key) → ended_turn c y x ≡ run_check_state build check c y
   held_ends b e x run y =
       sym (ap (by_held y) (held_here ∙ ap (option_map held_end) e)
-      ∙ ap (by_end y) (ran_known build c ready (check b) files pic x run))
+      ∙ ap (by_end y) run)
 
   -- a value that is built anew is checked
-  rerun_is : column held_of None c.rows.items (top_name c.chain) ≡ None → (x : Ran Key (End T)) → knows (build r.name) ≡ x → (y : Why Key) → run_check_state build check c y ≡ by_rerun y x
-  rerun_is none x run y =
-      ap (by_held y) none
-      ∙ ap (by_rerun y) (ap (λ n. ran (build n) (tells (runner_of build) keeping (core_picture c) (core_state c)) more_than_asked []) (sym (named c at ready top r is)) ∙ ran_known build c ready (build r.name) files pic x run)
+  rerun_is : column held_of None c.rows.items (top_name c.chain) ≡ None → (x : Ran Key (End T)) → top_run build c ≡ x → (y : Why Key) → run_check_state build check c y ≡ by_rerun y x
+  rerun_is none x run y = ap (by_held y) none ∙ ap (by_rerun y) run
 
-  pub rerun_ends : column held_of None c.rows.items (top_name c.chain) ≡ None → (items : List (Key × ℕ)) (b : Built T) → knows (build r.name) ≡ Finished items (Ok b) → (x : Ran Key Verdict) → knows (check b) ≡ x → (y : Why Key) → ended_turn c y x ≡ run_check_state build check c y
+  pub rerun_ends : column held_of None c.rows.items (top_name c.chain) ≡ None → (items : List (Key × ℕ)) (b : Built T) → top_run build c ≡ Finished items (Ok b) → (x : Ran Key Verdict) → value_run build check c b ≡ x → (y : Why Key) → ended_turn c y x ≡ run_check_state build check c y
   rerun_ends none items b run x checks y =
       sym (rerun_is none (Finished items (Ok b)) run y
-      ∙ ap (by_end y) (ran_known build c ready (check b) files pic x checks))
+      ∙ ap (by_end y) checks)
 
   fault_judged : (b : Bool) (f : Fault) (y : Why Key) → check_end_by (runner_of build) keeping (judge_of check) (core_picture c) (begun y) (top_name c.chain) (Err f) (fault_grade b) ≡ judged_run_turn c y [] (Some f)
   fault_judged true f y = refl
   fault_judged false f y = refl
 
-  pub rerun_fault : column held_of None c.rows.items (top_name c.chain) ≡ None → (items : List (Key × ℕ)) (f : Fault) → knows (build r.name) ≡ Finished items (Err f) → (y : Why Key) → judged_run_turn c y [] (Some f) ≡ run_check_state build check c y
+  pub rerun_fault : column held_of None c.rows.items (top_name c.chain) ≡ None → (items : List (Key × ℕ)) (f : Fault) → top_run build c ≡ Finished items (Err f) → (y : Why Key) → judged_run_turn c y [] (Some f) ≡ run_check_state build check c y
   rerun_fault none items f run y = sym (rerun_is none (Finished items (Err f)) run y ∙ fault_judged (is_circular f.code) f y)
 
-  pub rerun_stops : column held_of None c.rows.items (top_name c.chain) ≡ None → (q : Name) → knows (build r.name) ≡ Stops q → (y : Why Key) → judged_run_turn c y [] None ≡ run_check_state build check c y
+  pub rerun_stops : column held_of None c.rows.items (top_name c.chain) ≡ None → (q : Name) → top_run build c ≡ Stops q → (y : Why Key) → judged_run_turn c y [] None ≡ run_check_state build check c y
   rerun_stops none q run y = sym (rerun_is none (Stops q) run y)
 
   abbrev by_record : Option (List (Key × ℕ) × Verdict) → EngineState T

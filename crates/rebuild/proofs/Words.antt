@@ -51,7 +51,7 @@ last_seen terms n (Err f) g =
     let is = eqb-true n (failed_number (code_grade f.code)) g in
     ap (λ m. Tells n (object_content m None)) is ∙ ap (Tells n) (failed_seen (code_grade f.code))
 
-module _ {T : Type 0} (build : Builds T) (most counter : ℕ) (files : List FileRow) (rows : List (Row T)) (parts : List Part) where
+module _ {T : Type 0} (build : Builds T) (counter : ℕ) (files : List FileRow) (rows : List (Row T)) (parts : List Part) where
   told_last : (p : Name) (terms : List Term) (l : Option Last) → is_graded l ≡ true → object_word p (Some (seen_settled terms l)) ≡ tells_last (runner_of build) keeping (Under p terms) (option_map last_pair l)
   told_last p terms None g = refl
   told_last p terms (Some l) g = last_seen terms l.number l.result g

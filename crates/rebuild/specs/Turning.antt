@@ -1,12 +1,13 @@
 -- The cases of a turn, of the engine's data.
-use Rattle.std.specs.Prelude.{ℕ, List, Option, None, Err}
+use Rattle.std.specs.Prelude.{ℕ, List, [], Option, None, Err}
 use Rattle.foreign_values.specs.Chains.{below}
 use Rattle.questions.specs.declared.key.Key.{Key}
 use Rattle.questions.specs.Contents.{Content}
 use Rattle.runner.specs.declared.ends.Built.{Built}
 use Rattle.engine_laws.specs.Names.{Name}
-use Rattle.asking.specs.Asked.{Answer, Ends, Ran, Finished, Stops}
-use Rattle.engine_laws.specs.Engine.{Why, NoRecord, Judge, least, kept_on, judged, judged_kept, entered, after_check, run_check_turn, with_check, check_turn, open_turn, pushed, dropped, after_run, run_turn, with_record, turn}
+use Rattle.questions.specs.Told.{more_than_asked}
+use Rattle.asking.specs.Asked.{ran, Answer, Ends, Ran, Finished, Stops}
+use Rattle.engine_laws.specs.Engine.{Why, NoRecord, Judge, least, kept_on, judged, judged_kept, entered, after_check, run_check_turn, with_check, check_turn, open_turn, pushed, dropped, after_run, run_turn, with_record, turn, tells}
 use Rattle.rebuild.specs.declared.core_data.Core.{Core}
 use Rattle.engine_machine.specs.Machine.{nowhere, runner_of, keeping, judge_of, Builds, Checks}
 use Rattle.runner.specs.Ends.{End, Verdict}
@@ -42,6 +43,14 @@ settled_turn c y items r = after_run (runner_of no_build) keeping (core_picture 
 -- it is run, for this cause
 abbrev pub ran_turn : {T : Type 0} → Builds T → Core T → Why Key → EngineState T
 ran_turn build c y = run_turn (runner_of build) keeping (core_picture c) (core_state c) (top_name c.chain) (chain_of (below c.chain)) y
+
+-- what its run gives, told what the engine knows
+abbrev pub top_run : {T : Type 0} → Builds T → Core T → Ran Key (End T)
+top_run build c = ran (build (top_name c.chain)) (tells (runner_of build) keeping (core_picture c) (core_state c)) more_than_asked []
+
+-- what the check of a value gives
+abbrev pub value_run : {T : Type 0} → Builds T → Checks T → Core T → Built T → Ran Key Verdict
+value_run build check c b = ran (check b) (tells (runner_of build) keeping (core_picture c) (core_state c)) more_than_asked []
 
 -- it is compared or run
 abbrev pub build_turn : {T : Type 0} → Builds T → Core T → EngineState T

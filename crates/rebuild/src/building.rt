@@ -1,16 +1,17 @@
 //! The cases of a turn with a build part on top.
 
 ghost use Rattle.base.specs.declared.limits.TheConstants.{END_OF_NUMBERS};
-ghost use Rattle.std.specs.Prelude.{◌≡◌, ◌≤◌, OnOk, OnErr, Err, Ok, true, false};
+ghost use Rattle.std.specs.Prelude.{◌≡◌, ◌≤◌, ◌<◌, IfOk, OnOk, OnErr, Err, Ok, Some, true, false, length};
 ghost use Rattle.read_sets.specs.Items.{pairs_of};
 ghost use Rattle.foreign_values.specs.Chains.{below};
 ghost use Rattle.engine_laws.specs.Engine.{is_among};
-ghost use Rattle.rebuild.specs.Places.{names};
+ghost use Rattle.rebuild.specs.Places.{names, row_place};
+ghost use Rattle.runner.specs.Ends.{build_ran};
 ghost use Rattle.engine_machine.specs.Machine.{same_kept};
 ghost use Rattle.rebuild.specs.States.{pictured};
 ghost use Rattle.rebuild.specs.Numbers.{number_for, fault_number, next_counter};
-ghost use Rattle.rebuild.specs.Ready.{IsReady, StaysReady, IsBuildTop, core_state, is_check_top};
-ghost use Rattle.rebuild.specs.Turning.{kept_turn, pushed_turn, stopped_turn, settled_turn, ran_turn, build_turn, top_cause};
+ghost use Rattle.rebuild.specs.Ready.{IsReady, StaysReady, IsBuildTop, core_state, is_check_top, top_name};
+ghost use Rattle.rebuild.specs.Turning.{kept_turn, pushed_turn, stopped_turn, settled_turn, ran_turn, build_turn, top_cause, top_run};
 
 use crate::changes::{drop_record, keep_build, settle_build};
 use crate::comparing::{Found, compare_build};
@@ -24,6 +25,7 @@ use pan_ast::{Code, Fault};
 use path_tree::{Name, Tree};
 use read_sets::Trace;
 use runner::{BuildEnd, Built, Runner};
+use std::alloc::AllocError;
 use std::sync::ledger::Ledger;
 
 /// The part on top goes.
@@ -174,6 +176,24 @@ fn settle_value<T: Drop>(
     Ok(())
 }
 
+/// Runs the build of the object whose row is at this place.
+pub(crate) fn build_at<R: Runner, L: Ledger>(
+    core: &Core<R::Rest>,
+    at: usize,
+    runner: &mut R,
+    steps: &mut Steps<L>,
+) -> Result<BuildEnd<R::Rest>, AllocError>
+    requires within { at < length core.now.rows.items }
+    requires ready { IsReady core.now }
+    requires named { row_place (top_name core.now.chain) 0 core.now.rows.items ≡ Some at }
+    requires picture { R.files_of runner.old ≡ pictured core.now.files.items }
+    ensures answer { IfOk result (λ end. top_run (R.meaning (R.dirs_of runner.old) core.now.limits).build core.now ≡ build_ran end) }
+    ensures files { R.files_of runner.new ≡ R.files_of runner.old }
+    ensures dirs { R.dirs_of runner.new ≡ R.dirs_of runner.old }
+{
+    runner.run_build(&core.rows[at].name, core, &core.limits, steps)
+}
+
 /// The build part on top is run: it has no record, or its record differs at an item.
 fn run_top<R: Runner, L: Ledger>(
     core: &mut Core<R::Rest>,
@@ -189,7 +209,7 @@ fn run_top<R: Runner, L: Ledger>(
     ensures ready { OnOk result (StaysReady core.old core.new) }
     ensures before { OnErr result (core.new ≡ core.old) }
 {
-    let end = runner.run_build(&core.rows[at].name, core, &core.limits, steps)?;
+    let end = build_at(core, at, runner, steps)?;
     match end {
         BuildEnd::Need(name) => stop_top(core, at, differs, name),
         BuildEnd::Fault(fault, reads) => {

@@ -1,15 +1,15 @@
 //! The cases of a turn with a check part on top.
 
-ghost use Rattle.std.specs.Prelude.{◌≡◌, OnOk, OnErr, Err, Ok, [], Some, None};
+ghost use Rattle.std.specs.Prelude.{◌≡◌, IfOk, OnOk, OnErr, Err, Ok, [], Some, None};
 ghost use Rattle.read_sets.specs.Items.{pairs_of};
 ghost use Rattle.runner.specs.Ends.{check_ran};
 ghost use Rattle.rebuild.specs.Places.{column};
 ghost use Rattle.rebuild.specs.Kinds.{last_kind};
 ghost use Rattle.rebuild.specs.States.{pictured, held_of};
 ghost use Rattle.rebuild.specs.Ready.{IsReady, StaysReady, IsCheckTop, core_state, top_name};
-ghost use Rattle.rebuild.specs.Turning.{judged_turn, judged_kept_turn, judged_run_turn, ended_turn, top_check_cause, run_check_state, with_check_state, check_state};
+ghost use Rattle.rebuild.specs.Turning.{judged_turn, judged_kept_turn, judged_run_turn, ended_turn, top_check_cause, run_check_state, with_check_state, check_state, value_run};
 
-use crate::building::leave;
+use crate::building::{build_at, leave};
 use crate::changes::{judge, judge_run, keep_check};
 use crate::comparing::{Found, compare_check};
 use crate::core_data::Core;
@@ -18,8 +18,8 @@ use crate::turned::TurnError;
 use base::Steps;
 use pan_ast::Fault;
 use read_sets::Trace;
-use runner::{BuildEnd, CheckEnd, Runner};
-use std::alloc::Global;
+use runner::{BuildEnd, Built, CheckEnd, Runner};
+use std::alloc::{AllocError, Global};
 use std::sync::ledger::Ledger;
 
 /// The check part on top settles without a run.
@@ -81,6 +81,22 @@ fn finish_check<T: Drop>(
     }
 }
 
+/// Runs the check of what was built.
+fn check_value<R: Runner, L: Ledger>(
+    core: &Core<R::Rest>,
+    built: &Built<R::Rest>,
+    runner: &mut R,
+    steps: &mut Steps<L>,
+) -> Result<CheckEnd, AllocError>
+    requires ready { IsReady core.now }
+    requires picture { R.files_of runner.old ≡ pictured core.now.files.items }
+    ensures answer { IfOk result (λ end. value_run (R.meaning (R.dirs_of runner.old) core.now.limits).build (R.meaning (R.dirs_of runner.old) core.now.limits).check core.now built.now ≡ check_ran end) }
+    ensures files { R.files_of runner.new ≡ R.files_of runner.old }
+    ensures dirs { R.dirs_of runner.new ≡ R.dirs_of runner.old }
+{
+    runner.run_check(built, core, &core.limits, steps)
+}
+
 /// The check part on top is run, with a value that is built for it.
 fn rerun_top<R: Runner, L: Ledger>(
     alloc: Global,
@@ -98,9 +114,9 @@ fn rerun_top<R: Runner, L: Ledger>(
     ensures ready { OnOk result (StaysReady core.old core.new) }
     ensures before { OnErr result (core.new ≡ core.old) }
 {
-    match runner.run_build(&core.rows[at].name, core, &core.limits, steps)? {
+    match build_at(core, at, runner, steps)? {
         BuildEnd::Done(built, _reads) => {
-            let end = runner.run_check(&built, core, &core.limits, steps)?;
+            let end = check_value(core, &built, runner, steps)?;
             finish_check(alloc, core, at, differs, end);
         }
         BuildEnd::Fault(fault, _reads) => {
@@ -130,7 +146,7 @@ fn run_check_top<R: Runner, L: Ledger>(
     match &core.rows[at].held {
         None => rerun_top(alloc, core, at, differs, runner, steps),
         Some(built) => {
-            let end = runner.run_check(built, core, &core.limits, steps)?;
+            let end = check_value(core, built, runner, steps)?;
             finish_check(alloc, core, at, differs, end);
             Ok(())
         }
