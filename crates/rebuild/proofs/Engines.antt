@@ -1,0 +1,82 @@
+-- An engine after a turn.
+use Rattle.std.proofs.Common.{◌≡◌, ◌≤◌, length, ℕ, List, true, Result, Ok, Err, OnOk, OnErr, nat_le, sym, ap, ◌∙◌, subst}
+use Rattle.std.proofs.Math.Logic.{∥∥₁_map}
+use Rattle.std.proofs.lemmas.Bool.{le-leb, leb-true}
+use Rattle.std.proofs.lemmas.List.{length-map}
+use Rattle.base.specs.declared.limits.TheConstants.{END_OF_NUMBERS, MAX_OBJECTS}
+use Rattle.pan_ast.specs.declared.work.Limits.{Limits}
+use Rattle.engine_laws.specs.Engine.{Turn}
+use Rattle.engine_laws.specs.Reached.{IsReached}
+use Rattle.engine_laws.proofs.Reached.{leads_on, reached_scratch}
+use Rattle.engine_machine.specs.Machine.{runner_of, keeping, judge_of}
+use Rattle.engine_machine.proofs.Truths.{both}
+use Rattle.rebuild.specs.declared.core_data.Core.{Core}
+use Rattle.rebuild.specs.declared.turned.Turned.{Turned}
+use Rattle.rebuild.specs.declared.turned.TurnError.{TurnError}
+use Rattle.rebuild.specs.Places.{name_of, names}
+use Rattle.rebuild.specs.States.{picture_of, are_graded}
+use Rattle.rebuild.specs.Ready.{core_state, is_chain, are_once, IsReady, StaysReady}
+use Rattle.rebuild.specs.Turning.{turned}
+use Rattle.rebuild.specs.Engines.{EngineSituation, Meanings, situation_of, value_of, is_ready, IsEngine, after_turn, IsTrue}
+use Rattle.rebuild.proofs.Readies.{both_true}
+
+pub ready_is : {T : Type 0} → (c : Core T) → is_ready c ≡ true → IsReady c
+ready_is c e =
+    let a = both (nat_le 3 c.counter) _ e in
+    let b = both (are_once (names c.rows.items)) _ a.1 in
+    let d = both (are_graded c.rows.items) _ b.1 in
+    let f = both (is_chain c.chain) _ d.1 in
+    record { three = leb-true 3 c.counter a.0; once = b.0; graded = d.0; chain = f.0; known = f.1 }
+
+pub is_ready_of : {T : Type 0} → (c : Core T) → IsReady c → is_ready c ≡ true
+is_ready_of c r =
+    both_true (nat_le 3 c.counter) _ (le-leb 3 c.counter r.three)
+    (both_true (are_once (names c.rows.items)) _ r.once (both_true (are_graded c.rows.items) _ r.graded (both_true (is_chain c.chain) _ r.chain r.known)))
+
+pub same_count : {T : Type 0} → (c n : Core T) → names n.rows.items ≡ names c.rows.items → length n.rows.items ≡ length c.rows.items
+same_count c n e = sym (length-map name_of n.rows.items) ∙ ap length e ∙ length-map name_of c.rows.items
+
+module _ {T : Type 0} (m : Meanings T) where
+  pub turn_situation : (c n : Core T) (dirs : List (List ℕ)) → dirs ≡ c.dirs → core_state n ≡ turned (m dirs c.limits).build (m dirs c.limits).check c → StaysReady c n → situation_of n ≡ after_turn m (value_of c)
+  turn_situation c n dirs same state stays i = record {
+    picture = picture_of (stays.files i) (stays.objects i);
+    state = (state ∙ ap (λ d. turned (m d c.limits).build (m d c.limits).check c) same) i;
+  }
+
+  engine_after : (c n : Core T) → StaysReady c n → situation_of n ≡ after_turn m (value_of c) → IsEngine m (value_of c) → IsEngine m (value_of n)
+  engine_after c n stays is e =
+      let next = leads_on (runner_of (m c.dirs c.limits).build) keeping (judge_of (m c.dirs c.limits).check) (situation_of c) e Turn tt in
+      let P : Limits → List (List ℕ) → EngineSituation T → Type 0 = λ l d x. IsReached (runner_of (m d l).build) keeping (judge_of (m d l).check) x in
+      subst (λ l. P l n.dirs (situation_of n)) (sym stays.limits) (subst (λ d. P c.limits d (situation_of n)) (sym stays.dirs) (subst (P c.limits c.dirs) (sym is) next))
+
+  -- what holds of the engine after the turn, refused or not
+  pub record AfterTurn (c n : Core T) (r : Result Turned TurnError) : Type 0 where
+    pub ready : is_ready n ≡ true
+    pub low : n.counter ≤ END_OF_NUMBERS
+    pub few : length n.rows.items ≤ MAX_OBJECTS
+    pub reached : ∥ IsEngine m (value_of n) ∥₁
+    pub state : OnOk r (situation_of n ≡ after_turn m (value_of c))
+    pub before : OnErr r (value_of n ≡ value_of c)
+
+  pub turn_facts : (c n : Core T) (dirs : List (List ℕ)) → dirs ≡ c.dirs → (r : Result Turned TurnError) → OnOk r (core_state n ≡ turned (m dirs c.limits).build (m dirs c.limits).check c) → OnOk r (StaysReady c n) → OnErr r (n ≡ c) → is_ready c ≡ true → c.counter ≤ END_OF_NUMBERS → length c.rows.items ≤ MAX_OBJECTS → ∥ IsEngine m (value_of c) ∥₁ → AfterTurn c n r
+  turn_facts c n dirs same (Ok t) state stays before ready low few kept =
+      let is = turn_situation c n dirs same state stays in
+      record {
+        ready = is_ready_of n stays.ready;
+        low = stays.low low;
+        few = subst (λ k. k ≤ MAX_OBJECTS) (sym (same_count c n stays.objects)) few;
+        reached = ∥∥₁_map kept (λ e. engine_after c n stays is e);
+        state = is;
+        before = tt;
+      }
+  turn_facts c n dirs same (Err e) state stays before ready low few kept = record {
+    ready = ap is_ready before ∙ ready;
+    low = subst (λ z. z.counter ≤ END_OF_NUMBERS) (sym before) low;
+    few = subst (λ z. length z.rows.items ≤ MAX_OBJECTS) (sym before) few;
+    reached = subst (λ z. ∥ IsEngine m (value_of z) ∥₁) (sym before) kept;
+    state = tt;
+    before = ap value_of before;
+  }
+
+  pub true_of : (e : _) → ∥ IsEngine m e ∥₁ → ∥ IsTrue m e ∥₁
+  true_of e kept = ∥∥₁_map kept (λ r. reached_scratch (runner_of (m e.dirs e.limits).build) keeping (judge_of (m e.dirs e.limits).check) e.situation r)

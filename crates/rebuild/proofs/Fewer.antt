@@ -1,0 +1,78 @@
+-- A turn leaves one turn fewer, and the parts on the chain.
+use Rattle.std.proofs.Common.{◌≡◌, ◌+◌, ◌-◌, ◌||◌, ◌⊎◌, ℕ, List, [], ◌∷◌, Bool, true, false, not, length, refl, sym, ap, ◌∙◌, inl, inr, arith}
+use Rattle.std.proofs.Math.Logic.{∥∥₁_elim}
+use Rattle.std.proofs.Math.Nat.{ℕ_set}
+use Rattle.pan_ast.specs.declared.work.Limits.{Limits}
+use Rattle.foreign_values.specs.declared.Part.{Part}
+use Rattle.foreign_values.specs.declared.Part.TheVariants as part
+use Rattle.runner.specs.Meaning.{IsLawful}
+use Rattle.engine_laws.specs.Names.{Name, equal}
+use Rattle.engine_laws.proofs.Names.{equal-is}
+use Rattle.engine_laws.specs.Runner.{IsIn}
+use Rattle.engine_laws.specs.Rows.{IsOnce}
+use Rattle.engine_laws.specs.Engine.{is_among, if_checking, on_chain, turns_left}
+use Rattle.engine_laws.proofs.Left.{Moves, turn_moves}
+use Rattle.engine_laws.proofs.Reached.{reached_holds}
+use Rattle.engine_machine.specs.Machine.{runner_of, keeping, judge_of}
+use Rattle.engine_machine.proofs.Costs.{ends_soon}
+use Rattle.engine_machine.proofs.Truths.{both}
+use Rattle.rebuild.specs.declared.core_data.Core.{Core}
+use Rattle.rebuild.specs.Places.{names}
+use Rattle.rebuild.specs.States.{pictured, chain_of, checking_of}
+use Rattle.rebuild.specs.Ready.{core_state, core_picture, are_builds, is_empty, is_chain, are_once, IsReady, StaysReady}
+use Rattle.rebuild.specs.Engines.{Meanings, situation_of, value_of, parts_of, turns_left_of, IsEngine, after_turn}
+
+in_among : (p : Name) (xs : List Name) → IsIn p xs → is_among p xs ≡ true
+in_among p [] i = absurd i
+in_among p (x ∷ xs) (inl same) = ap (λ b. b || is_among p xs) (equal-is x p same)
+in_among p (x ∷ xs) (inr later) = at (equal x p)
+  where
+    at : (b : Bool) → b || is_among p xs ≡ true
+    at true = refl
+    at false = in_among p xs later
+
+not_true : (b : Bool) → not b ≡ true → b ≡ false
+not_true true e = absurd (let clash : false ≡ true = e in cc)
+not_true false e = refl
+
+pub once_is : (xs : List Name) → are_once xs ≡ true → IsOnce xs
+once_is [] once = tt
+once_is (x ∷ xs) once =
+    let two = both (not (is_among x xs)) (are_once xs) once in
+    (λ i. let clash : true ≡ false = sym (in_among x xs i) ∙ not_true _ two.0 in cc, once_is xs two.1)
+
+builds_count : (ps : List Part) → are_builds ps ≡ true → length ps ≡ length (chain_of ps)
+builds_count [] e = refl
+builds_count (part.Build p ∷ ps) e = ap (λ n. 1 + n) (builds_count ps e)
+builds_count (part.Check p ∷ ps) e = absurd (let clash : false ≡ true = e in cc)
+
+pub parts_count : (ps : List Part) → is_chain ps ≡ true → length ps ≡ length (chain_of ps) + if_checking (checking_of ps)
+parts_count [] e = refl
+parts_count (part.Build p ∷ ps) e = let n = builds_count ps e in omega (arith, n)
+parts_count (part.Check p ∷ []) e = refl
+parts_count (part.Check p ∷ q ∷ ps) e = absurd (let clash : false ≡ true = e in cc)
+
+one_less : (a b : ℕ) → a + 1 ≡ b → a ≡ b - 1
+one_less a b e = omega (arith, e)
+
+none_less : (a b : ℕ) → a ≡ b → b ≡ 0 → a ≡ b - 1
+none_less a b e z = omega (arith, e, z)
+
+module _ {T : Type 0} (m : Meanings T) (lawful : (dirs : List (List ℕ)) (limits : Limits) → IsLawful (m dirs limits)) (c : Core T) (ready : IsReady c) where
+  moved : IsEngine m (value_of c) → turns_left (names c.rows.items) (after_turn m (value_of c)).state ≡ turns_left_of c - 1
+  moved e =
+      let run = runner_of (m c.dirs c.limits).build in
+      let jd = judge_of (m c.dirs c.limits).check in
+      let h = reached_holds run keeping jd (situation_of c) e in
+      let soon = ends_soon (m c.dirs c.limits) (lawful c.dirs c.limits) (pictured c.files.items) (names c.rows.items) (once_is (names c.rows.items) ready.once) in
+      at (turn_moves run keeping jd (core_picture c) h.laws h.klaws soon (core_state c) h.inv)
+    where
+      at : (turns_left (names c.rows.items) (after_turn m (value_of c)).state + 1 ≡ turns_left_of c) ⊎ (((after_turn m (value_of c)).state ≡ core_state c) × (turns_left_of c ≡ 0)) → turns_left (names c.rows.items) (after_turn m (value_of c)).state ≡ turns_left_of c - 1
+      at (inl less) = one_less _ _ less
+      at (inr same) = none_less _ _ (ap (turns_left (names c.rows.items)) same.0) same.1
+
+  pub fewer : (n : Core T) → StaysReady c n → situation_of n ≡ after_turn m (value_of c) → ∥ IsEngine m (value_of c) ∥₁ → turns_left_of n ≡ turns_left_of c - 1
+  fewer n stays is kept =
+      ap (λ ns. turns_left ns (core_state n)) stays.objects
+      ∙ ap (λ x. turns_left (names c.rows.items) x.state) is
+      ∙ ∥∥₁_elim kept (ℕ_set _ _) moved

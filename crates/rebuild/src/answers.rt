@@ -1,0 +1,167 @@
+//! What the engine answers.
+
+ghost use Rattle.std.specs.Prelude.{◌≡◌, ◌≤◌, ◌++◌, [], IfOk, length, option_copied};
+ghost use Rattle.rebuild.specs.Answers.{seen_answer, answer_of_row, answer_found, seen_why, why_found, seen_reads, reads_of_row, reads_found, run_names, count_rows};
+ghost use Rattle.rebuild.specs.Places.{row_in, names};
+
+use crate::rows::{Cause, Row};
+use pan_ast::Fault;
+use path_tree::{Name, Tree};
+use read_sets::{Key, Trace};
+use std::alloc::{AllocError, Global};
+
+/// The answer for a name: its profile's tree, its fault, that it is not settled, or that it is no object.
+pub enum Answer<'a> {
+    Profile(&'a Tree),
+    Fault(&'a Fault),
+    Pending,
+    NoObject,
+}
+
+/// Why a name was run last.
+pub enum Why<'a> {
+    NotRun,
+    NoRecord,
+    Changed(&'a Key),
+    NoObject,
+}
+
+/// What an object asked for in its build and in its check.
+pub struct Reads<'a> {
+    pub build: &'a Trace,
+    pub check: &'a Trace,
+}
+
+/// The row of a name.
+fn row_of_text<'a, T>(rows: &'a [Row<T>], name: &str) -> Option<&'a Row<T>>
+    ensures { option_copied result ≡ row_in name.now rows.now }
+{
+    for row in rows {
+        if row.name.as_str() == name {
+            return Some(row);
+        }
+    }
+    None
+}
+
+/// The answer of a row.
+fn answer_of_row<T>(row: &Row<T>) -> Answer<'_>
+    ensures { seen_answer result ≡ answer_of_row row.now }
+{
+    if row.open_build || row.open_check {
+        return Answer::Pending;
+    }
+    match &row.last {
+        None => Answer::Pending,
+        Some(last) => match &last.result {
+            Err(fault) => Answer::Fault(fault),
+            Ok(tree) => match &row.check {
+                None => Answer::Pending,
+                Some(check) => match &check.verdict {
+                    Some(fault) => Answer::Fault(fault),
+                    None => Answer::Profile(tree),
+                },
+            },
+        },
+    }
+}
+
+/// The answer for a name.
+pub(crate) fn answer_in<'a, T>(rows: &'a [Row<T>], name: &str) -> Answer<'a>
+    ensures { seen_answer result ≡ answer_found (row_in name.now rows.now) }
+{
+    match row_of_text(rows, name) {
+        None => Answer::NoObject,
+        Some(row) => answer_of_row(row),
+    }
+}
+
+/// Why a name was run last.
+pub(crate) fn why_in<'a, T>(rows: &'a [Row<T>], name: &str) -> Why<'a>
+    ensures { seen_why result ≡ why_found (row_in name.now rows.now) }
+{
+    match row_of_text(rows, name) {
+        None => Why::NoObject,
+        Some(row) => match &row.cause {
+            Cause::NotRun => Why::NotRun,
+            Cause::NoRecord => Why::NoRecord,
+            Cause::Changed(key) => Why::Changed(key),
+        },
+    }
+}
+
+/// What the object of a row asked for.
+fn reads_of_row<T>(row: &Row<T>) -> Option<Reads<'_>>
+    ensures { seen_reads result ≡ reads_of_row row.now }
+{
+    if row.open_build || row.open_check {
+        return None;
+    }
+    match (&row.build, &row.check) {
+        (Some(build), Some(check)) => Some(Reads {
+            build,
+            check: &check.reads,
+        }),
+        _ => None,
+    }
+}
+
+/// What an object asked for.
+pub(crate) fn reads_in<'a, T>(rows: &'a [Row<T>], name: &str) -> Option<Reads<'a>>
+    ensures { seen_reads result ≡ reads_found (row_in name.now rows.now) }
+{
+    match row_of_text(rows, name) {
+        None => None,
+        Some(row) => reads_of_row(row),
+    }
+}
+
+/// The names of all rows.
+pub(crate) fn names_in<T>(alloc: Global, rows: &[Row<T>]) -> Result<Vec<Name>, AllocError>
+    ensures { IfOk result (λ made. made.items ≡ names rows.now) }
+{
+    let mut made = Vec::with_capacity(alloc, rows.len())?;
+    for row in rows {
+        made.push(row.name.share()?)?;
+    }
+    Ok(made)
+}
+
+/// The names of the rows that were run.
+pub(crate) fn runs_in<T>(alloc: Global, rows: &[Row<T>]) -> Result<Vec<Name>, AllocError>
+    ensures { IfOk result (λ made. made.items ≡ run_names rows.now) }
+{
+    let mut made = Vec::new(alloc);
+    for row in rows {
+        if row.run {
+            made.push(row.name.share()?)?;
+        }
+    }
+    Ok(made)
+}
+
+/// How many build parts are unsettled.
+pub(crate) fn open_builds<T>(rows: &[Row<T>]) -> usize
+    ensures { result ≡ count_rows (λ r. r.open_build) rows.now }
+{
+    let mut count = 0;
+    for row in rows {
+        if row.open_build {
+            count += 1;
+        }
+    }
+    count
+}
+
+/// How many check parts are unsettled.
+pub(crate) fn open_checks<T>(rows: &[Row<T>]) -> usize
+    ensures { result ≡ count_rows (λ r. r.open_check) rows.now }
+{
+    let mut count = 0;
+    for row in rows {
+        if row.open_check {
+            count += 1;
+        }
+    }
+    count
+}

@@ -1,0 +1,186 @@
+//! The engine.
+
+ghost use Rattle.std.specs.Prelude.{◌≡◌, ◌≤◌, ◌+◌, ◌-◌, true, IfOk, IfErr, OnOk, OnErr, length};
+ghost use Rattle.base.specs.declared.limits.TheConstants.{END_OF_NUMBERS, MAX_OBJECTS};
+ghost use Rattle.rebuild.specs.Engines.{is_ready, IsEngine, value_of};
+
+use crate::answers::{
+    Answer, Reads, Why, answer_in, names_in, open_builds, open_checks, reads_in, runs_in, why_in,
+};
+use crate::core_data::Core;
+use crate::forgetting::forget_rows;
+use crate::renewing::take_picture;
+use crate::taking::TakeError;
+use crate::turned::{TurnError, Turned};
+use crate::turning::{step, turned_by};
+use base::{Seq, Steps, Text};
+use foreign_values::Chain;
+use load_path::Picture;
+use pan_ast::Limits;
+use path_tree::Name;
+use runner::Runner;
+use std::alloc::{AllocError, Global};
+use std::sync::ledger::Ledger;
+
+/// The incremental engine, over a runner that it does not keep.
+#[derive(Drop)]
+pub struct Engine<R: Runner> {
+    core: Core<R::Rest>,
+    ghost ready: { is_ready core ≡ true },
+    ghost low: { core.counter ≤ END_OF_NUMBERS },
+    ghost few: { length core.rows.items ≤ MAX_OBJECTS },
+    ghost reached: { ∥ IsEngine R.meaning (value_of core) ∥₁ },
+}
+
+/// The same texts, shared.
+fn shared(alloc: Global, texts: &[Text]) -> Result<Seq<Text>, AllocError>
+    ensures { IfOk result (λ same. same ≡ texts.now) }
+{
+    let mut same = Vec::with_capacity(alloc, texts.len())?;
+    for text in texts {
+        same.push(text.share()?)?;
+    }
+    Ok(Seq::from_vec(same))
+}
+
+impl<R: Runner> Engine<R> {
+    ghost use Rattle.engine_laws.specs.Engine.{Forget};
+    ghost use Rattle.object_names.specs.Objects.{AreObjects};
+    ghost use Rattle.rebuild.specs.Answers.{seen_answer, answer_at, seen_why, why_at, seen_reads, reads_at, runs_at};
+    ghost use Rattle.rebuild.specs.Engines.{situation_of, new_situation, after_event, after_take, after_turn, IsTrue, objects_of, parts_of, turns_left_of};
+    ghost use Rattle.rebuild.specs.Opening.{turned_by};
+    ghost use Rattle.rebuild.specs.Refused.{IsRefused};
+    ghost use Rattle.rebuild.specs.States.{pictured};
+
+    /// An engine with an empty picture and no records.
+    pub fn new(alloc: Global, limits: Limits, dirs: Seq<Text>) -> Engine<R>
+        ensures fresh { situation_of result.core ≡ new_situation }
+        ensures limits { result.core.limits ≡ limits }
+        ensures dirs { result.core.dirs ≡ dirs }
+    {
+        Engine {
+            core: Core {
+                limits,
+                dirs,
+                counter: 3,
+                files: Vec::new(alloc),
+                rows: Vec::new(alloc),
+                chain: Chain::new(alloc),
+            },
+        }
+    }
+
+    /// Takes a picture: its objects are those of the engine from now on, and all of them are unsettled. The runner gets
+    /// the picture and the engine's directories.
+    ///
+    /// `steps` rises by one for each file. `TooManyObjects` where the picture has over [MAX_OBJECTS], `NumbersSpent`
+    /// where the numbers that its files need pass [END_OF_NUMBERS]. A refused take leaves engine and runner as before.
+    pub fn take<L: Ledger>(
+        &mut self,
+        alloc: Global,
+        picture: Picture,
+        runner: &mut R,
+        steps: &mut Steps<L>,
+    ) -> Result<(), TakeError>
+        ensures objects { OnOk result (AreObjects picture self.old.core.dirs (objects_of self.new.core)) }
+        ensures few { OnOk result (length (objects_of self.new.core) ≤ MAX_OBJECTS) }
+        ensures state { OnOk result (situation_of self.new.core ≡ after_take R.meaning (value_of self.old.core) picture (objects_of self.new.core)) }
+        ensures files { OnOk result (pictured self.new.core.files.items ≡ picture) }
+        ensures dirs { self.new.core.dirs ≡ self.old.core.dirs }
+        ensures limits { self.new.core.limits ≡ self.old.core.limits }
+        ensures steps { OnOk result (steps.new ≡ steps.old + length picture) }
+        ensures given { OnOk result (R.files_of runner.new ≡ picture) }
+        ensures given_dirs { OnOk result (R.dirs_of runner.new ≡ self.old.core.dirs) }
+        ensures runs { R.runs_of runner.new ≡ R.runs_of runner.old }
+        ensures refused { IfErr result (IsRefused self.old.core.files.items self.old.core.counter picture self.old.core.dirs) }
+        ensures before { OnErr result (self.new.core ≡ self.old.core) }
+        ensures runner_before { OnErr result (runner.new ≡ runner.old) }
+        ensures refused_steps { OnErr result (steps.new ≤ steps.old + length picture) }
+        ensures scratch { ∥ IsTrue R.meaning (value_of self.new.core) ∥₁ }
+    {
+        let dirs = shared(alloc, self.core.dirs.as_slice())?;
+        take_picture(alloc, &mut self.core, &picture, steps)?;
+        runner.set_picture(picture, dirs);
+        Ok(())
+    }
+
+    /// One turn.
+    pub fn turn<L: Ledger>(
+        &mut self,
+        alloc: Global,
+        runner: &mut R,
+        steps: &mut Steps<L>,
+    ) -> Result<Turned, TurnError>
+        requires picture { R.files_of runner.old ≡ pictured self.old.core.files.items }
+        requires dirs { R.dirs_of runner.old ≡ self.old.core.dirs }
+        ensures state { OnOk result (situation_of self.new.core ≡ after_turn R.meaning (value_of self.old.core)) }
+        ensures turned { IfOk result (λ did. did ≡ turned_by (parts_of self.old.core) (parts_of self.new.core)) }
+        ensures fewer { OnOk result (turns_left_of self.new.core ≡ turns_left_of self.old.core - 1) }
+        ensures files { OnOk result (self.new.core.files.items ≡ self.old.core.files.items) }
+        ensures dirs { self.new.core.dirs ≡ self.old.core.dirs }
+        ensures before { OnErr result (self.new.core ≡ self.old.core) }
+        ensures scratch { ∥ IsTrue R.meaning (value_of self.new.core) ∥₁ }
+    {
+        let before = self.core.chain.len();
+        step(alloc, &mut self.core, runner, steps)?;
+        Ok(turned_by(before, self.core.chain.len()))
+    }
+
+    /// The answer for a name. `Pending` where it is an object with an unsettled part, `NoObject` where it is none, or
+    /// there was no take.
+    pub fn answer(&self, name: &str) -> Answer<'_>
+        ensures exact { seen_answer result ≡ answer_at (situation_of self.now.core) name.now }
+        ensures scratch { ∥ IsTrue R.meaning (value_of self.now.core) ∥₁ }
+    {
+        answer_in(&self.core.rows, name)
+    }
+
+    /// Why a name was run last: it was not run since it became an object, it had no whole record, or the first item of
+    /// its record that had changed.
+    pub fn why(&self, name: &str) -> Why<'_>
+        ensures { seen_why result ≡ why_at (situation_of self.now.core) name.now }
+    {
+        why_in(&self.core.rows, name)
+    }
+
+    /// What an object asked for. None where its answer is `Pending` or `NoObject`.
+    pub fn reads(&self, name: &str) -> Option<Reads<'_>>
+        ensures exact { seen_reads result ≡ reads_at (situation_of self.now.core) name.now }
+        ensures scratch { ∥ IsTrue R.meaning (value_of self.now.core) ∥₁ }
+    {
+        reads_in(&self.core.rows, name)
+    }
+
+    /// The objects, in byte order.
+    pub fn objects(&self, alloc: Global) -> Result<Vec<Name>, AllocError>
+        ensures { IfOk result (λ made. made.items ≡ objects_of self.now.core) }
+    {
+        names_in(alloc, &self.core.rows)
+    }
+
+    /// The objects that were run, in byte order.
+    pub fn runs(&self, alloc: Global) -> Result<Vec<Name>, AllocError>
+        ensures { IfOk result (λ made. made.items ≡ runs_at (situation_of self.now.core)) }
+    {
+        runs_in(alloc, &self.core.rows)
+    }
+
+    /// How many turns are left: twice the unsettled parts less those on the chain. Each turn takes one.
+    pub fn turns_left(&self) -> u64
+        ensures { result ≡ turns_left_of self.now.core }
+    {
+        let rows = self.core.rows.as_slice();
+        let unsettled = open_builds(rows) + open_checks(rows);
+        (2 * unsettled).saturating_sub(self.core.chain.len()) as u64
+    }
+
+    /// The list of runs is forgotten, where nothing is unsettled.
+    pub fn forget_runs(&mut self)
+        requires settled { turns_left_of self.old.core ≡ 0 }
+        ensures state { situation_of self.new.core ≡ after_event R.meaning (value_of self.old.core) Forget }
+        ensures files { self.new.core.files.items ≡ self.old.core.files.items }
+        ensures dirs { self.new.core.dirs ≡ self.old.core.dirs }
+    {
+        forget_rows(&mut self.core.rows);
+    }
+}

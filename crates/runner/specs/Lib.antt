@@ -1,0 +1,4 @@
+-- How runs end; what they are told; what a runner means, and the laws of that.
+pub mod Ends
+pub mod Words
+pub mod Meaning

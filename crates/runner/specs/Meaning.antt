@@ -1,0 +1,28 @@
+-- What a runner's builds and checks ask and give, and their laws.
+use Rattle.std.specs.Prelude.{ℕ, ◌+◌, List, cond, nat_lt}
+use Rattle.asking.specs.Asked.{Answer}
+use Rattle.questions.specs.declared.key.Key.{Key}
+use Rattle.questions.specs.Contents.{Content}
+use Rattle.questions.specs.Laws.{MayAsk}
+use Rattle.questions.specs.Told.{RunLaws}
+use Rattle.runner.specs.declared.ends.Built.{Built}
+use Rattle.runner.specs.Ends.{End, Verdict, is_circular_end, is_circular_verdict}
+
+-- the next question after these answers, the newest first, or the end; and the work used so far
+pub record Meaning (T : Type 0) : Type 0 where
+  pub build : List ℕ → List (Key × Content) → Answer Key (End T)
+  pub build_work : List ℕ → List (Key × Content) → ℕ
+  pub check : Built T → List (Key × Content) → Answer Key Verdict
+  pub check_work : Built T → List (Key × Content) → ℕ
+
+-- a run of an object asks no key of the object itself
+pub record IsLawful {T : Type 0} (m : Meaning T) : Type 0 where
+  pub builds : (object : List ℕ) → RunLaws (MayAsk object) is_circular_end (m.build object) (m.build_work object)
+  pub checks : (built : Built T) → RunLaws (MayAsk built.object) is_circular_verdict (m.check built) (m.check_work built)
+
+abbrev pub last_count : ℕ
+last_count = 18446744073709551615
+
+-- a count with one more run; the last one stands
+abbrev pub counted : ℕ → ℕ
+counted n = cond (nat_lt n last_count) (n + 1) n

@@ -1,0 +1,89 @@
+ghost use Rattle.std.specs.Prelude.{◌≡◌, ◌≤◌, ◌+◌, [], IfOk, OnOk, OnErr};
+ghost use Rattle.asking.specs.Asked.{ran, told_in};
+ghost use Rattle.questions.specs.Told.{more_than_asked};
+ghost use Rattle.runner.specs.Words.{words};
+ghost use Rattle.runner.specs.Ends.{build_ran, check_ran};
+ghost use Rattle.runner.specs.Meaning.{counted};
+
+use crate::ends::{BuildEnd, Built, CheckEnd};
+use crate::known::Known;
+use base::{Seq, Steps, Text};
+use load_path::Picture;
+use pan_ast::Limits;
+use path_tree::Name;
+use std::alloc::AllocError;
+use std::sync::ledger::Ledger;
+
+/// Runs the builds and the checks of objects, over a picture and include directories that it keeps.
+///
+/// A runner answers by its meaning alone: what a build and a check ask and give is a function of the directories, the
+/// limits, the object's name or what was built, and of the answers so far. Whoever uses a runner knows nothing of that
+/// meaning but its laws.
+pub trait Runner {
+    ghost use Rattle.std.specs.Prelude.{ℕ, List};
+    ghost use Rattle.load_path.specs.declared.picture.PictureFile.{PictureFile};
+    ghost use Rattle.pan_ast.specs.declared.work.Limits.{Limits};
+    ghost use Rattle.runner.specs.Meaning.{Meaning, IsLawful};
+
+    /// What a build makes besides the tree, for the check.
+    type Rest: Drop;
+
+    /// What builds and checks ask and give, by directories and limits.
+    ghost meaning: { List (List ℕ) → Limits → Meaning Self.Rest };
+
+    /// The files of the picture, the directories, and the count of runs.
+    ghost files_of: { Self → List PictureFile };
+
+    ghost dirs_of: { Self → List (List ℕ) };
+
+    ghost runs_of: { Self → ℕ };
+
+    /// Another picture with other directories.
+    fn set_picture(&mut self, picture: Picture, dirs: Seq<Text>)
+        ensures files { files_of self.new ≡ picture }
+        ensures dirs { dirs_of self.new ≡ dirs }
+        ensures runs { runs_of self.new ≡ runs_of self.old };
+
+    /// The picture.
+    fn picture(&self) -> &Picture
+        ensures { result.now ≡ files_of self.now };
+
+    /// Runs the build of an object of the picture.
+    ///
+    /// Files are told by the picture, with the numbers that `known` gives; objects are told as they are known. A run that
+    /// ends gives the keys that it asked, in order, with these numbers. `steps` rises by the work of the run.
+    fn run_build<K: Known, L: Ledger>(
+        &mut self,
+        name: &Name,
+        known: &K,
+        limits: &Limits,
+        steps: &mut Steps<L>,
+    ) -> Result<BuildEnd<Self::Rest>, AllocError>
+        ensures answer { IfOk result (λ end. ran ((meaning (dirs_of self.old) limits.now).build name.now) (words (files_of self.old) (K.numbers known.now) (K.objects known.now)) more_than_asked [] ≡ build_ran end) }
+        ensures steps { OnOk result (steps.new ≡ steps.old + (meaning (dirs_of self.old) limits.now).build_work name.now (told_in ((meaning (dirs_of self.old) limits.now).build name.now) (words (files_of self.old) (K.numbers known.now) (K.objects known.now)) more_than_asked [])) }
+        ensures files { files_of self.new ≡ files_of self.old }
+        ensures dirs { dirs_of self.new ≡ dirs_of self.old }
+        ensures runs { OnOk result (runs_of self.new ≡ counted (runs_of self.old)) }
+        ensures refused_steps { OnErr result (steps.new ≤ steps.old + (meaning (dirs_of self.old) limits.now).build_work name.now (told_in ((meaning (dirs_of self.old) limits.now).build name.now) (words (files_of self.old) (K.numbers known.now) (K.objects known.now)) more_than_asked [])) }
+        ensures refused_runs { OnErr result ((runs_of self.old ≤ runs_of self.new) × (runs_of self.new ≤ counted (runs_of self.old))) };
+
+    /// Runs the check of what was built, told as a build is.
+    fn run_check<K: Known, L: Ledger>(
+        &mut self,
+        built: &Built<Self::Rest>,
+        known: &K,
+        limits: &Limits,
+        steps: &mut Steps<L>,
+    ) -> Result<CheckEnd, AllocError>
+        ensures answer { IfOk result (λ end. ran ((meaning (dirs_of self.old) limits.now).check built.now) (words (files_of self.old) (K.numbers known.now) (K.objects known.now)) more_than_asked [] ≡ check_ran end) }
+        ensures steps { OnOk result (steps.new ≡ steps.old + (meaning (dirs_of self.old) limits.now).check_work built.now (told_in ((meaning (dirs_of self.old) limits.now).check built.now) (words (files_of self.old) (K.numbers known.now) (K.objects known.now)) more_than_asked [])) }
+        ensures files { files_of self.new ≡ files_of self.old }
+        ensures dirs { dirs_of self.new ≡ dirs_of self.old }
+        ensures runs { OnOk result (runs_of self.new ≡ counted (runs_of self.old)) }
+        ensures refused_steps { OnErr result (steps.new ≤ steps.old + (meaning (dirs_of self.old) limits.now).check_work built.now (told_in ((meaning (dirs_of self.old) limits.now).check built.now) (words (files_of self.old) (K.numbers known.now) (K.objects known.now)) more_than_asked [])) }
+        ensures refused_runs { OnErr result ((runs_of self.old ≤ runs_of self.new) × (runs_of self.new ≤ counted (runs_of self.old))) };
+
+    /// The laws of builds and checks: a key is asked once, each question costs a step, the work of a run is bounded, and
+    /// an object whose chain of reads never ends has the fault of a circular object.
+    ghost laws: { (dirs : List (List ℕ)) (limits : Limits) → IsLawful (meaning dirs limits) };
+}
