@@ -44,7 +44,7 @@ skips_by false true at k l n annotated other e = (Comment, ap (Skip Comment) e)
 skips_by false false true k l n annotated other e = annotation_skips annotated n e
 skips_by false false false k l n annotated other e = absurd (omega (arith, e))
 
-front_skips : (b : ℕ) (bs : List ℕ) (n : ℕ) → skipped_len (b ∷ bs) ≡ suc n → Skips (front false (b ∷ bs)) (suc n)
+pub front_skips : (b : ℕ) (bs : List ℕ) (n : ℕ) → skipped_len (b ∷ bs) ≡ suc n → Skips (front false (b ∷ bs)) (suc n)
 front_skips b bs n e = skips_by (is_blank b) (eqb b 35) (eqb b 64) _ _ n (annotation bs) _ e
 
 -- ---- the word
@@ -59,7 +59,7 @@ same_bytes (x ∷ xs) (y ∷ ys) e =
     let k = same_bytes xs ys r.1 in
     rw (h, k) refl
 
-none_begins : (p : ℕ → Bool) (bs : List ℕ) → begins p bs ≡ false → prefix_len p bs ≡ 0
+pub none_begins : (p : ℕ → Bool) (bs : List ℕ) → begins p bs ≡ false → prefix_len p bs ≡ 0
 none_begins p [] e = refl
 none_begins p (b ∷ bs) e = rw e refl
 
@@ -70,7 +70,7 @@ not_true false e = refl
 word_front : (rest : List ℕ) → begins is_word_byte rest ≡ false → front false (codes "object" ++ rest) ≡ Written kinds.Word 6
 word_front rest e = let n = none_begins is_word_byte rest e in rw n refl
 
-word_here : (bs : List ℕ) → begins_object bs ≡ true → (take 6 bs ≡ codes "object") × (front false bs ≡ Written kinds.Word 6)
+pub word_here : (bs : List ℕ) → begins_object bs ≡ true → (take 6 bs ≡ codes "object") × (front false bs ≡ Written kinds.Word 6)
 word_here bs e =
     let r = and_both (pointwise ◌==◌ (codes "object") (take 6 bs)) (not (begins is_word_byte (drop 6 bs))) e in
     let is : take 6 bs ≡ codes "object" = sym (same_bytes (codes "object") (take 6 bs) r.0) in

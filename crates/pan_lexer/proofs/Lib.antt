@@ -15,6 +15,7 @@ pub mod Files
 pub mod FaultCodes
 pub mod FirstToken
 pub mod FirstWord
+pub mod FirstWords
 pub mod Found
 pub mod BothWays
 pub mod OneKind

@@ -1,10 +1,18 @@
--- Whether a file is an object template, by its first word.
-use Rattle.std.specs.Prelude.{ℕ, zero, suc, ◌+◌, Bool, false, not, ◌&&◌, ◌==◌, if◌then◌else◌, List, [], ◌∷◌, drop, codes}
+-- Whether a file is an object's, by its first word: as a relation in the words of `Spelled`, and as a function.
+use Rattle.std.specs.Prelude.{◌≡◌, ℕ, zero, suc, ◌+◌, Bool, false, not, ◌&&◌, ◌==◌, if◌then◌else◌, List, [], ◌∷◌, take, drop, codes}
 use Rattle.pan_ast.specs.Signs.{at_sign, number_sign}
 use Rattle.std.specs.List.{starts_with, prefix_len}
 use Rattle.pan_lexer.specs.Bytes.{is_word_byte, is_blank, is_in_comment, begins}
 use Rattle.pan_lexer.specs.Fronts.{annotation}
+use Rattle.pan_ast.specs.declared.token.TokenKind.TheVariants as kinds
+use Rattle.pan_lexer.specs.Spelled.{IsFront}
+use Rattle.pan_lexer.specs.declared.parts.SkipKind.{SkipKind}
 use Rattle.pan_lexer.specs.Parts.{Front, Skip, Written, Int, Text, Document, Bad}
+
+-- behind the blanks, comments and annotations at the front stands the word `object`
+pub data BeginsWithObject : List ℕ → Type 0 where
+  object_here : {bs : List ℕ} {n : ℕ} → IsFront false bs (Written kinds.Word n) → take n bs ≡ codes "object" → BeginsWithObject bs
+  behind_skipped : {bs : List ℕ} {kind : SkipKind} {n : ℕ} → IsFront false bs (Skip kind n) → BeginsWithObject (drop n bs) → BeginsWithObject bs
 
 -- the bytes `object`, not followed by a letter, digit or _
 abbrev pub begins_object : List ℕ → Bool

@@ -187,7 +187,7 @@ chains::unary-returns-in_err-node-2-clause-read t c = λ n h.
     let op = c.in-Some-unary_of.operator in
     let e : unary_of (sort first) ≡ Some op = search rules in
     rw (p.1, p.2) (fails_along c.in_err-node-2.field-0.0 _ _
-    (sign_turns c.args.tokens.now first c.in-Some.rest.now n op c.in-Some.ensures e (below (node_holders n) c.args.depth h c.requires c.if-depth-eq100.false))
+    (sign_turns c.args.tokens.now first c.in-Some.rest.now n op c.in-Some.ensures e (below (node_holders n) c.args.depth h c.requires c.if-depth-eq-MAX_NESTING.false))
     (c.in_err-node-2.ensures.read (Signed op first.place n) (one_more (node_holders n) c.args.depth h)))
 
 pub chains::unary-returns-clause-read : goal.chains::unary-returns-clause-read
@@ -197,7 +197,7 @@ chains::unary-returns-clause-read t c = λ n h.
     let r = c.in_ok-node-2 in
     let e : unary_of (sort first) ≡ Some op = search rules in
     let made : node_seen c.in_ok-make_unary.field-0 ≡ nodes.Unary first.place op (node_seen r.node) = search rules in
-    sign_turns c.args.tokens.now first c.in-Some.rest.now n op c.in-Some.ensures e (below (node_holders n) c.args.depth h c.requires c.if-depth-eq100.false)
+    sign_turns c.args.tokens.now first c.in-Some.rest.now n op c.in-Some.ensures e (below (node_holders n) c.args.depth h c.requires c.if-depth-eq-MAX_NESTING.false)
     ∙ r.ensures.read (Signed op first.place n) (one_more (node_holders n) c.args.depth h)
     ∙ signed_done r.rest.now op first.place (node_seen r.node) n
     ∙ ap (λ v. run r.rest.now (HasNode v n)) (sym made)
@@ -482,7 +482,7 @@ items::item-returns-in_err-node-in_default-sort t c =
     let other : NotQuoted (sort first) = (λ k. c.in_default-sort.not-OpenBrace (c.sort.ensures ∙ k), λ k. c.in_default-sort.not-If (c.sort.ensures ∙ k), λ k. c.in_default-sort.not-While (c.sort.ensures ∙ k), λ k. c.in_default-sort.not-For (c.sort.ensures ∙ k), λ k. c.in_default-sort.not-Foreach (c.sort.ensures ∙ k)) in
     let e : is_plain (sort first) ≡ false = search rules in
     record {
-      read = λ s h. rw (p.1, p.2) (fails_along c.in_err-node-in_default-sort.field-0.0 _ _ (chain_turns ts first c.in-Some.rest.now s c.in-Some.ensures other e (below (holders s) c.args.depth h c.requires c.if-depth-eq100.false)) (c.in_err-node-in_default-sort.ensures.read (down 9 (Chained s)) (one_more (holders s) c.args.depth h)));
+      read = λ s h. rw (p.1, p.2) (fails_along c.in_err-node-in_default-sort.field-0.0 _ _ (chain_turns ts first c.in-Some.rest.now s c.in-Some.ensures other e (below (holders s) c.args.depth h c.requires c.if-depth-eq-MAX_NESTING.false)) (c.in_err-node-in_default-sort.ensures.read (down 9 (Chained s)) (one_more (holders s) c.args.depth h)));
       shorter = rw p.1 tt;
       pointers = rw p.1 tt;
     }
@@ -495,7 +495,7 @@ items::item-returns-in_ok-node-in_default-sort t c =
     let e : is_plain (sort first) ≡ false = search rules in
     let r = c.in_ok-node-in_default-sort in
     record {
-      read = λ s h. goes_along c.chain_item.result _ _ _ (chain_turns ts first c.in-Some.rest.now s c.in-Some.ensures other e (below (holders s) c.args.depth h c.requires c.if-depth-eq100.false) ∙ r.ensures.read (down 9 (Chained s)) (one_more (holders s) c.args.depth h)) (c.chain_item.ensures.read s (one_more (holders s) c.args.depth h));
+      read = λ s h. goes_along c.chain_item.result _ _ _ (chain_turns ts first c.in-Some.rest.now s c.in-Some.ensures other e (below (holders s) c.args.depth h c.requires c.if-depth-eq-MAX_NESTING.false) ∙ r.ensures.read (down 9 (Chained s)) (one_more (holders s) c.args.depth h)) (c.chain_item.ensures.read s (one_more (holders s) c.args.depth h));
       shorter = search rules;
       pointers = search rules;
     }
