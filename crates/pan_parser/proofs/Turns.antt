@@ -84,6 +84,9 @@ pub last_argument : (ts : Tokens) (f : Token) (is new : List Item) (i : Item) (n
 last_argument [] f is new i n h pushed = refl
 last_argument (t ∷ ts) f is new i n h pushed = rw (h, pushed) refl
 
+pub more_arguments : (ts on : Tokens) (f : Token) (is new : List Item) (i : Item) (n : NodeStack zero) → IsAt sorts.Comma ts on → new ≡ is ++ i ∷ [] → run ts (HasItem i (InCall f is n)) ≡ run on (NeedItem (InCall f new n))
+more_arguments ts on f is new i n h pushed = let c = h.1 in let e = h.2 in rw (c, e, pushed) refl
+
 pub index_turns : (ts on : Tokens) (x : Node) (n : NodeStack zero) → IsAt sorts.OpenBracket ts on → run ts (HasPrimary x n) ≡ run on (NeedItem (InIndex x n))
 index_turns ts on x n h = let c = h.1 in let e = h.2 in rw (c, e) refl
 

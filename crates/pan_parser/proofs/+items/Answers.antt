@@ -11,7 +11,7 @@ use Rattle.pan_grammar.specs.Machine.{for_read, if_read, run, while_read}
 use Rattle.pan_grammar.specs.States.{AtClose, AtSemicolon, Braces, Chained, Closes, Further, HasItem, HasNode, HasPrimary, HasReference, InBlock, InCall, InIndex, InParens, InParts, InReference, Last, MayElse, NeedItem, Parens, Signed, Takes, down, for_parts, foreach_parts, if_parts, right_side, while_parts}
 use Rattle.pan_parser.specs.Answers.{indexed, op_seen}
 use Rattle.pan_grammar.proofs.Firsts.{NotQuoted}
-use Rattle.pan_parser.proofs.Turns.{assign_turns, at_operand, at_zero, below, block_goes_on, chain_end, chain_fails, chain_init, chain_next, chain_turns, chained, down_holders, else_turns, fails_along, first_fails, goes_along, in_block, index_turns, item_call, last_argument, last_done, last_of_block, line_above, no_else, one_more, parens_turn, pushed_seen, reference_index, reference_pushed, sign_turns, signed_done}
+use Rattle.pan_parser.proofs.Turns.{assign_turns, at_operand, at_zero, below, block_goes_on, chain_end, chain_fails, chain_init, chain_next, chain_turns, chained, down_holders, else_turns, fails_along, first_fails, goes_along, in_block, index_turns, item_call, last_argument, last_done, last_of_block, line_above, more_arguments, no_else, one_more, parens_turn, pushed_seen, reference_index, reference_pushed, sign_turns, signed_done}
 use Rattle.pan_ast.proofs.Pointers.{items_push}
 use Rattle.pan_parser.proofs.+items.Goals as goal
 
@@ -523,3 +523,28 @@ items::word_item-returns-clause-read t c = λ s h.
     (item_call c.args.tokens.now c.in-Some.after.now w s c.in-Some.ensures ∙ m.ensures.read (down 9 (Chained s)) h
     ∙ ap (λ v. run m.rest.now (HasPrimary v (down 9 (Chained s)))) (sym made) ∙ r.ensures.read (down 9 (Chained s)) h)
     (c.chain_item.ensures.read s h)
+
+pub chains::arguments-returns-in_default-next_is-clause-pointers : goal.chains::arguments-returns-in_default-next_is-clause-pointers
+chains::arguments-returns-in_default-next_is-clause-pointers t c =
+    omega (arith, c.in_ok-next.ensures.pointers, items_push _ _ _ c.in_ok-push.ensures.items, c.loop-items.invariant.2)
+
+pub chains::arguments-loop-items-preserved : goal.chains::arguments-loop-items-preserved
+chains::arguments-loop-items-preserved t c =
+    let l = c.loop-items in
+    let w = c.args.word.now in
+    let is = map item_seen l.items.items in
+    let i = item_seen c.in_ok-next.next in
+    let new = map item_seen c.push.new.self.items in (
+      λ n h. l.invariant.0 n h
+          ∙ c.in_ok-next.ensures.read (InCall w is n) h
+          ∙ more_arguments c.in_ok-next.more.now c.in-Some-next_is.after.now w is new i n c.in-Some-next_is.ensures (pushed_seen _ _ _ c.in_ok-push.ensures.items),
+      omega (arith, ap length c.in-Some-next_is.ensures.1, c.in_ok-next.ensures.shorter, l.invariant.1),
+      omega (arith, c.in_ok-next.ensures.pointers, items_push _ _ _ c.in_ok-push.ensures.items, l.invariant.2),
+    )
+
+pub items::block_items-returns-in_default-next_is-clause-pointers : goal.items::block_items-returns-in_default-next_is-clause-pointers
+items::block_items-returns-in_default-next_is-clause-pointers t c =
+    omega (arith, c.in_ok-next.ensures.pointers, items_push _ _ _ c.in_ok-push.ensures.items, c.loop-after.invariant.2)
+
+pub items::item-returns-then-is_plain : goal.items::item-returns-then-is_plain
+items::item-returns-then-is_plain t c = record { read = search rules; shorter = search rules; pointers = search rules }

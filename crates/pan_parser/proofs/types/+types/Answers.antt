@@ -62,18 +62,18 @@ head-returns-in_err-rest-in-Extensible-clause-read t c = λ s h.
     let p = err_from_is_err_and c.from_residual-in_err-rest-in-Extensible.result c.from_residual-in_err-rest-in-Extensible.ensures.1 in
     let first = c.in-Some.first.now in
     let x : sort first ≡ sorts.Extensible = sym c.sort.ensures ∙ c.in-Extensible.is in
-    rw (p.1, p.2) (fails_along c.in_err-rest-in-Extensible.field-0.0 _ _ (extensible_turns c.args.tokens.now c.in-Some.rest.now first s c.in-Some.ensures x (below_twice (full_holders s) c.args.depth h c.requires c.if-depth-eq99-2.false)) (c.in_err-rest-in-Extensible.ensures.read (extensible_read s) (λ o. FieldsOpen true [] s) (refl, λ t. refl, λ t. refl)))
+    rw (p.1, p.2) (fails_along c.in_err-rest-in-Extensible.field-0.0 _ _ (extensible_turns c.args.tokens.now c.in-Some.rest.now first s c.in-Some.ensures x (below_twice (full_holders s) c.args.depth h c.requires c.if-depth-eq-MAX_NESTING-2.false)) (c.in_err-rest-in-Extensible.ensures.read (extensible_read s) (λ o. FieldsOpen true [] s) (refl, λ t. refl, λ t. refl)))
 
 pub head-returns-in_err-fields-in-Extensible-clause-read : goal.head-returns-in_err-fields-in-Extensible-clause-read
 head-returns-in_err-fields-in-Extensible-clause-read t c = λ s h.
     let p = err_from_is_err_and c.from_residual-in_err-fields-in-Extensible.result c.from_residual-in_err-fields-in-Extensible.ensures.1 in
     let first = c.in-Some.first.now in
     let x : sort first ≡ sorts.Extensible = sym c.sort.ensures ∙ c.in-Extensible.is in
-    rw (p.1, p.2) (fails_along c.in_err-fields-in-Extensible.field-0.0 _ _ (extensible_turns c.args.tokens.now c.in-Some.rest.now first s c.in-Some.ensures x (below_twice (full_holders s) c.args.depth h c.requires c.if-depth-eq99-2.false) ∙ c.in_ok-rest-in-Extensible.ensures.read (extensible_read s) (λ o. FieldsOpen true [] s) (refl, λ t. refl, λ t. refl)) (c.in_err-fields-in-Extensible.ensures.read true s (two_more (full_holders s) c.args.depth h)))
+    rw (p.1, p.2) (fails_along c.in_err-fields-in-Extensible.field-0.0 _ _ (extensible_turns c.args.tokens.now c.in-Some.rest.now first s c.in-Some.ensures x (below_twice (full_holders s) c.args.depth h c.requires c.if-depth-eq-MAX_NESTING-2.false) ∙ c.in_ok-rest-in-Extensible.ensures.read (extensible_read s) (λ o. FieldsOpen true [] s) (refl, λ t. refl, λ t. refl)) (c.in_err-fields-in-Extensible.ensures.read true s (two_more (full_holders s) c.args.depth h)))
 
 pub head-returns-in_ok-fields-in-Extensible-clause-read : goal.head-returns-in_ok-fields-in-Extensible-clause-read
 head-returns-in_ok-fields-in-Extensible-clause-read t c = λ s h.
     let first = c.in-Some.first.now in
     let x : sort first ≡ sorts.Extensible = sym c.sort.ensures ∙ c.in-Extensible.is in
     let r = c.in_ok-fields-in-Extensible in
-    extensible_turns c.args.tokens.now c.in-Some.rest.now first s c.in-Some.ensures x (below_twice (full_holders s) c.args.depth h c.requires c.if-depth-eq99-2.false) ∙ c.in_ok-rest-in-Extensible.ensures.read (extensible_read s) (λ o. FieldsOpen true [] s) (refl, λ t. refl, λ t. refl) ∙ r.ensures.read true s (two_more (full_holders s) c.args.depth h) ∙ ap (λ v. run r.rest.now (HasHead v [] s)) (sym c.make_record-in-Extensible.ensures.seen)
+    extensible_turns c.args.tokens.now c.in-Some.rest.now first s c.in-Some.ensures x (below_twice (full_holders s) c.args.depth h c.requires c.if-depth-eq-MAX_NESTING-2.false) ∙ c.in_ok-rest-in-Extensible.ensures.read (extensible_read s) (λ o. FieldsOpen true [] s) (refl, λ t. refl, λ t. refl) ∙ r.ensures.read true s (two_more (full_holders s) c.args.depth h) ∙ ap (λ v. run r.rest.now (HasHead v [] s)) (sym c.make_record-in-Extensible.ensures.seen)
