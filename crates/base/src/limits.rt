@@ -21,13 +21,9 @@ pub const MAX_PATH_BYTES: usize = 4096;
 pub const MAX_NESTING: usize = 100;
 /// Characters of a fault's detail that are kept.
 pub const MAX_DETAIL_CHARACTERS: usize = 200;
-/// Steps of work of one part of an object, its build or its check.
-pub const MAX_WORK: u64 = 2_000_000;
 /// Names of files in one scan.
 pub const MAX_SCAN_FILES: usize = 50_000;
 /// Bytes that one scan reads.
 pub const MAX_SCAN_BYTES: usize = 268_435_456;
 /// Objects of one picture.
 pub const MAX_OBJECTS: usize = 10_000;
-/// The numbers that an engine draws end below this one.
-pub const END_OF_NUMBERS: u64 = 4_611_686_018_427_387_904;

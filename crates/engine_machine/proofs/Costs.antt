@@ -1,6 +1,6 @@
 -- The work of a lawful runner's runs is a cost of the machine, and its runs end soon.
 use Rattle.std.proofs.Common.{◌≡◌, ◌+◌, ◌≤◌, ◌<◌, ℕ, List, [], ◌∷◌, Bool, true, Ok, Err, length, refl, arith}
-use Rattle.base.specs.declared.limits.TheConstants.{MAX_WORK}
+use Rattle.asking.specs.declared.limits.TheConstants.{MAX_WORK}
 use Rattle.load_path.specs.declared.picture.PictureFile.{PictureFile}
 use Rattle.asking.specs.Asked.{Answer, Ends, Asks, AreAsked}
 use Rattle.questions.specs.declared.key.Key.{Key}

@@ -1,4 +1,5 @@
 pub mod Turns
 pub mod TypeTurns
 pub mod StatementTurns
+pub mod Pushes
 pub mod Whole

@@ -4,6 +4,7 @@ use Rattle.base.specs.declared.limits.TheConstants.{MAX_NESTING}
 use Rattle.std.proofs.lemmas.Bool.{eqb-true}
 use Rattle.std.proofs.lemmas.List.{map_push}
 use Rattle.path_tree.specs.declared.operators.UnaryOp.{UnaryOp}
+use Rattle.pan_ast.specs.declared.sort.Sort.{Sort}
 use Rattle.pan_ast.specs.declared.sort.Sort.TheVariants as sorts
 use Rattle.pan_ast.specs.declared.token.Token.{Token}
 use Rattle.pan_ast.specs.declared.place.Place.{Place}
@@ -15,7 +16,7 @@ use Rattle.pan_ast.specs.Syntax as nodes
 use Rattle.pan_ast.specs.Templates.{Template}
 use Rattle.pan_grammar.specs.Depths.{holders, item_opens, node_holders, signed, unary_opens}
 use Rattle.pan_grammar.specs.Grammar.{Operator, Tokens, block, called, index, joined, level, literal, name, plain, reference, unary_of}
-use Rattle.pan_grammar.specs.Machine.{Stop, item_at, over, run, unary_at}
+use Rattle.pan_grammar.specs.Machine.{Stop, item_at, over, run, unary_at, when_that}
 use Rattle.pan_grammar.specs.States.{BlockOpen, Braces, CallOpen, Chained, Closes, First, HasItem, HasNode, HasPrimary, HasReference, InBlock, InCall, InIndex, InParens, InParts, InReference, ItemStack, ItemWord, Last, MayElse, NeedItem, NeedUnary, NodeStack, Operand, Parens, Signed, State, Takes, down, right_side}
 use Rattle.pan_grammar.proofs.Firsts.{NotQuoted, item_bare, item_else, unary_sign}
 use Rattle.pan_grammar.proofs.Follow.{literal_bare, op_none}
@@ -64,6 +65,19 @@ chain_turns ts first on s cut q e low =
     let same : item_at first s ≡ unary_at first (down 9 (Chained s)) = item_else first s q ∙ passed (is_plain (sort first)) _ _ e in
     let alike : over (item_opens (holders s) (sort first)) ≡ over (unary_opens (suc (holders s)) (sort first)) = over_alike (holders s) (signed (sort first)) low in
     rw (cut, same, alike) refl
+
+plain_signless : (x : Sort) → is_plain x ≡ true → unary_of x ≡ None
+plain_signless sorts.Plus e = cc
+plain_signless sorts.Minus e = cc
+plain_signless sorts.Not e = cc
+plain_signless sorts.Flip e = cc
+plain_signless _ e = refl
+
+pub word_turns : (ts : Tokens) (first : Token) (on : Tokens) (s : ItemStack) → ts ≡ first ∷ on → NotQuoted (sort first) → is_plain (sort first) ≡ true → over (suc (holders s)) ≡ false → run ts (NeedItem s) ≡ run on (ItemWord first s)
+word_turns ts first on s cut q e low =
+    let same : item_at first s ≡ Some (ItemWord first s) = item_else first s q ∙ ap (λ b. when_that b (ItemWord first s) (unary_at first (down 9 (Chained s)))) e in
+    let bare : unary_of (sort first) ≡ None = plain_signless (sort first) e in
+    rw (cut, same, bare, low) refl
 
 -- ---- operands
 

@@ -1,6 +1,6 @@
 -- Runs that are told lists of pairs or words, and what is said of them.
 use Rattle.std.specs.Prelude.{◌≡◌, ℕ, ◌+◌, ◌-◌, ◌≤◌, List, [], ◌∷◌, ◌++◌, Option, Some, None, Bool, true, false, map, length}
-use Rattle.base.specs.declared.limits.TheConstants.{MAX_WORK}
+use Rattle.asking.specs.declared.limits.TheConstants.{MAX_WORK}
 use Rattle.path_tree.specs.Plain.{Plain}
 use Rattle.questions.specs.declared.key.Key.{Key}
 use Rattle.pan_ast.specs.declared.fault.Fault.{Fault}

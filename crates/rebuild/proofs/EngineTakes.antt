@@ -2,7 +2,8 @@
 use Rattle.std.proofs.Common.{◌≡◌, ◌≤◌, length, ℕ, List, [], ◌∷◌, true, Result, Ok, Err, OnOk, OnErr, refl, sym, ap, ◌∙◌, subst}
 use Rattle.std.proofs.Math.Logic.{∥∥₁_map}
 use Rattle.std.proofs.lemmas.List.{length-map}
-use Rattle.base.specs.declared.limits.TheConstants.{END_OF_NUMBERS, MAX_OBJECTS}
+use Rattle.asking.specs.declared.limits.TheConstants.{END_OF_NUMBERS}
+use Rattle.base.specs.declared.limits.TheConstants.{MAX_OBJECTS}
 use Rattle.object_names.specs.Objects.{AreObjects}
 use Rattle.load_path.specs.declared.picture.PictureFile.{PictureFile}
 use Rattle.pan_ast.specs.declared.work.Limits.{Limits}

@@ -3,7 +3,8 @@ use Rattle.std.proofs.Common.{◌≡◌, ◌≤◌, length, ℕ, List, true, Res
 use Rattle.std.proofs.Math.Logic.{∥∥₁_map}
 use Rattle.std.proofs.lemmas.Bool.{le-leb, leb-true}
 use Rattle.std.proofs.lemmas.List.{length-map}
-use Rattle.base.specs.declared.limits.TheConstants.{END_OF_NUMBERS, MAX_OBJECTS}
+use Rattle.asking.specs.declared.limits.TheConstants.{END_OF_NUMBERS}
+use Rattle.base.specs.declared.limits.TheConstants.{MAX_OBJECTS}
 use Rattle.pan_ast.specs.declared.work.Limits.{Limits}
 use Rattle.engine_laws.specs.Engine.{Turn}
 use Rattle.engine_laws.specs.Reached.{IsReached}

@@ -1,6 +1,6 @@
 -- The engine's data stays ready.
 use Rattle.std.proofs.Common.{◌≡◌, ◌≤◌, ◌<◌, ◌&&◌, ◌+◌, ℕ, zero, suc, List, [], ◌∷◌, Bool, true, false, cond, Option, Some, None, Ok, Err, nat_le, length, get_or, slice_set, nat_eq, refl, sym, ap, ◌∙◌, subst, arith}
-use Rattle.base.specs.declared.limits.TheConstants.{END_OF_NUMBERS}
+use Rattle.asking.specs.declared.limits.TheConstants.{END_OF_NUMBERS}
 use Rattle.foreign_values.specs.declared.Part.{Part}
 use Rattle.foreign_values.specs.declared.Part.TheVariants as part
 use Rattle.foreign_values.specs.Chains.{below}

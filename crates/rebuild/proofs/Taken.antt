@@ -1,6 +1,6 @@
 -- The rows after a Take are the machine's state after it.
 use Rattle.std.proofs.Common.{◌≡◌, ◌≤◌, ◌||◌, ℕ, List, [], ◌∷◌, Bool, true, false, cond, Option, Some, None, refl, ap, ◌∙◌, arith}
-use Rattle.base.specs.declared.limits.TheConstants.{END_OF_NUMBERS}
+use Rattle.asking.specs.declared.limits.TheConstants.{END_OF_NUMBERS}
 use Rattle.foreign_values.specs.declared.Part.{Part}
 use Rattle.engine_laws.specs.Names.{Name, equal}
 use Rattle.engine_laws.proofs.Names.{equal-true}

@@ -1,6 +1,6 @@
 -- An engine as contracts see it, and what its calls make of it.
 use Rattle.std.specs.Prelude.{ℕ, List, [], Bool, ◌&&◌, nat_le}
-use Rattle.base.specs.declared.limits.TheConstants.{END_OF_NUMBERS}
+use Rattle.asking.specs.declared.limits.TheConstants.{END_OF_NUMBERS}
 use Rattle.load_path.specs.declared.picture.PictureFile.{PictureFile}
 use Rattle.pan_ast.specs.declared.work.Limits.{Limits}
 use Rattle.questions.specs.declared.key.Key.{Key}

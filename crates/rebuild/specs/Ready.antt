@@ -1,6 +1,6 @@
 -- What the engine's data keeps from turn to turn.
 use Rattle.std.specs.Prelude.{◌≡◌, ◌≤◌, ◌<◌, length, ℕ, List, [], ◌∷◌, Bool, true, false, not, ◌&&◌, Some}
-use Rattle.base.specs.declared.limits.TheConstants.{END_OF_NUMBERS}
+use Rattle.asking.specs.declared.limits.TheConstants.{END_OF_NUMBERS}
 use Rattle.foreign_values.specs.declared.Part.{Part}
 use Rattle.foreign_values.specs.declared.Part.TheVariants as part
 use Rattle.questions.specs.declared.key.Key.{Key}

@@ -1,6 +1,7 @@
 -- Why a take is refused.
 use Rattle.std.specs.Prelude.{ℕ, ◌<◌, List, length}
-use Rattle.base.specs.declared.limits.TheConstants.{END_OF_NUMBERS, MAX_OBJECTS}
+use Rattle.asking.specs.declared.limits.TheConstants.{END_OF_NUMBERS}
+use Rattle.base.specs.declared.limits.TheConstants.{MAX_OBJECTS}
 use Rattle.load_path.specs.declared.picture.PictureFile.{PictureFile}
 use Rattle.object_names.specs.Objects.{AreObjects}
 use Rattle.rebuild.specs.declared.rows.FileRow.{FileRow}

@@ -1,6 +1,7 @@
 -- Rows that take what was kept of their objects.
 use Rattle.std.specs.Prelude.{◌≡◌, ◌≤◌, length, ℕ, zero, suc, List, [], ◌∷◌, true, false, Option, Some, None, map, get_or, slice_set}
-use Rattle.base.specs.declared.limits.TheConstants.{END_OF_NUMBERS, MAX_OBJECTS}
+use Rattle.asking.specs.declared.limits.TheConstants.{END_OF_NUMBERS}
+use Rattle.base.specs.declared.limits.TheConstants.{MAX_OBJECTS}
 use Rattle.object_names.specs.Objects.{AreObjects}
 use Rattle.engine_laws.specs.Names.{Name, equal}
 use Rattle.rebuild.specs.declared.rows.Row.{Row}

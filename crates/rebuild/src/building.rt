@@ -1,6 +1,6 @@
 //! The cases of a turn with a build part on top.
 
-ghost use Rattle.base.specs.declared.limits.TheConstants.{END_OF_NUMBERS};
+ghost use Rattle.asking.specs.declared.limits.TheConstants.{END_OF_NUMBERS};
 ghost use Rattle.std.specs.Prelude.{◌≡◌, ◌≤◌, ◌<◌, IfOk, OnOk, OnErr, Err, Ok, Some, true, false, length};
 ghost use Rattle.read_sets.specs.Items.{pairs_of};
 ghost use Rattle.foreign_values.specs.Chains.{below};
@@ -18,8 +18,8 @@ use crate::comparing::{Found, compare_build};
 use crate::core_data::Core;
 use crate::rows::Row;
 use crate::turned::TurnError;
+use asking::limits::END_OF_NUMBERS;
 use base::Steps;
-use base::limits::END_OF_NUMBERS;
 use foreign_values::Part;
 use pan_ast::{Code, Fault};
 use path_tree::{Name, Tree};

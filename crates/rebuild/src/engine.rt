@@ -1,7 +1,8 @@
 //! The engine.
 
 ghost use Rattle.std.specs.Prelude.{◌≡◌, ◌≤◌, ◌+◌, ◌-◌, true, IfOk, IfErr, OnOk, OnErr, length};
-ghost use Rattle.base.specs.declared.limits.TheConstants.{END_OF_NUMBERS, MAX_OBJECTS};
+ghost use Rattle.asking.specs.declared.limits.TheConstants.{END_OF_NUMBERS};
+ghost use Rattle.base.specs.declared.limits.TheConstants.{MAX_OBJECTS};
 ghost use Rattle.rebuild.specs.Engines.{is_ready, IsEngine, value_of};
 
 use crate::answers::{

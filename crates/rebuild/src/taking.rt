@@ -1,13 +1,13 @@
 //! The numbers of files at a Take.
 
 ghost use Rattle.std.specs.Prelude.{◌≡◌, ◌≤◌, ◌+◌, IfOk, IfErr, OnOk, OnErr, option_copied, length};
-ghost use Rattle.base.specs.declared.limits.TheConstants.{END_OF_NUMBERS};
+ghost use Rattle.asking.specs.declared.limits.TheConstants.{END_OF_NUMBERS};
 ghost use Rattle.rebuild.specs.Taking.{same_content, file_in, old_or_none, number_or, counter_or, with_number, numbered, counter_after};
 ghost use Rattle.rebuild.specs.Refused.{IsSpent};
 ghost use Rattle.rebuild.specs.declared.taking.TakeError.TheVariants.{Memory};
 
 use crate::rows::FileRow;
-use base::limits::END_OF_NUMBERS;
+use asking::limits::END_OF_NUMBERS;
 use base::{Bytes, Steps};
 use load_path::{Content, PictureFile};
 use std::alloc::{AllocError, AllocFailed, Global};

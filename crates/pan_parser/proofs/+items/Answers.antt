@@ -11,7 +11,7 @@ use Rattle.pan_grammar.specs.Machine.{for_read, if_read, run, while_read}
 use Rattle.pan_grammar.specs.States.{AtClose, AtSemicolon, Braces, Chained, Closes, Further, HasItem, HasNode, HasPrimary, HasReference, InBlock, InCall, InIndex, InParens, InParts, InReference, Last, MayElse, NeedItem, Parens, Signed, Takes, down, for_parts, foreach_parts, if_parts, right_side, while_parts}
 use Rattle.pan_parser.specs.Answers.{indexed, op_seen}
 use Rattle.pan_grammar.proofs.Firsts.{NotQuoted}
-use Rattle.pan_parser.proofs.Turns.{assign_turns, at_operand, at_zero, below, block_goes_on, chain_end, chain_fails, chain_init, chain_next, chain_turns, chained, down_holders, else_turns, fails_along, first_fails, goes_along, in_block, index_turns, item_call, last_argument, last_done, last_of_block, line_above, more_arguments, no_else, one_more, parens_turn, pushed_seen, reference_index, reference_pushed, sign_turns, signed_done}
+use Rattle.pan_parser.proofs.Turns.{assign_turns, at_operand, at_zero, below, block_goes_on, chain_end, chain_fails, chain_init, chain_next, chain_turns, chained, down_holders, else_turns, fails_along, first_fails, goes_along, in_block, index_turns, item_call, last_argument, last_done, last_of_block, line_above, more_arguments, no_else, one_more, parens_turn, pushed_seen, reference_index, reference_pushed, sign_turns, signed_done, word_turns}
 use Rattle.pan_ast.proofs.Pointers.{items_push}
 use Rattle.pan_parser.proofs.+items.Goals as goal
 
@@ -547,4 +547,13 @@ items::block_items-returns-in_default-next_is-clause-pointers t c =
     omega (arith, c.in_ok-next.ensures.pointers, items_push _ _ _ c.in_ok-push.ensures.items, c.loop-after.invariant.2)
 
 pub items::item-returns-then-is_plain : goal.items::item-returns-then-is_plain
-items::item-returns-then-is_plain t c = record { read = search rules; shorter = search rules; pointers = search rules }
+items::item-returns-then-is_plain t c =
+    let first = c.in-Some.first.now in
+    let ts = c.args.tokens.now in
+    let other : NotQuoted (sort first) = (λ k. c.in_default-sort.not-OpenBrace (c.sort.ensures ∙ k), λ k. c.in_default-sort.not-If (c.sort.ensures ∙ k), λ k. c.in_default-sort.not-While (c.sort.ensures ∙ k), λ k. c.in_default-sort.not-For (c.sort.ensures ∙ k), λ k. c.in_default-sort.not-Foreach (c.sort.ensures ∙ k)) in
+    let e : is_plain (sort first) ≡ true = search rules in
+    record {
+      read = λ s h. goes_along c.word_item.result _ _ _ (word_turns ts first c.in-Some.rest.now s c.in-Some.ensures other e (below (holders s) c.args.depth h c.requires c.if-depth-eq-MAX_NESTING.false)) (c.word_item.ensures.read s (one_more (holders s) c.args.depth h));
+      shorter = search rules;
+      pointers = search rules;
+    }

@@ -1,4 +1,6 @@
-use Rattle.std.proofs.Common.{◌∙◌, ◌++◌, [], ◌∷◌, ◌≡◌, rules, sym, refl, ap, true}
+use Rattle.std.proofs.Common.{◌∙◌, ◌++◌, [], ◌∷◌, ◌≡◌, map, arith, rules, sym, refl, ap, true}
+use Rattle.pan_ast.proofs.Pointers.{fields_push}
+use Rattle.pan_parser.proofs.Pushes.{fields_seen_push}
 use Rattle.std.proofs.lemmas.Result.{err_from_is_err_and}
 use Rattle.pan_ast.specs.declared.sort.Sort.TheVariants as sorts
 use Rattle.pan_ast.specs.Sorts.{at, sort}
@@ -77,3 +79,12 @@ head-returns-in_ok-fields-in-Extensible-clause-read t c = λ s h.
     let x : sort first ≡ sorts.Extensible = sym c.sort.ensures ∙ c.in-Extensible.is in
     let r = c.in_ok-fields-in-Extensible in
     extensible_turns c.args.tokens.now c.in-Some.rest.now first s c.in-Some.ensures x (below_twice (full_holders s) c.args.depth h c.requires c.if-depth-eq-MAX_NESTING-2.false) ∙ c.in_ok-rest-in-Extensible.ensures.read (extensible_read s) (λ o. FieldsOpen true [] s) (refl, λ t. refl, λ t. refl) ∙ r.ensures.read true s (two_more (full_holders s) c.args.depth h) ∙ ap (λ v. run r.rest.now (HasHead v [] s)) (sym c.make_record-in-Extensible.ensures.seen)
+
+pub fields-loop-after-preserved : goal.fields-loop-after-preserved
+fields-loop-after-preserved t c = (
+  λ e s h. c.loop-after.invariant.0 e s h
+      ∙ c.in_ok-next.ensures.read e (map field_seen c.loop-after.fields.items) s h
+      ∙ ap (λ fs. run c.in_ok-next.more.now (FieldsOpen e fs s)) (sym (fields_seen_push _ _ _ c.in_ok-push.ensures.items)),
+  omega (arith, c.in_ok-next.ensures.shorter, c.loop-after.invariant.1),
+  omega (arith, c.in_ok-next.ensures.pointers, fields_push _ _ _ c.in_ok-push.ensures.items, c.loop-after.invariant.2),
+)
