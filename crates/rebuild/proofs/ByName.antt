@@ -125,3 +125,7 @@ module _ {T : Type 0} {A : Type 0} (get : Row T → A) (d : A) (p : Name) (rows 
 -- the name of the row at the place of a name
 pub row_at : {T : Type 0} → (rows : List (Row T)) (i : ℕ) (r : Row T) {p : Name} → row_place p 0 rows ≡ Some i → r ≡ get_or rows i r → r.name ≡ p
 row_at rows i r {p} found is = let a = placed p rows i found in ap (λ z. z.name) is ∙ row_named p rows (get_or rows i r) (a.here r)
+
+pub names_length : {T : Type 0} → (rows : List (Row T)) → length (names rows) ≡ length rows
+names_length [] = refl
+names_length (r ∷ rows) = ap suc (names_length rows)

@@ -33,7 +33,7 @@ use Rattle.rebuild.proofs.Comparisons.{telling, FoundAs, finds}
 use Rattle.rebuild.proofs.Judges.{here, named, cause_is, alone}
 use Rattle.questions.specs.Told.{more_than_asked}
 
-module _ {T : Type 0} (build : Builds T) (check : Checks T) (c : Core T) (at : ℕ) (ready : IsReady c) (top : IsCheckTop c at) (r : Row T) (is : r ≡ get_or c.rows.items at r) where
+module _ {T : Type 0} (build : Builds T) (check : Checks T) (c : Core T) where
   -- the state in which the check part runs
   abbrev begun : Why Key → EngineState T
   begun y = entered (runner_of build) keeping (judge_of check) (core_picture c) (popped c) (top_name c.chain) y
@@ -46,18 +46,6 @@ module _ {T : Type 0} (build : Builds T) (check : Checks T) (c : Core T) (at : �
 
   abbrev by_rerun : Why Key → Ran Key (End T) → EngineState T
   by_rerun y = after_rerun (runner_of build) keeping (judge_of check) (core_picture c) (begun y) (top_name c.chain)
-
-  held_here : column held_of None c.rows.items (top_name c.chain) ≡ option_map held_end r.held
-  held_here = here c at ready top r is held_of None
-
-  pub none_held : r.held ≡ None → column held_of None c.rows.items (top_name c.chain) ≡ None
-  none_held e = held_here ∙ ap (option_map held_end) e
-
-  -- a held value is checked
-  pub held_ends : (b : Built T) → r.held ≡ Some b → (x : Ran Key Verdict) → value_run build check c b ≡ x → (y : Why Key) → ended_turn c y x ≡ run_check_state build check c y
-  held_ends b e x run y =
-      sym (ap (by_held y) (held_here ∙ ap (option_map held_end) e)
-      ∙ ap (by_end y) run)
 
   -- a value that is built anew is checked
   rerun_is : column held_of None c.rows.items (top_name c.chain) ≡ None → (x : Ran Key (End T)) → top_run build c ≡ x → (y : Why Key) → run_check_state build check c y ≡ by_rerun y x
@@ -77,6 +65,19 @@ module _ {T : Type 0} (build : Builds T) (check : Checks T) (c : Core T) (at : �
 
   pub rerun_stops : column held_of None c.rows.items (top_name c.chain) ≡ None → (q : Name) → top_run build c ≡ Stops q → (y : Why Key) → judged_run_turn c y [] None ≡ run_check_state build check c y
   rerun_stops none q run y = sym (rerun_is none (Stops q) run y)
+
+module _ {T : Type 0} (build : Builds T) (check : Checks T) (c : Core T) (at : ℕ) (ready : IsReady c) (top : IsCheckTop c at) (r : Row T) (is : r ≡ get_or c.rows.items at r) where
+  held_here : column held_of None c.rows.items (top_name c.chain) ≡ option_map held_end r.held
+  held_here = here c at ready top r is held_of None
+
+  pub none_held : r.held ≡ None → column held_of None c.rows.items (top_name c.chain) ≡ None
+  none_held e = held_here ∙ ap (option_map held_end) e
+
+  -- a held value is checked
+  pub held_ends : (b : Built T) → r.held ≡ Some b → (x : Ran Key Verdict) → value_run build check c b ≡ x → (y : Why Key) → ended_turn c y x ≡ run_check_state build check c y
+  held_ends b e x run y =
+      sym (ap (by_held build check c y) (held_here ∙ ap (option_map held_end) e)
+      ∙ ap (by_end build check c y) run)
 
   abbrev by_record : Option (List (Key × ℕ) × Verdict) → EngineState T
   by_record = with_check (runner_of build) keeping (judge_of check) (core_picture c) (popped c) (top_name c.chain)

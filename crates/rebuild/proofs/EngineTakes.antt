@@ -1,7 +1,6 @@
 -- An engine after a take.
 use Rattle.std.proofs.Common.{◌≡◌, ◌≤◌, length, ℕ, List, [], ◌∷◌, true, Result, Ok, Err, OnOk, OnErr, refl, sym, ap, ◌∙◌, subst}
 use Rattle.std.proofs.Math.Logic.{∥∥₁_map}
-use Rattle.std.proofs.lemmas.List.{length-map}
 use Rattle.asking.specs.declared.limits.TheConstants.{END_OF_NUMBERS}
 use Rattle.base.specs.declared.limits.TheConstants.{MAX_OBJECTS}
 use Rattle.object_names.specs.Objects.{AreObjects}
@@ -19,7 +18,7 @@ use Rattle.engine_machine.proofs.RunnerLaws.{laws_of, keep_laws_of}
 use Rattle.rebuild.specs.declared.core_data.Core.{Core}
 use Rattle.rebuild.specs.declared.rows.FileRow.{FileRow}
 use Rattle.rebuild.specs.declared.taking.TakeError.{TakeError}
-use Rattle.rebuild.specs.Places.{name_of, names}
+use Rattle.rebuild.specs.Places.{names}
 use Rattle.rebuild.specs.States.{picture_of, pictured, number_in}
 use Rattle.rebuild.specs.Taking.{old_or_none, number_or, counter_or, numbered, counter_after}
 use Rattle.rebuild.specs.Renewing.{IsTaken, IsPictureTaken}
@@ -27,6 +26,7 @@ use Rattle.rebuild.specs.Ready.{core_picture, IsReady}
 use Rattle.rebuild.specs.Engines.{EngineSituation, Meanings, situation_of, objects_of, value_of, is_ready, IsEngine, take_of, after_take}
 use Rattle.rebuild.proofs.Engines.{ready_is, is_ready_of}
 use Rattle.rebuild.proofs.Takings.{are_numbered}
+use Rattle.rebuild.proofs.ByName.{names_length}
 
 -- the numbered files are the picture's
 pub pictured_numbered : (old : List FileRow) (counter : ℕ) (files : List PictureFile) → pictured (numbered old counter files) ≡ files
@@ -34,7 +34,7 @@ pictured_numbered old counter [] = refl
 pictured_numbered old counter (f ∷ fs) = ap (λ gs. f ∷ gs) (pictured_numbered old (counter_or counter (old_or_none old f.name f.content)) fs)
 
 module _ {T : Type 0} (m : Meanings T) (lawful : (dirs : List (List ℕ)) (limits : Limits) → IsLawful (m dirs limits)) where
-  take_situation : (files : List PictureFile) (objects : List Name) (c n : Core T) → IsTaken files objects c n → situation_of n ≡ after_take m (value_of c) files objects
+  pub take_situation : (files : List PictureFile) (objects : List Name) (c n : Core T) → IsTaken files objects c n → situation_of n ≡ after_take m (value_of c) files objects
   take_situation files objects c n t i = record { picture = (ap (λ f. picture_of f (names n.rows.items)) t.files_are ∙ ap (λ os. picture_of (numbered c.files.items c.counter files) os) t.objects_are ∙ ap (λ f. picture_in f objects) (pictured_numbered c.files.items c.counter files)) i; state = t.state i }
 
   engine_taken : (files : List PictureFile) (objects : List Name) (c n : Core T) → IsReady c → IsTaken files objects c n → IsEngine m (value_of c) → IsEngine m (value_of n)
@@ -42,8 +42,8 @@ module _ {T : Type 0} (m : Meanings T) (lawful : (dirs : List (List ℕ)) (limit
       let run = runner_of (m c.dirs c.limits).build in
       let jd = judge_of (m c.dirs c.limits).check in
       let h = reached_holds run keeping jd (situation_of c) e in
-      let given = are_numbered c.files.items (names c.rows.items) objects c.counter files ready.three (λ f. h.inv.facts.number_low (File f)) in
-      let numbers = subst (λ f. AreNumbered keeping (core_picture c) (picture_in f objects) (number_in c.files.items) (number_in (numbered c.files.items c.counter files)) c.counter (counter_after c.files.items c.counter files)) (pictured_numbered c.files.items c.counter files) given in
+      let given = are_numbered {T = T} c.files.items (names c.rows.items) objects c.counter files ready.three (λ f. h.inv.facts.number_low (File f)) in
+      let numbers = subst (λ f. AreNumbered (keeping {T = T}) (core_picture c) (picture_in f objects) (number_in c.files.items) (number_in (numbered c.files.items c.counter files)) c.counter (counter_after c.files.items c.counter files)) (pictured_numbered c.files.items c.counter files) given in
       let laws = laws_of (m c.dirs c.limits) (lawful c.dirs c.limits) files objects in
       let next = leads_on run keeping jd (situation_of c) e (take_of c.files.items c.counter files objects) (laws, keep_laws_of (m c.dirs c.limits).build files objects, numbers) in
       let P : Limits → List (List ℕ) → EngineSituation T → Type 0 = λ l d x. IsReached (runner_of (m d l).build) keeping (judge_of (m d l).check) x in
@@ -72,7 +72,7 @@ module _ {T : Type 0} (m : Meanings T) (lawful : (dirs : List (List ℕ)) (limit
     limits = t.taken.limits;
     state = take_situation files (objects_of n) c n t.taken;
     objects = t.objects;
-    few_objects = subst (λ k. k ≤ MAX_OBJECTS) (sym (length-map name_of n.rows.items)) t.few;
+    few_objects = subst (λ k. k ≤ MAX_OBJECTS) (sym (names_length n.rows.items)) t.few;
     files_are = ap pictured t.taken.files_are ∙ pictured_numbered c.files.items c.counter files;
   }
   take_facts files c n (Err e) t before ready low few kept = record {

@@ -2,7 +2,6 @@
 use Rattle.std.proofs.Common.{◌≡◌, ◌≤◌, length, ℕ, List, true, Result, Ok, Err, OnOk, OnErr, nat_le, sym, ap, ◌∙◌, subst}
 use Rattle.std.proofs.Math.Logic.{∥∥₁_map}
 use Rattle.std.proofs.lemmas.Bool.{le-leb, leb-true}
-use Rattle.std.proofs.lemmas.List.{length-map}
 use Rattle.asking.specs.declared.limits.TheConstants.{END_OF_NUMBERS}
 use Rattle.base.specs.declared.limits.TheConstants.{MAX_OBJECTS}
 use Rattle.pan_ast.specs.declared.work.Limits.{Limits}
@@ -14,12 +13,13 @@ use Rattle.engine_machine.proofs.Truths.{both}
 use Rattle.rebuild.specs.declared.core_data.Core.{Core}
 use Rattle.rebuild.specs.declared.turned.Turned.{Turned}
 use Rattle.rebuild.specs.declared.turned.TurnError.{TurnError}
-use Rattle.rebuild.specs.Places.{name_of, names}
+use Rattle.rebuild.specs.Places.{names}
 use Rattle.rebuild.specs.States.{picture_of, are_graded}
 use Rattle.rebuild.specs.Ready.{core_state, is_chain, are_once, IsReady, StaysReady}
 use Rattle.rebuild.specs.Turning.{turned}
 use Rattle.rebuild.specs.Engines.{EngineSituation, Meanings, situation_of, value_of, is_ready, IsEngine, after_turn, IsTrue}
 use Rattle.rebuild.proofs.Readies.{both_true}
+use Rattle.rebuild.proofs.ByName.{names_length}
 
 pub ready_is : {T : Type 0} → (c : Core T) → is_ready c ≡ true → IsReady c
 ready_is c e =
@@ -35,7 +35,7 @@ is_ready_of c r =
     (both_true (are_once (names c.rows.items)) _ r.once (both_true (are_graded c.rows.items) _ r.graded (both_true (is_chain c.chain) _ r.chain r.known)))
 
 pub same_count : {T : Type 0} → (c n : Core T) → names n.rows.items ≡ names c.rows.items → length n.rows.items ≡ length c.rows.items
-same_count c n e = sym (length-map name_of n.rows.items) ∙ ap length e ∙ length-map name_of c.rows.items
+same_count c n e = sym (names_length n.rows.items) ∙ ap length e ∙ names_length c.rows.items
 
 module _ {T : Type 0} (m : Meanings T) where
   pub turn_situation : (c n : Core T) (dirs : List (List ℕ)) → dirs ≡ c.dirs → core_state n ≡ turned (m dirs c.limits).build (m dirs c.limits).check c → StaysReady c n → situation_of n ≡ after_turn m (value_of c)
@@ -51,7 +51,7 @@ module _ {T : Type 0} (m : Meanings T) where
       subst (λ l. P l n.dirs (situation_of n)) (sym stays.limits) (subst (λ d. P c.limits d (situation_of n)) (sym stays.dirs) (subst (P c.limits c.dirs) (sym is) next))
 
   -- what holds of the engine after the turn, refused or not
-  pub record AfterTurn (c n : Core T) (r : Result Turned TurnError) : Type 0 where
+  pub record AfterTurn (c n : Core T) {A : Type 0} (r : Result A TurnError) : Type 0 where
     pub ready : is_ready n ≡ true
     pub low : n.counter ≤ END_OF_NUMBERS
     pub few : length n.rows.items ≤ MAX_OBJECTS
@@ -59,7 +59,7 @@ module _ {T : Type 0} (m : Meanings T) where
     pub state : OnOk r (situation_of n ≡ after_turn m (value_of c))
     pub before : OnErr r (value_of n ≡ value_of c)
 
-  pub turn_facts : (c n : Core T) (dirs : List (List ℕ)) → dirs ≡ c.dirs → (r : Result Turned TurnError) → OnOk r (core_state n ≡ turned (m dirs c.limits).build (m dirs c.limits).check c) → OnOk r (StaysReady c n) → OnErr r (n ≡ c) → is_ready c ≡ true → c.counter ≤ END_OF_NUMBERS → length c.rows.items ≤ MAX_OBJECTS → ∥ IsEngine m (value_of c) ∥₁ → AfterTurn c n r
+  pub turn_facts : {A : Type 0} → (c n : Core T) (dirs : List (List ℕ)) → dirs ≡ c.dirs → (r : Result A TurnError) → OnOk r (core_state n ≡ turned (m dirs c.limits).build (m dirs c.limits).check c) → OnOk r (StaysReady c n) → OnErr r (n ≡ c) → is_ready c ≡ true → c.counter ≤ END_OF_NUMBERS → length c.rows.items ≤ MAX_OBJECTS → ∥ IsEngine m (value_of c) ∥₁ → AfterTurn c n r
   turn_facts c n dirs same (Ok t) state stays before ready low few kept =
       let is = turn_situation c n dirs same state stays in
       record {

@@ -1,5 +1,5 @@
 -- A turn leaves one turn fewer, and the parts on the chain.
-use Rattle.std.proofs.Common.{◌≡◌, ◌+◌, ◌-◌, ◌||◌, ◌⊎◌, ℕ, List, [], ◌∷◌, Bool, true, false, not, length, refl, sym, ap, ◌∙◌, inl, inr, arith}
+use Rattle.std.proofs.Common.{◌≡◌, ◌+◌, ◌-◌, ◌||◌, ◌⊎◌, ℕ, suc, List, [], ◌∷◌, Bool, true, false, not, length, refl, sym, ap, ◌∙◌, inl, inr, arith}
 use Rattle.std.proofs.Math.Logic.{∥∥₁_elim}
 use Rattle.std.proofs.Math.Nat.{ℕ_set}
 use Rattle.pan_ast.specs.declared.work.Limits.{Limits}
@@ -25,11 +25,11 @@ use Rattle.rebuild.specs.Engines.{Meanings, situation_of, value_of, parts_of, tu
 in_among : (p : Name) (xs : List Name) → IsIn p xs → is_among p xs ≡ true
 in_among p [] i = absurd i
 in_among p (x ∷ xs) (inl same) = ap (λ b. b || is_among p xs) (equal-is x p same)
-in_among p (x ∷ xs) (inr later) = at (equal x p)
+in_among p (x ∷ xs) (inr later) = at (equal x p) (in_among p xs later)
   where
-    at : (b : Bool) → b || is_among p xs ≡ true
-    at true = refl
-    at false = in_among p xs later
+    at : (b : Bool) → is_among p xs ≡ true → b || is_among p xs ≡ true
+    at true e = refl
+    at false e = e
 
 not_true : (b : Bool) → not b ≡ true → b ≡ false
 not_true true e = absurd (let clash : false ≡ true = e in cc)
@@ -43,7 +43,7 @@ once_is (x ∷ xs) once =
 
 builds_count : (ps : List Part) → are_builds ps ≡ true → length ps ≡ length (chain_of ps)
 builds_count [] e = refl
-builds_count (part.Build p ∷ ps) e = ap (λ n. 1 + n) (builds_count ps e)
+builds_count (part.Build p ∷ ps) e = ap suc (builds_count ps e)
 builds_count (part.Check p ∷ ps) e = absurd (let clash : false ≡ true = e in cc)
 
 pub parts_count : (ps : List Part) → is_chain ps ≡ true → length ps ≡ length (chain_of ps) + if_checking (checking_of ps)

@@ -16,6 +16,3 @@ pub mod New
 pub mod Objects
 pub mod Answering
 pub mod Fewer
-pub mod Forgotten
-pub mod Spent
-pub mod Works

@@ -1,7 +1,6 @@
 -- The objects that a take finds.
 use Rattle.std.proofs.Common.{◌≡◌, ◌≤◌, ◌||◌, ◌&&◌, ℕ, List, [], ◌∷◌, Bool, true, false, not, length, Result, Ok, Err, OnOk, refl, sym, ap, ◌∙◌, subst}
 use Rattle.std.specs.Prelude.{bytes_eq}
-use Rattle.std.proofs.lemmas.List.{length-map}
 use Rattle.base.specs.declared.limits.TheConstants.{MAX_OBJECTS}
 use Rattle.load_path.specs.Pictures.{is_below}
 use Rattle.load_path.specs.declared.picture.PictureFile.{PictureFile}
@@ -13,10 +12,11 @@ use Rattle.engine_laws.proofs.Names.{equal-true, equal-is}
 use Rattle.engine_machine.proofs.Truths.{both}
 use Rattle.rebuild.specs.declared.core_data.Core.{Core}
 use Rattle.rebuild.specs.declared.taking.TakeError.{TakeError}
-use Rattle.rebuild.specs.Places.{name_of, names}
+use Rattle.rebuild.specs.Places.{names}
 use Rattle.rebuild.specs.Ready.{are_once}
 use Rattle.rebuild.specs.Renewing.{IsTaken, IsPictureTaken}
 use Rattle.rebuild.proofs.Readies.{both_true}
+use Rattle.rebuild.proofs.ByName.{names_length}
 
 begins_on : (n x : Name) (xs : List Name) → is_below n x ≡ true → begins_above x xs ≡ true → begins_above n xs ≡ true
 begins_on n x [] p q = refl
@@ -47,6 +47,6 @@ pub picture_taken : {T A : Type 0} → (files : List PictureFile) (found : List 
 picture_taken files found c n (Ok a) are few t = record {
   taken = subst (λ ns. IsTaken files ns c n) (sym t.objects_are) t;
   objects = subst (AreObjects files c.dirs) (sym t.objects_are) are;
-  few = subst (λ k. k ≤ MAX_OBJECTS) (sym (ap length t.objects_are) ∙ length-map name_of n.rows.items) few;
+  few = subst (λ k. k ≤ MAX_OBJECTS) (sym (ap length t.objects_are) ∙ names_length n.rows.items) few;
 }
 picture_taken files found c n (Err e) are few t = tt

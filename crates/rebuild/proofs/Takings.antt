@@ -1,5 +1,9 @@
 -- The numbers of a Take are numbers as the machine wants them.
-use Rattle.std.proofs.Common.{◌≡◌, ◌<◌, ◌≤◌, ◌⊎◌, ℕ, List, [], ◌∷◌, Bool, true, false, cond, Option, Some, None, refl, sym, ap, ◌∙◌, subst, inl, inr, arith}
+use Rattle.std.proofs.Common.{◌≡◌, ◌<◌, ◌≤◌, ◌⊎◌, ℕ, List, [], ◌∷◌, Bool, true, false, cond, Option, Some, None, refl, sym, ap, ◌∙◌, subst, inl, inr, arith, ◌+◌, length, drop, get_or}
+use Rattle.std.proofs.lemmas.List.{drop_more}
+use Rattle.rebuild.specs.declared.taking.TakeError.{TakeError}
+use Rattle.rebuild.specs.declared.taking.TakeError.TheVariants.{TooManyObjects, NumbersSpent, Memory}
+use Rattle.rebuild.specs.Refused.{IsSpent}
 use Rattle.std.specs.Prelude.{bytes_eq}
 use Rattle.load_path.specs.Pictures.{content_in}
 use Rattle.load_path.specs.declared.picture.Content.{Content}
@@ -12,7 +16,7 @@ use Rattle.engine_laws.specs.Names.{Name}
 use Rattle.engine_laws.proofs.Names.{equal-true}
 use Rattle.engine_laws.specs.Engine.{AreNumbered}
 use Rattle.rebuild.specs.declared.rows.FileRow.{FileRow}
-use Rattle.engine_machine.specs.Machine.{keeping, small_file}
+use Rattle.engine_machine.specs.Machine.{keeping, small_file, small}
 use Rattle.rebuild.specs.Places.{file_number_in}
 use Rattle.rebuild.specs.States.{pictured, picture_of, number_in}
 use Rattle.rebuild.specs.Taking.{same_content, file_in, number_before, number_or, counter_or, old_or_none, numbered, counter_after}
@@ -30,6 +34,19 @@ same_is (Bytes a) (Bytes b) e = ap Bytes (equal-true a b e)
 same_is (Bytes a) TooLong e = absurd (let clash : false ≡ true = e in cc)
 same_is TooLong (Bytes b) e = absurd (let clash : false ≡ true = e in cc)
 same_is TooLong TooLong e = refl
+
+spent_up : (e : TakeError) (n m : ℕ) → n ≤ m → IsSpent e n → IsSpent e m
+spent_up TooManyObjects n m le h = absurd h
+spent_up NumbersSpent n m le h = omega (arith, le, h)
+spent_up Memory n m le h = tt
+
+-- what is spent at a file is spent at the end
+pub spent_next : (old : List FileRow) (counter : ℕ) (files : List PictureFile) (i total : ℕ) (f : PictureFile) → i < length files → f ≡ get_or files i f → counter_after old counter (drop i files) ≡ total → (e : TakeError) → IsSpent e (counter_or counter (old_or_none old f.name f.content)) → IsSpent e total
+spent_next old counter files i total f lt is sum e h =
+    let more : drop i files ≡ f ∷ drop (i + 1) files = drop_more files i f lt ∙ ap (λ x. x ∷ drop (i + 1) files) (sym is) in
+    let up = counter_up old (counter_or counter (old_or_none old f.name f.content)) (drop (i + 1) files) in
+    let all = ap (counter_after old counter) (sym more) ∙ sum in
+    spent_up e _ total (omega (arith, up, all)) h
 
 -- a file's number and content, by its row
 number_here : (old : List FileRow) (f : List ℕ) (r : FileRow) → file_in old f ≡ Some r → (file_number_in old f ≡ r.number) × (content_in (pictured old) f ≡ Some r.content)
@@ -84,7 +101,7 @@ module _ (old : List FileRow) (start : ℕ) where
       at false is later = later
 
 -- the numbers of a Take
-pub are_numbered : (old : List FileRow) (objects objects' : List Name) (counter : ℕ) (fs : List PictureFile) → 3 ≤ counter → ((f : List ℕ) → file_number_in old f < counter) → AreNumbered keeping (picture_of old objects) (picture_of (numbered old counter fs) objects') (number_in old) (number_in (numbered old counter fs)) counter (counter_after old counter fs)
+pub are_numbered : {T : Type 0} → (old : List FileRow) (objects objects' : List Name) (counter : ℕ) (fs : List PictureFile) → 3 ≤ counter → ((f : List ℕ) → file_number_in old f < counter) → AreNumbered (keeping {T = T}) (picture_of old objects) (picture_of (numbered old counter fs) objects') (number_in old) (number_in (numbered old counter fs)) counter (counter_after old counter fs)
 are_numbered old objects objects' counter fs three low = record { up = counter_up old counter fs; low = low_at; each = each_at }
   where
     up : counter ≤ counter_after old counter fs
@@ -104,6 +121,6 @@ are_numbered old objects objects' counter fs three low = record { up = counter_u
     each_file f (inr (inl kept)) = inr (inl (refl, kept.0, ap file_content kept.1))
     each_file f (inr (inr small)) = inr (inr small)
 
-    each_at : (k : Key) → (picture_of (numbered old counter fs) objects').target k ≡ None → (counter ≤ number_in (numbered old counter fs) k) ⊎ (((picture_of old objects).target k ≡ None) × (number_in (numbered old counter fs) k ≡ number_in old k) × ((picture_of (numbered old counter fs) objects').told k ≡ (picture_of old objects).told k)) ⊎ ((number_in (numbered old counter fs) k < 3) × (keeping.small k (number_in (numbered old counter fs) k) ≡ (picture_of (numbered old counter fs) objects').told k))
+    each_at : (k : Key) → (picture_of (numbered old counter fs) objects').target k ≡ None → (counter ≤ number_in (numbered old counter fs) k) ⊎ (((picture_of old objects).target k ≡ None) × (number_in (numbered old counter fs) k ≡ number_in old k) × ((picture_of (numbered old counter fs) objects').told k ≡ (picture_of old objects).told k)) ⊎ ((number_in (numbered old counter fs) k < 3) × (small k (number_in (numbered old counter fs) k) ≡ (picture_of (numbered old counter fs) objects').told k))
     each_at (File f) e = each_file f (numbers old counter counter (omega arith) three fs f)
     each_at (Under p terms) e = inr (inr (omega arith, refl))

@@ -1,7 +1,7 @@
 //! What the engine answers.
 
 ghost use Rattle.std.specs.Prelude.{◌≡◌, ◌≤◌, ◌++◌, [], IfOk, length, option_copied};
-ghost use Rattle.rebuild.specs.Answers.{seen_answer, answer_of_row, answer_found, seen_why, why_found, seen_reads, reads_of_row, reads_found, run_names, count_rows};
+ghost use Rattle.rebuild.specs.Answers.{seen_answer, answer_of_row, answer_found, seen_why, why_found, seen_reads, reads_of_row, reads_found, run_names};
 ghost use Rattle.rebuild.specs.Places.{row_in, names};
 
 use crate::rows::{Cause, Row};
@@ -138,30 +138,4 @@ pub(crate) fn runs_in<T>(alloc: Global, rows: &[Row<T>]) -> Result<Vec<Name>, Al
         }
     }
     Ok(made)
-}
-
-/// How many build parts are unsettled.
-pub(crate) fn open_builds<T>(rows: &[Row<T>]) -> usize
-    ensures { result ≡ count_rows (λ r. r.open_build) rows.now }
-{
-    let mut count = 0;
-    for row in rows {
-        if row.open_build {
-            count += 1;
-        }
-    }
-    count
-}
-
-/// How many check parts are unsettled.
-pub(crate) fn open_checks<T>(rows: &[Row<T>]) -> usize
-    ensures { result ≡ count_rows (λ r. r.open_check) rows.now }
-{
-    let mut count = 0;
-    for row in rows {
-        if row.open_check {
-            count += 1;
-        }
-    }
-    count
 }

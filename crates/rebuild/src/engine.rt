@@ -5,11 +5,8 @@ ghost use Rattle.asking.specs.declared.limits.TheConstants.{END_OF_NUMBERS};
 ghost use Rattle.base.specs.declared.limits.TheConstants.{MAX_OBJECTS};
 ghost use Rattle.rebuild.specs.Engines.{is_ready, IsEngine, value_of};
 
-use crate::answers::{
-    Answer, Reads, Why, answer_in, names_in, open_builds, open_checks, reads_in, runs_in, why_in,
-};
+use crate::answers::{Answer, Reads, Why, answer_in, names_in, reads_in, runs_in, why_in};
 use crate::core_data::Core;
-use crate::forgetting::forget_rows;
 use crate::renewing::take_picture;
 use crate::taking::TakeError;
 use crate::turned::{TurnError, Turned};
@@ -45,10 +42,9 @@ fn shared(alloc: Global, texts: &[Text]) -> Result<Seq<Text>, AllocError>
 }
 
 impl<R: Runner> Engine<R> {
-    ghost use Rattle.engine_laws.specs.Engine.{Forget};
     ghost use Rattle.object_names.specs.Objects.{AreObjects};
     ghost use Rattle.rebuild.specs.Answers.{seen_answer, answer_at, seen_why, why_at, seen_reads, reads_at, runs_at};
-    ghost use Rattle.rebuild.specs.Engines.{situation_of, new_situation, after_event, after_take, after_turn, IsTrue, objects_of, parts_of, turns_left_of};
+    ghost use Rattle.rebuild.specs.Engines.{situation_of, new_situation, after_take, after_turn, IsTrue, objects_of, parts_of, turns_left_of};
     ghost use Rattle.rebuild.specs.Opening.{turned_by};
     ghost use Rattle.rebuild.specs.Refused.{IsRefused};
     ghost use Rattle.rebuild.specs.States.{pictured};
@@ -164,24 +160,5 @@ impl<R: Runner> Engine<R> {
         ensures { IfOk result (λ made. made.items ≡ runs_at (situation_of self.now.core)) }
     {
         runs_in(alloc, &self.core.rows)
-    }
-
-    /// How many turns are left: twice the unsettled parts less those on the chain. Each turn takes one.
-    pub fn turns_left(&self) -> u64
-        ensures { result ≡ turns_left_of self.now.core }
-    {
-        let rows = self.core.rows.as_slice();
-        let unsettled = open_builds(rows) + open_checks(rows);
-        (2 * unsettled).saturating_sub(self.core.chain.len()) as u64
-    }
-
-    /// The list of runs is forgotten, where nothing is unsettled.
-    pub fn forget_runs(&mut self)
-        requires settled { turns_left_of self.old.core ≡ 0 }
-        ensures state { situation_of self.new.core ≡ after_event R.meaning (value_of self.old.core) Forget }
-        ensures files { self.new.core.files.items ≡ self.old.core.files.items }
-        ensures dirs { self.new.core.dirs ≡ self.old.core.dirs }
-    {
-        forget_rows(&mut self.core.rows);
     }
 }

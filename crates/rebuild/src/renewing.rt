@@ -4,6 +4,7 @@ ghost use Rattle.std.specs.Prelude.{◌≡◌, ◌<◌, ◌≤◌, ◌+◌, true
 ghost use Rattle.rebuild.specs.Places.{names};
 ghost use Rattle.rebuild.specs.Ready.{are_once, IsReady};
 ghost use Rattle.rebuild.specs.Taking.{new_row, taken_rows, counter_after};
+ghost use Rattle.rebuild.specs.declared.taking.TakeError.TheVariants.{Memory};
 ghost use Rattle.rebuild.specs.Refused.{IsSpent, IsRefused};
 ghost use Rattle.rebuild.specs.Renewing.{reopened, IsRenewed, IsTaken, IsPictureTaken};
 
@@ -21,7 +22,8 @@ use std::sync::ledger::Ledger;
 
 /// A fresh row for each object.
 pub(crate) fn fresh_rows<T: Drop>(alloc: Global, objects: &[Name]) -> Result<Vec<Row<T>>, TakeError>
-    ensures { IfOk result (λ rows. rows.items ≡ map new_row objects.now) }
+    ensures rows { IfOk result (λ rows. rows.items ≡ map new_row objects.now) }
+    ensures refused { IfErr result (λ e. e ≡ Memory) }
 {
     let mut rows = Vec::new(alloc);
     for object in objects {
