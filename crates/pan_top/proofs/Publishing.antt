@@ -1,6 +1,10 @@
 -- What a session has done to the shelf.
 use Rattle.std.proofs.Common.{◌≡◌, ℕ, Bool, true, false, List, [], ◌∷◌, ◌++◌, Option, Some, None, is_some, IfSome, if◌then◌else◌, ◌⊎◌, inl, inr, refl, sym, ap, ◌∙◌, subst}
 use Rattle.std.specs.Prelude.{flat_map, Result, Ok, Err, OnOk, OnErr}
+use Rattle.std.specs.List.Sorted.{IsSorted}
+use Rattle.std.specs.Cmp.Lexicographic.{slice_cmp}
+use Rattle.std.specs.Ordering.{nat_cmp}
+use Rattle.load_path.specs.declared.picture.PictureFile.{PictureFile}
 use Rattle.outside.specs.Cells.{Cell, AreSame}
 use Rattle.outside.specs.declared.shelf.Change.{Change}
 use Rattle.outside.specs.declared.source.MemFile.{MemFile}
@@ -140,3 +144,21 @@ in_order_early (Some ps) words e status old new before now how part = early_by s
 pub in_order_own : (told : Option (List (List MemFile))) (words : List (List ℕ)) (status : Status) (old new : List ℕ → Cell) (before now : Option (List Change)) → IsSessions status → IfSome told (λ ps. Publishes (session_of words (next_picture ps)).wants old new before now) → IfSome told (λ ps. IsInOrder status (session_of words (next_picture ps)).wants old new before now)
 in_order_own None words status old new before now own all = tt
 in_order_own (Some ps) words status old new before now own all = own_by status (session_of words (next_picture ps)).wants old new before now own all
+
+-- the words are no command
+usage_none : (told : Option (List (List MemFile))) (words : List (List ℕ)) (old : List ℕ → Cell) (before : Option (List Change)) → is_command words ≡ false → IfSome told (λ ps. Publishes (session_of words (next_picture ps)).wants old old before before)
+usage_none None words old before other = tt
+usage_none (Some ps) words old before other = rw other (refl, λ n. refl)
+
+pub usage_result : (told : Option (List (List MemFile))) (words : List (List ℕ)) (old : List ℕ → Cell) (before : Option (List Change)) (r : Result Status End) → is_command words ≡ false → OnOk r (Tells old → IfSome told (λ ps. Publishes (session_of words (next_picture ps)).wants old old before before))
+usage_result told words old before (Ok status) other = λ tells. usage_none told words old before other
+usage_result told words old before (Err e) other = tt
+
+-- a scanned picture is its round's
+pub scan_at : (told : Option (List (List MemFile))) (got : Option (List PictureFile)) (P : Option (List Want) → Type 0) → IfSome told (λ ps. got ≡ scanned_of (next_picture ps)) → P (scanned_session got).wants → IfSome told (λ ps. P (scanned_session (scanned_of (next_picture ps))).wants)
+scan_at None got P is p = tt
+scan_at (Some ps) got P is p = subst (λ s. P (scanned_session s).wants) is p
+
+-- the names on the shelf, after they were listed
+pub listed_on : (names : List (List ℕ)) (old mid : List ℕ → Cell) → AreSame old mid → Lists names old → IsSorted (slice_cmp nat_cmp) names → AreListed names mid
+listed_on names old mid same lists sorted = record { lists = λ n. rw (same n) (lists n); sorted = sorted }
