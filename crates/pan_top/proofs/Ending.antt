@@ -1,5 +1,5 @@
 -- Ends of a run.
-use Rattle.std.proofs.Common.{◌≡◌, ℕ, true, false, List, Option, Some, None, refl, sym, ap, append-nil, IfErr, OnErr, IfSome}
+use Rattle.std.proofs.Common.{◌≡◌, ℕ, true, false, List, [], Option, Some, None, refl, sym, ap, ◌∙◌, inr, append-nil, IfErr, OnErr, IfSome}
 use Rattle.std.specs.Prelude.{codes, Result, Ok, Err}
 use Rattle.outside.specs.Cells.{Cell}
 use Rattle.outside.specs.Contents.{AppendsPart}
@@ -12,7 +12,8 @@ use Rattle.pan_top.specs.declared.status.Status.TheVariants.{Clean, SomeFaults, 
 use Rattle.pan_top.specs.Commands.{is_command}
 use Rattle.pan_top.specs.Ends.{IsEndOf, OfName, OfSink}
 use Rattle.pan_top.specs.Scans.{scanned_of}
-use Rattle.pan_top.specs.Shelves.{Stopped}
+use Rattle.pan_top.specs.declared.publish.Want.{Want}
+use Rattle.pan_top.specs.Shelves.{Stopped, published}
 use Rattle.pan_top.specs.Session.{Session, WritesEarly, Says, Comes, session_of, scanned_session}
 use Rattle.pan_top.proofs.Shelving.{stopped_from}
 
@@ -36,6 +37,14 @@ early_part text old new E.Shelf kind part = cc
 early_part text old new (E.Publishing m) kind part = cc
 early_part text old new E.Out kind part = part
 early_part text old new E.Memory kind part = part
+
+-- where only the text could not be written, the publication was done
+pub done_stopped : (e : End) (ws : List Want) (old new : List ℕ → Cell) → IsEndOf OfSink e → ((n : List ℕ) → new n ≡ published ws n (old n)) → Stopped e (published ws) old new
+done_stopped E.Source ws old new kind done = cc
+done_stopped E.Shelf ws old new kind done = cc
+done_stopped (E.Publishing m) ws old new kind done = cc
+done_stopped E.Out ws old new kind done = done
+done_stopped E.Memory ws old new kind done = ([], record { others = λ n other. done n ∙ rw other refl; own = λ n closed. inr (done n) })
 
 early_usage : (told : Option (List (List MemFile))) (words : List (List ℕ)) (old new : Option (List ℕ)) (e : End) → is_command words ≡ false → IsEndOf OfSink e → AppendsPart old (codes "usage fault\n") new → IfSome told (λ ps. WritesEarly (session_of words (next_picture ps)).text e old new)
 early_usage None words old new e other kind part = tt

@@ -6,8 +6,8 @@ pub returns-in-Err-clause-session : goal.returns-in-Err-clause-session
 returns-in-Err-clause-session g c =
     comes (g.S.Source.coming c.args.source.now) c.args.words.now c.conclude.result c.in-Err.end (g.O.Sink.held c.args.out.now) (g.O.Sink.held c.run.new.out) _ _ _ c.in-Err.ensures.shelf c.in-Err.ensures.text c.conclude.ensures.text
 
-pub returns-in_Ok-clause-order : goal.returns-in_Ok-clause-order
-returns-in_Ok-clause-order g c = λ told. in_order_own (g.S.Source.coming c.args.source.now) c.args.words.now c.in-Ok.status (g.H.Shelf.cell c.args.shelf.now) (g.H.Shelf.cell c.run.new.shelf) _ _ c.in-Ok.ensures.own (c.in-Ok.ensures.made told)
+pub returns-in-Ok-clause-order : goal.returns-in-Ok-clause-order
+returns-in-Ok-clause-order g c = λ told. in_order_own (g.S.Source.coming c.args.source.now) c.args.words.now c.in-Ok.status (g.H.Shelf.cell c.args.shelf.now) (g.H.Shelf.cell c.run.new.shelf) _ _ c.in-Ok.ensures.own (c.in-Ok.ensures.made told)
 
-pub returns-in_Err-clause-order : goal.returns-in_Err-clause-order
-returns-in_Err-clause-order g c = λ told. in_order_early (g.S.Source.coming c.args.source.now) c.args.words.now c.in-Err.end c.conclude.result (g.H.Shelf.cell c.args.shelf.now) (g.H.Shelf.cell c.run.new.shelf) _ _ c.conclude.ensures.status (c.in-Err.ensures.begun told)
+pub returns-in-Err-clause-order : goal.returns-in-Err-clause-order
+returns-in-Err-clause-order g c = λ told. in_order_early (g.S.Source.coming c.args.source.now) c.args.words.now c.in-Err.end c.conclude.result (g.H.Shelf.cell c.args.shelf.now) (g.H.Shelf.cell c.run.new.shelf) _ _ c.conclude.ensures.status (c.in-Err.ensures.begun told)

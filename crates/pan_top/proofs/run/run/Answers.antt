@@ -1,4 +1,5 @@
-use Rattle.std.proofs.Common.{refl, ◌∙◌}
+use Rattle.std.proofs.Common.{refl, sym, subst, ◌∙◌}
+use Rattle.pan_top.specs.Changing.{AreListed}
 use Rattle.pan_top.proofs.Ending.{usage_unwritten, stopped_result}
 use Rattle.pan_top.proofs.Publishing.{usage_result, untouched_result, publishes_result, part_result, listed_on}
 use Rattle.pan_top.proofs.run.run.Goals as goal
@@ -28,8 +29,10 @@ returns-in_err-listed-clause-begun g c =
 
 pub returns-clause-made : goal.returns-clause-made
 returns-clause-made g c =
-    publishes_result (g.S.Source.coming c.args.source.now) (g.S.Source.coming c.open_source.new.source) c.args.words.now _ (g.H.Shelf.cell c.args.shelf.now) (g.H.Shelf.cell c.listed.new.shelf) (g.H.Shelf.cell c.scan_and_build.new.shelf) _ _ _ c.scan_and_build.result c.in_ok-open_source.ensures.coming c.in-Some.ensures.0 (λ n. c.in_ok-listed.ensures.same n ∙ c.in_ok-open_shelf.ensures.same n) (c.in_ok-listed.ensures.changes ∙ c.in_ok-open_shelf.ensures.changes) (listed_on _ _ _ c.in_ok-listed.ensures.same c.in_ok-listed.ensures.ok c.in_ok-listed.ensures.sorted) c.scan_and_build.ensures.made
+    let listed : AreListed c.deref.result.now (g.H.Shelf.cell c.listed.new.shelf) = subst (λ names. AreListed names (g.H.Shelf.cell c.listed.new.shelf)) (sym c.deref.ensures.value) (listed_on c.in_ok-listed.listed.items (g.H.Shelf.cell c.open_shelf.new.shelf) (g.H.Shelf.cell c.listed.new.shelf) c.in_ok-listed.ensures.same c.in_ok-listed.ensures.ok c.in_ok-listed.ensures.sorted) in
+    publishes_result (g.S.Source.coming c.args.source.now) (g.S.Source.coming c.open_source.new.source) c.args.words.now c.deref.result.now (g.H.Shelf.cell c.args.shelf.now) (g.H.Shelf.cell c.listed.new.shelf) (g.H.Shelf.cell c.scan_and_build.new.shelf) _ _ _ c.scan_and_build.result c.in_ok-open_source.ensures.coming c.in-Some.ensures.0 (λ n. c.in_ok-listed.ensures.same n ∙ c.in_ok-open_shelf.ensures.same n) (c.in_ok-listed.ensures.changes ∙ c.in_ok-open_shelf.ensures.changes) listed c.scan_and_build.ensures.made
 
 pub returns-clause-begun : goal.returns-clause-begun
 returns-clause-begun g c =
-    part_result (g.S.Source.coming c.args.source.now) (g.S.Source.coming c.open_source.new.source) c.args.words.now _ (g.H.Shelf.cell c.args.shelf.now) (g.H.Shelf.cell c.listed.new.shelf) (g.H.Shelf.cell c.scan_and_build.new.shelf) _ _ _ c.scan_and_build.result c.in_ok-open_source.ensures.coming c.in-Some.ensures.0 (λ n. c.in_ok-listed.ensures.same n ∙ c.in_ok-open_shelf.ensures.same n) (c.in_ok-listed.ensures.changes ∙ c.in_ok-open_shelf.ensures.changes) (listed_on _ _ _ c.in_ok-listed.ensures.same c.in_ok-listed.ensures.ok c.in_ok-listed.ensures.sorted) c.scan_and_build.ensures.begun
+    let listed : AreListed c.deref.result.now (g.H.Shelf.cell c.listed.new.shelf) = subst (λ names. AreListed names (g.H.Shelf.cell c.listed.new.shelf)) (sym c.deref.ensures.value) (listed_on c.in_ok-listed.listed.items (g.H.Shelf.cell c.open_shelf.new.shelf) (g.H.Shelf.cell c.listed.new.shelf) c.in_ok-listed.ensures.same c.in_ok-listed.ensures.ok c.in_ok-listed.ensures.sorted) in
+    part_result (g.S.Source.coming c.args.source.now) (g.S.Source.coming c.open_source.new.source) c.args.words.now c.deref.result.now (g.H.Shelf.cell c.args.shelf.now) (g.H.Shelf.cell c.listed.new.shelf) (g.H.Shelf.cell c.scan_and_build.new.shelf) _ _ _ c.scan_and_build.result c.in_ok-open_source.ensures.coming c.in-Some.ensures.0 (λ n. c.in_ok-listed.ensures.same n ∙ c.in_ok-open_shelf.ensures.same n) (c.in_ok-listed.ensures.changes ∙ c.in_ok-open_shelf.ensures.changes) listed c.scan_and_build.ensures.begun
