@@ -1,4 +1,5 @@
--- A run as questions and answers: it ends, or asks a key that its list of pairs lacks. Pairs stand newest first.
+-- A run as questions and answers: it ends, or asks a key that its list of pairs lacks. Pairs stand
+-- newest first.
 use Rattle.std.specs.Prelude.{◌≡◌, ℕ, zero, suc, List, [], ◌∷◌}
 
 -- what a run gives: its end, or the next question
@@ -7,7 +8,8 @@ pub data Answer (K R : Type 0) : Type 0 where
   Asks : (key : K) → Answer K R
 
 -- a run from these answers on asks these keys, is told these contents, and ends so
-abbrev pub RunsTo : {K C R : Type 0} → (List (K × C) → Answer K R) → List (K × C) → List (K × C) → R → Type 0
+abbrev pub RunsTo : {K C R : Type 0} → (List (K × C) → Answer K R) → List (K × C) → List (K × C) → R
+    → Type 0
 RunsTo build asked [] r = build asked ≡ Ends r
 RunsTo build asked (q ∷ qs) r = (build asked ≡ Asks q.0) × RunsTo build (q ∷ asked) qs r
 
@@ -22,7 +24,8 @@ pub data Word (C : Type 0) : Type 0 where
   Tells : (number : ℕ) (content : C) → Word C
   deriving IsSet as Word-set
 
--- a run over words: it ends, having asked these keys with these numbers, or stops at an object that it has to wait for
+-- a run over words: it ends, having asked these keys with these numbers, or stops at an object that
+-- it has to wait for
 pub data Ran (K R : Type 0) : Type 0 where
   Finished : (items : List (K × ℕ)) (r : R) → Ran K R
   Stops : (object : List ℕ) → Ran K R
@@ -42,9 +45,11 @@ run_next (Ends r) ask = Finished [] r
 run_next (Asks k) ask = ask k
 
 -- a run that is told these words, through at most n questions
-abbrev pub ran : {K C R : Type 0} → (List (K × C) → Answer K R) → (K → Word C) → ℕ → List (K × C) → Ran K R
+abbrev pub ran : {K C R : Type 0} → (List (K × C) → Answer K R) → (K → Word C) → ℕ → List (K × C)
+    → Ran K R
 ran build tells zero asked = Lost
-ran build tells (suc n) asked = run_next (build asked) (λ k. with_word k (tells k) (λ c. ran build tells n ((k, c) ∷ asked)))
+ran build tells (suc n) asked =
+    run_next (build asked) (λ k. with_word k (tells k) (λ c. ran build tells n ((k, c) ∷ asked)))
 
 abbrev pub word_told : {C T : Type 0} → Word C → T → (C → T) → T
 word_told (Needs p) here go = here
@@ -55,6 +60,8 @@ next_told (Ends r) here go = here
 next_told (Asks k) here go = go k
 
 -- what such a run was told when it ended or stopped
-abbrev pub told_in : {K C R : Type 0} → (List (K × C) → Answer K R) → (K → Word C) → ℕ → List (K × C) → List (K × C)
+abbrev pub told_in : {K C R : Type 0} → (List (K × C) → Answer K R) → (K → Word C) → ℕ
+    → List (K × C) → List (K × C)
 told_in build tells zero asked = asked
-told_in build tells (suc n) asked = next_told (build asked) asked (λ k. word_told (tells k) asked (λ c. told_in build tells n ((k, c) ∷ asked)))
+told_in build tells (suc n) asked = next_told (build asked) asked
+    (λ k. word_told (tells k) asked (λ c. told_in build tells n ((k, c) ∷ asked)))

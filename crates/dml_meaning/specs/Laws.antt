@@ -16,15 +16,21 @@ use Rattle.dml_meaning.specs.Meaning.{eval}
 
 -- no file's fault is that of a circular object
 pub record IsReading (reading : List ℕ → List ℕ → Result Template Fault) : Type 0 where
-  pub plain : (file bytes : List ℕ) (fault : Fault) → reading file bytes ≡ Err fault → is_circular fault.code ≡ false
+  pub plain : (file bytes : List ℕ) (fault : Fault) → reading file bytes ≡ Err fault
+      → is_circular fault.code ≡ false
 
--- an item's evaluation as a run that is told a list of pairs: its value with what stands then, or its fault
+-- an item's evaluation as a run that is told a list of pairs: its value with what stands then, or
+-- its fault
 pub record Ended : Type 0 where
   pub value : Plain
   pub env : Env
 
 abbrev pub item_ending : Ending Env Plain (Result Ended Fault)
-item_ending = record { done = λ t e. Ok (record { value = t; env = e }); returned = λ t e. Ok (record { value = t; env = e }); failed = Err }
+item_ending = record {
+  done = λ t e. Ok (record { value = t; env = e });
+  returned = λ t e. Ok (record { value = t; env = e });
+  failed = Err;
+}
 
 abbrev pub is_circular_end : Result Ended Fault → Bool
 is_circular_end (Ok x) = false

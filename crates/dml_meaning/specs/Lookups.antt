@@ -35,7 +35,8 @@ load_path _ = []
 
 -- the file names under which a name is looked for
 abbrev pub candidates_of : Around → List ℕ → List ℕ → List (List ℕ)
-candidates_of a name suffix = candidates name suffix (load_path (found a.globals (codes "LOADPATH"))) a.dirs
+candidates_of a name suffix =
+    candidates name suffix (load_path (found a.globals (codes "LOADPATH"))) a.dirs
 
 -- a file that is there: too long, or its bytes
 pub data Present : Type 0 where
@@ -62,10 +63,12 @@ first_present p (f ∷ fs) = do
 
 -- a file by a name with a suffix; a name that is none finds nothing, and no file is asked
 abbrev pub looked_up : Around → Place → Bool → List ℕ → List ℕ → Look (Option Present)
-looked_up a p holds name suffix = cond holds (first_present p (candidates_of a name suffix)) (give None)
+looked_up a p holds name suffix =
+    cond holds (first_present p (candidates_of a name suffix)) (give None)
 
 -- goes on with the file and the bytes that a name found
-abbrev pub on_bytes : {S X : Type 0} → Place → List ℕ → (List ℕ → List ℕ → Run S X) → Option Present → Run S X
+abbrev pub on_bytes : {S X : Type 0} → Place → List ℕ → (List ℕ → List ℕ → Run S X) → Option Present
+    → Run S X
 on_bytes p name next None = fail_about code.NoTemplate p name
 on_bytes p name next (Some (Long f)) = fail_about code.FileTooLong p f
 on_bytes p name next (Some (Whole f bs)) = next f bs
@@ -76,7 +79,8 @@ or_fault (Err f) = fail_with f
 
 -- the name in its header is the one by which it was found
 abbrev pub named_so : List ℕ → Template → Look Template
-named_so name z = cond (bytes_eq z.name name) (give z) (fail_about code.WrongTemplate z.name_place name)
+named_so name z =
+    cond (bytes_eq z.name name) (give z) (fail_about code.WrongTemplate z.name_place name)
 
 abbrev pub is_structure : TemplateKind → Bool
 is_structure kind.Structure = true
@@ -118,7 +122,8 @@ look_other p o ms = do
 -- the value at a path as it is written: an absolute path, or an external one
 abbrev pub look_at : Around → Place → List ℕ → Anchor → List Term → Look Looked
 look_at a p t anchor.Absolute ms = give (looked_in (get ms a.root))
-look_at a p t (anchor.External o) ms = cond (bytes_eq o a.object) (give (looked_in (get ms a.root))) (look_other p o ms)
+look_at a p t (anchor.External o) ms =
+    cond (bytes_eq o a.object) (give (looked_in (get ms a.root))) (look_other p o ms)
 look_at a p t anchor.Relative ms = fail_about code.BadPath p t
 
 abbrev pub look_by : Around → Place → List ℕ → Result Path PathError → Look Looked

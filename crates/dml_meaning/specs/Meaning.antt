@@ -1,5 +1,6 @@
--- What an item means: items and the chains in them, loops, calls, references, and the structure templates that
--- `create` runs. `go` is what is opened inside: an item, an operator before its operand, an argument that is a reference.
+-- What an item means: items and the chains in them, loops, calls, references, and the structure
+-- templates that `create` runs. `go` is what is opened inside: an item, an operator before its
+-- operand, an argument that is a reference.
 use Rattle.std.specs.Prelude.{ℕ, zero, suc, ◌-◌, pos, List, [], ◌∷◌, ◌++◌, length, Option, Some, None, is_none, is_some, unwrap_or, option_and_then, Bool, true, false, not, cond, ◌&&◌, ◌||◌, nat_eq, Result, Ok, Err, codes}
 use Rattle.std.specs.Str.{is_utf8}
 use Rattle.path_tree.specs.Plain.{Plain, dict, list, text, long, boolean, undef, null, Items as Trees, no_items, item, Fields, no_fields, field}
@@ -44,7 +45,8 @@ use Rattle.dml_meaning.specs.Words.{automatic_of, own_of, value_call_of}
 use Rattle.dml_meaning.specs.Values.{has_null, is_nothing, is_container, limited, list_of, extended, passes_option, value_called}
 use Rattle.dml_meaning.specs.Lookups.{Looked, NoObject, Nothing, There, Present, look, looked_up, on_bytes, structure_named}
 
--- why a reference stands as an argument: to be read, to be deleted by a call at a place, to be changed
+-- why a reference stands as an argument: to be read, to be deleted by a call at a place, to be
+-- changed
 pub data Purpose : Type 0 where
   ToRead : Purpose
   ToDelete : Place → Purpose
@@ -55,7 +57,8 @@ pub record Reached : Type 0 where
   pub keys : List Plain
   pub value : Option Plain
 
--- what can be opened: an item, an operator before its operand, an argument that is a reference, by its item's place
+-- what can be opened: an item, an operator before its operand, an argument that is a reference, by
+-- its item's place
 pub record Means : Type 0 where
   pub opens : Around → Item → Run Plain
   pub signs : Around → Place → UnaryOp → Node → Run Plain
@@ -82,7 +85,8 @@ or_else None o = o
 
 -- a name is a local, else an automatic name, else a global
 abbrev pub value_of : Around → List ℕ → Env → Option Plain
-value_of a x e = or_else (found e.locals x) (or_else (option_and_then (automatic_value a e.self) (automatic_of x)) (found a.globals x))
+value_of a x e = or_else (found e.locals x) (or_else
+    (option_and_then (automatic_value a e.self) (automatic_of x)) (found a.globals x))
 
 abbrev pub or_fail_about : {X : Type 0} → Code → Place → List ℕ → Option X → Run X
 or_fail_about c p d (Some x) = give x
@@ -91,11 +95,14 @@ or_fail_about c p d None = fail_about c p d
 abbrev pub read : Around → Place → List ℕ → Run Plain
 read a p x = now >>= (λ e. or_fail_about code.NoVariable p x (value_of a x e))
 
--- which names may be changed: locals, and names that are none; SELF at an index, where it is not fixed
+-- which names may be changed: locals, and names that are none; SELF at an index, where it is not
+-- fixed
 abbrev pub may_change_by : Around → Place → List ℕ → Bool → Bool → Option Automatic → Run (Unit {0})
-may_change_by a p x whole local (Some automatic.OwnValue) = cond (a.fixed || whole) (fail code.SelfChange p) (give tt)
+may_change_by a p x whole local (Some automatic.OwnValue) =
+    cond (a.fixed || whole) (fail code.SelfChange p) (give tt)
 may_change_by a p x whole local (Some n) = fail_about code.GlobalChange p x
-may_change_by a p x whole local None = cond (is_some (found a.globals x) && not local) (fail_about code.GlobalChange p x) (give tt)
+may_change_by a p x whole local None =
+    cond (is_some (found a.globals x) && not local) (fail_about code.GlobalChange p x) (give tt)
 
 abbrev pub no_indexes : Items → Bool
 no_indexes none = true
@@ -103,7 +110,8 @@ no_indexes (more i is) = false
 
 -- whole: there is no index
 abbrev pub may_change : Around → Place → List ℕ → Bool → Run (Unit {0})
-may_change a p x whole = now >>= (λ e. may_change_by a p x whole (is_some (found e.locals x)) (automatic_of x))
+may_change a p x whole =
+    now >>= (λ e. may_change_by a p x whole (is_some (found e.locals x)) (automatic_of x))
 
 abbrev pub is_self : Option Automatic → Bool
 is_self (Some automatic.OwnValue) = true
@@ -114,7 +122,8 @@ abbrev pub root_of : Env → List ℕ → Option Plain
 root_of e x = cond (is_self (automatic_of x)) (Some e.self) (found e.locals x)
 
 abbrev pub with_root : List ℕ → Plain → Env → Env
-with_root x t e = cond (is_self (automatic_of x)) (record e { self = t }) (record e { locals = with_local x t e.locals })
+with_root x t e = cond (is_self (automatic_of x)) (record e { self = t })
+    (record e { locals = with_local x t e.locals })
 
 abbrev pub set_root : Place → List ℕ → Result Plain Code → Run (Unit {0})
 set_root p x (Ok t) = now >>= (λ e. become (with_root x t e))
@@ -209,18 +218,21 @@ values_from go a (more i is) done = do
   values_from go a is (done ++ t ∷ [])
 
 -- the indexes of a reference after those that were looked at; all: also where they lead nowhere
-unfoldable pub reach_from : Bool → Means → Around → Place → Items → List Plain → Option Plain → Run Reached
+unfoldable pub reach_from : Bool → Means → Around → Place → Items → List Plain → Option Plain
+    → Run Reached
 reach_from all go a p none ks t = give (record { keys = ks; value = t })
-reach_from all go a p (more i is) ks t = cond (is_none t && not all) (give (record { keys = ks; value = t })) (do
-  k ← go.opens a i
-  _ ← step p
-  reach_from all go a p is (ks ++ k ∷ []) (option_and_then (at_index k) t))
+reach_from all go a p (more i is) ks t =
+    cond (is_none t && not all) (give (record { keys = ks; value = t })) (do
+      k ← go.opens a i
+      _ ← step p
+      reach_from all go a p is (ks ++ k ∷ []) (option_and_then (at_index k) t))
 
 abbrev pub is_change : Purpose → Bool
 is_change ToChange = true
 is_change _ = false
 
--- where the indexes start from; a call that deletes, at q, wants a name that may be changed, and one that is there
+-- where the indexes start from; a call that deletes, at q, wants a name that may be changed, and
+-- one that is there
 abbrev pub start_run : Around → Purpose → List ℕ → Bool → Run (Option Plain)
 start_run a ToRead x whole = now >>= (λ e. give (value_of a x e))
 start_run a ToChange x whole = now >>= (λ e. give (root_of e x))
@@ -281,14 +293,17 @@ abbrev pub after_turn : (Plain → Run Plain) → Plain → Option Plain → Run
 after_turn next last None = give last
 after_turn next last (Some t) = next t
 
--- turns until one finds the loop over, where n more may be made; last is the value of the turn before
+-- turns until one finds the loop over, where n more may be made; last is the value of the turn
+-- before
 unfoldable pub while_turns : ℕ → Means → Around → Place → Item → Item → Plain → Run Plain
 while_turns zero go a p c b last = while_turn 0 go a p c b >>= after_turn give last
-while_turns (suc n) go a p c b last = while_turn (suc n) go a p c b >>= after_turn (while_turns n go a p c b) last
+while_turns (suc n) go a p c b last =
+    while_turn (suc n) go a p c b >>= after_turn (while_turns n go a p c b) last
 
 unfoldable pub for_turns : ℕ → Means → Around → Place → Item → Item → Item → Plain → Run Plain
 for_turns zero go a p c s b last = for_turn 0 go a p c s b >>= after_turn give last
-for_turns (suc n) go a p c s b last = for_turn (suc n) go a p c s b >>= after_turn (for_turns n go a p c s b) last
+for_turns (suc n) go a p c s b last =
+    for_turn (suc n) go a p c s b >>= after_turn (for_turns n go a p c s b) last
 
 -- what a `foreach` walks: key and value
 abbrev pub pairs_of_items : ℕ → Trees → List (Plain × Plain)
@@ -326,16 +341,20 @@ set_pair a p k v pair = do
   assign_name a p v pair.1
 
 -- one turn of a `foreach`, where n more may be made
-unfoldable pub pair_turn : ℕ → Means → Around → Place → List ℕ → List ℕ → Item → Plain × Plain → Run Plain
+unfoldable pub pair_turn : ℕ → Means → Around → Place → List ℕ → List ℕ → Item → Plain × Plain
+    → Run Plain
 pair_turn n go a p k v b pair = body_turn n p (set_pair a p k v pair >>= (λ _. go.opens a b))
 
 -- a turn for each pair; last is the value of the turn before
-unfoldable pub pair_turns : ℕ → Means → Around → Place → List ℕ → List ℕ → Item → List (Plain × Plain) → Plain → Run Plain
+unfoldable pub pair_turns : ℕ → Means → Around → Place → List ℕ → List ℕ → Item
+    → List (Plain × Plain) → Plain → Run Plain
 pair_turns n go a p k v b [] last = give last
-pair_turns n go a p k v b (pair ∷ pairs) last = pair_turn n go a p k v b pair >>= pair_turns (n - 1) go a p k v b pairs
+pair_turns n go a p k v b (pair ∷ pairs) last =
+    pair_turn n go a p k v b pair >>= pair_turns (n - 1) go a p k v b pairs
 
 unfoldable pub each_of : Means → Around → Place → List ℕ → List ℕ → Item → Plain → Run Plain
-each_of go a p k v b t = cond (is_container t) (pair_turns a.iterations go a p k v b (pairs_of t) undef) (fail code.BadArgument p)
+each_of go a p k v b t = cond (is_container t) (pair_turns a.iterations go a p k v b (pairs_of t)
+    undef) (fail code.BadArgument p)
 
 -- Calls of functions.
 
@@ -352,7 +371,8 @@ body_run go a b = scoped no_locals back (go.opens a b)
 
 -- the tests of a call of a function with these values, and the list that they make
 abbrev pub open_call : Around → Place → List Plain → Run Plain
-open_call a p ts = cond (has_null ts) (fail code.BadArgument p) (cond (nat_eq a.calls_left 0) (fail code.CallDepth p) (or_refuse p (list_of ts)))
+open_call a p ts = cond (has_null ts) (fail code.BadArgument p)
+    (cond (nat_eq a.calls_left 0) (fail code.CallDepth p) (or_refuse p (list_of ts)))
 
 unfoldable pub function_run : Means → Around → Place → List ℕ → Items → Option Item → Run Plain
 function_run go a p f args None = fail_about code.NoFunction p f
@@ -365,7 +385,8 @@ function_run go a p f args (Some b) = do
 
 -- the DML of a statement: locals and SELF of its own, whatever stands around it
 unfoldable pub dml_run : {S : Type 0} → Means → Around → Bool → Plain → Item → questions.Run S Plain
-dml_run go a fixed s i = scoped (λ _. record { locals = []; self = s }) (λ e l. e) (go.opens (in_statement a fixed) i)
+dml_run go a fixed s i =
+    scoped (λ _. record { locals = []; self = s }) (λ e l. e) (go.opens (in_statement a fixed) i)
 
 abbrev pub put_fault : {S : Type 0} → Result Plain PutError → Place → List ℕ → questions.Run S Plain
 put_fault (Ok t) p d = give t
@@ -373,7 +394,8 @@ put_fault (Err error.TooLarge) p d = fail code.TooLarge p
 put_fault (Err error.TooHigh) p d = fail code.TooLarge p
 put_fault (Err _) p d = fail_about code.BadPath p d
 
-abbrev pub assigned_at : {S : Type 0} → Place → List ℕ → List Term → Plain → Plain → questions.Run S Plain
+abbrev pub assigned_at : {S : Type 0} → Place → List ℕ → List Term → Plain → Plain
+    → questions.Run S Plain
 assigned_at p d ms t null = give (remove ms t)
 assigned_at p d ms t v = put_fault (put ms v t) p d
 
@@ -383,17 +405,20 @@ is_set (Some undef) = false
 is_set (Some t) = true
 
 -- an assignment to a path of what is made; a conditional one only where the path is not set
-unfoldable pub assignment_run : {S : Type 0} → Means → Around → Place → List ℕ → List Term → Bool → Item → Plain → questions.Run S Plain
+unfoldable pub assignment_run : {S : Type 0} → Means → Around → Place → List ℕ → List Term → Bool
+    → Item → Plain → questions.Run S Plain
 assignment_run go a p d ms conditional i t = cond (conditional && is_set (get ms t)) (give t) (do
   v ← dml_run go a false (unwrap_or (get ms t) undef) i
   assigned_at p d ms t v)
 
-abbrev pub assign_under : Means → Around → Place → List ℕ → Bool → Item → Plain → Anchor → List Term → Run Plain
+abbrev pub assign_under : Means → Around → Place → List ℕ → Bool → Item → Plain → Anchor → List Term
+    → Run Plain
 assign_under go a p d c i t anchor.Absolute ms = fail code.WrongStatement p
 assign_under go a p d c i t anchor.Relative ms = assignment_run go a p d ms c i t
 assign_under go a p d c i t (anchor.External o) ms = fail_about code.BadPath p d
 
-abbrev pub assign_by : Means → Around → Place → List ℕ → Bool → Item → Plain → Result Path PathError → Run Plain
+abbrev pub assign_by : Means → Around → Place → List ℕ → Bool → Item → Plain → Result Path PathError
+    → Run Plain
 assign_by go a p d c i t (Err e) = fail_about code.BadPath p d
 assign_by go a p d c i t (Ok path) = assign_under go a p d c i t path.anchor path.terms
 
@@ -409,7 +434,8 @@ include_value including a p t _ = fail code.BadArgument p
 
 -- a statement of a structure template, over what is made so far
 unfoldable pub statement_run : Includes → Means → Around → Place → StatementForm → Plain → Run Plain
-statement_run including go a p (statement.Assign false d c i) t = assign_by go a p d c i t (path_of d)
+statement_run including go a p (statement.Assign false d c i) t =
+    assign_by go a p d c i t (path_of d)
 statement_run including go a p (statement.Include i) t = do
   v ← dml_run go a true undef i
   include_value including a p t v
@@ -429,7 +455,8 @@ included (suc n) go a p name t = do
   z ← still (structure_named a p name)
   statements_from (included n go) go (in_template (in_include a) z.name) z.statements t
 
-abbrev pub with_pair : List ℕ → Plain → Option (List (List ℕ × Plain)) → Option (List (List ℕ × Plain))
+abbrev pub with_pair : List ℕ → Plain → Option (List (List ℕ × Plain))
+    → Option (List (List ℕ × Plain))
 with_pair k v None = None
 with_pair k v (Some ps) = Some ((k, v) ∷ ps)
 
@@ -453,7 +480,8 @@ set_keys p (pair ∷ pairs) t = do
 unfoldable pub create_named : Means → Around → Place → List ℕ → List (List ℕ × Plain) → Run Plain
 create_named go a p name pairs = cond (nat_eq a.calls_left 0) (fail code.CallDepth p) (do
   z ← still (structure_named a p name)
-  t ← statements_from (included (50 - a.includes) go) go (in_template (in_create a) z.name) z.statements (dict no_fields)
+  t ← statements_from (included (50 - a.includes) go) go (in_template (in_create a) z.name)
+      z.statements (dict no_fields)
   set_keys p pairs t)
 
 abbrev pub create_by : Means → Around → Place → List ℕ → Option (List (List ℕ × Plain)) → Run Plain
@@ -488,12 +516,13 @@ as_list p undef u = give no_items
 as_list p _ u = fail code.BadArgument p
 
 abbrev pub extend_self : Around → Place → Side → Plain → Run Plain
-extend_self a p s v = cond (is_nothing v) (fail code.BadArgument p) (cond a.fixed (fail code.SelfChange p) (do
-  e ← now
-  ts ← as_list p e.self v
-  t ← or_refuse p (limited (list (extended s ts v)))
-  _ ← become (record e { self = t })
-  give t))
+extend_self a p s v =
+    cond (is_nothing v) (fail code.BadArgument p) (cond a.fixed (fail code.SelfChange p) (do
+      e ← now
+      ts ← as_list p e.self v
+      t ← or_refuse p (limited (list (extended s ts v)))
+      _ ← become (record e { self = t })
+      give t))
 
 abbrev pub file_text : Place → List ℕ → List ℕ → Run Plain
 file_text p f bs = cond (is_utf8 bs) (give (text bs)) (fail code.BadArgument p)
@@ -507,9 +536,12 @@ own_run go a p (own.Extend s) (v ∷ []) = extend_self a p s v
 own_run go a p own.Value (text t ∷ []) = still (look a p t) >>= value_found p t
 own_run go a p own.PathExists (t ∷ []) = path_exists_run a p t
 own_run go a p own.Create ts = create_run go a p ts
-own_run go a p own.IfExists (text t ∷ []) = still (looked_up a p (is_name t) t (codes ".pan")) >>= if_there (text t)
-own_run go a p own.FileContents (text t ∷ []) = still (looked_up a p (is_file_name t) t []) >>= on_bytes p t (file_text p)
-own_run go a p own.FileExists (text t ∷ []) = still (looked_up a p (is_file_name t) t []) >>= (λ x. give (boolean (is_some x)))
+own_run go a p own.IfExists (text t ∷ []) =
+    still (looked_up a p (is_name t) t (codes ".pan")) >>= if_there (text t)
+own_run go a p own.FileContents (text t ∷ []) =
+    still (looked_up a p (is_file_name t) t []) >>= on_bytes p t (file_text p)
+own_run go a p own.FileExists (text t ∷ []) =
+    still (looked_up a p (is_file_name t) t []) >>= (λ x. give (boolean (is_some x)))
 own_run go a p own.Error (text t ∷ []) = fail_about code.UserError p t
 own_run go a p own.Return (t ∷ []) = return_with t
 own_run go a p own.Ignore ts = give undef
@@ -521,10 +553,12 @@ value_or_nothing go a i (Some r) = go.reaches a ToRead (item_place i) r >>= (λ 
 value_or_nothing go a i None = go.opens a i >>= (λ t. give (Some t))
 
 abbrev pub test_run : Means → Around → Test → Item → Run Plain
-test_run go a q i = value_or_nothing go a i (reference_in i) >>= (λ t. give (boolean (passes_option q t)))
+test_run go a q i =
+    value_or_nothing go a i (reference_in i) >>= (λ t. give (boolean (passes_option q t)))
 
 abbrev pub exists_by : Means → Around → Place → Item → Option Reference → Run Plain
-exists_by go a p i (Some r) = go.reaches a ToRead (item_place i) r >>= (λ x. give (boolean (is_some x.value)))
+exists_by go a p i (Some r) =
+    go.reaches a ToRead (item_place i) r >>= (λ x. give (boolean (is_some x.value)))
 exists_by go a p i None = go.opens a i >>= path_exists_run a p
 
 -- without what was reached
@@ -539,12 +573,14 @@ delete_reached x r = do
   give undef
 
 abbrev pub delete_by : Means → Around → Place → Item → Option Reference → Run Plain
-delete_by go a p i (Some (Refer q x is)) = go.reaches a (ToDelete p) (item_place i) (Refer q x is) >>= delete_reached x
+delete_by go a p i (Some (Refer q x is)) =
+    go.reaches a (ToDelete p) (item_place i) (Refer q x is) >>= delete_reached x
 delete_by go a p i None = go.opens a i >>= (λ _. fail code.BadArgument p)
 
 -- a reference to a local, to SELF or to no name is changed; of anything else a copy is
 abbrev pub is_changed : Around → List ℕ → Env → Bool
-is_changed a x e = is_some (root_of e x) || (is_none (automatic_of x) && is_none (found a.globals x))
+is_changed a x e =
+    is_some (root_of e x) || (is_none (automatic_of x) && is_none (found a.globals x))
 
 abbrev pub copy_extended : Means → Around → Place → Side → Item → Item → Run Plain
 copy_extended go a p s l v = do
@@ -569,9 +605,12 @@ reference_extended go a p s l (Refer q x is) v = do
 
 abbrev pub extend_by : Means → Around → Place → Side → Item → Item → Option Reference → Run Plain
 extend_by go a p s l v None = copy_extended go a p s l v
-extend_by go a p s l v (Some (Refer q x is)) = now >>= (λ e. cond (is_changed a x e) (reference_extended go a p s l (Refer q x is) v) (copy_extended go a p s l v))
+extend_by go a p s l v (Some (Refer q x is)) = now
+    >>= (λ e. cond (is_changed a x e) (reference_extended go a p s l (Refer q x is) v)
+    (copy_extended go a p s l v))
 
--- a built-in function that looks at more than values: those that take references look at how an argument is written
+-- a built-in function that looks at more than values: those that take references look at how an
+-- argument is written
 unfoldable pub own_call_run : Means → Around → Place → Own → Items → Run Plain
 own_call_run go a p (own.Is q) (more i none) = test_run go a q i
 own_call_run go a p own.Exists (more i none) = exists_by go a p i (reference_in i)
@@ -584,7 +623,8 @@ abbrev pub values_run : Means → Around → Place → ValueCall → Items → R
 values_run go a p v args = values_from go a args [] >>= (λ ts. or_refuse p (value_called v ts))
 
 -- a call, by what its name names
-unfoldable pub call_by : Means → Around → Place → List ℕ → Items → Option Own → Option ValueCall → Run Plain
+unfoldable pub call_by : Means → Around → Place → List ℕ → Items → Option Own → Option ValueCall
+    → Run Plain
 call_by go a p f args (Some b) v = own_call_run go a p b args
 call_by go a p f args None (Some v) = values_run go a p v args
 call_by go a p f args None None = function_run go a p f args (found_function a.functions f)

@@ -111,10 +111,18 @@ small (file f) n = missing
 small (object p) n = small_object n
 
 abbrev pub runner : Runner Key Content End
-runner = record { build = build; seen = seen; circular = circular_at; is_circular = is_circle; nowhere = circle; limit = 3 }
+runner = record {
+  build = build;
+  seen = seen;
+  circular = circular_at;
+  is_circular = is_circle;
+  nowhere = circle;
+  limit = 3;
+}
 
 abbrev pub keeping : Keeping Key Content End End
-keeping = record { keep = λ e. e; seen = seen; grade = grade; same = same; names = names; small = small }
+keeping =
+    record { keep = λ e. e; seen = seen; grade = grade; same = same; names = names; small = small }
 
 -- a check asks for the object's own file
 abbrev pub judge : Judge Key Content End ℕ
@@ -165,7 +173,23 @@ joined [] ys = ys
 joined (x ∷ xs) ys = x ∷ joined xs ys
 
 abbrev pub begin : Situation Key Content End End ℕ
-begin = record { picture = picture []; state = record { counter = 3; number = λ k. 0; last = λ o. None; reads = λ o. None; checked = λ o. None; open_build = λ o. true; open_check = λ o. true; held = λ o. None; chain = []; checking = None; runs = λ o. false; why = λ o. NotRun } }
+begin = record {
+  picture = picture [];
+  state = record {
+    counter = 3;
+    number = λ k. 0;
+    last = λ o. None;
+    reads = λ o. None;
+    checked = λ o. None;
+    open_build = λ o. true;
+    open_check = λ o. true;
+    held = λ o. None;
+    chain = [];
+    checking = None;
+    runs = λ o. false;
+    why = λ o. NotRun;
+  };
+}
 
 abbrev pub state_after : List (Event Key Content) → State Key End End ℕ
 state_after events = (after runner keeping judge begin events).state

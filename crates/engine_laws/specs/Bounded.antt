@@ -11,10 +11,12 @@ go_on (Asks k) ask = ask k
 -- a run that is told these contents, through at most n questions
 abbrev pub answered : {K C R : Type 0} → Runner K C R → (K → C) → Name → ℕ → List (K × C) → R
 answered run tell o zero asked = run.nowhere
-answered run tell o (suc n) asked = go_on (run.build o asked) (λ k. answered run tell o n ((k, tell k) ∷ asked))
+answered run tell o (suc n) asked =
+    go_on (run.build o asked) (λ k. answered run tell o n ((k, tell k) ∷ asked))
 
 -- the content of a key, where the objects' builds ended so
-abbrev pub content_at : {K C R : Type 0} → Runner K C R → Picture K C → (Name → R) → K → Option Name → C
+abbrev pub content_at : {K C R : Type 0} → Runner K C R → Picture K C → (Name → R) → K → Option Name
+    → C
 content_at run w ends k None = w.told k
 content_at run w ends k (Some p) = run.seen k (ends p)
 

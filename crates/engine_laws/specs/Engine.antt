@@ -136,7 +136,11 @@ module _ {K C R S F : Type 0} (run : Runner K C R) (kp : Keeping K C R S) (w : P
 
   -- the part settles with what is kept
   abbrev pub kept_on : State K R S F → Name → List Name → State K R S F
-  kept_on s o rest = record s { open_build = put s.open_build o false; chain = rest; why = put s.why o (why_kept (s.runs o) (s.why o)) }
+  kept_on s o rest = record s {
+    open_build = put s.open_build o false;
+    chain = rest;
+    why = put s.why o (why_kept (s.runs o) (s.why o));
+  }
 
   -- the part settles with what a run gave, under this number
   abbrev pub settled_at : State K R S F → Name → List Name → List (K × ℕ) → R → ℕ → State K R S F
@@ -152,11 +156,17 @@ module _ {K C R S F : Type 0} (run : Runner K C R) (kp : Keeping K C R S) (w : P
       }
 
   abbrev pub settled_on : State K R S F → Name → List Name → List (K × ℕ) → R → State K R S F
-  settled_on s o rest items r = settled_at s o rest items r (number_by run kp (kp.grade (kp.keep r)) s.counter (kp.keep r) (s.last o))
+  settled_on s o rest items r = settled_at s o rest items r
+      (number_by run kp (kp.grade (kp.keep r)) s.counter (kp.keep r) (s.last o))
 
   -- the record is dropped, and the name is run for this cause
   abbrev pub dropped : State K R S F → Name → Why K → State K R S F
-  dropped s o y = record s { reads = put s.reads o None; checked = put s.checked o None; runs = put s.runs o true; why = put s.why o y }
+  dropped s o y = record s {
+    reads = put s.reads o None;
+    checked = put s.checked o None;
+    runs = put s.runs o true;
+    why = put s.why o y;
+  }
 
   abbrev pub after_run : State K R S F → Name → List Name → Ran K R → State K R S F
   after_run s o rest (Finished items r) = settled_on s o rest items r
@@ -187,10 +197,15 @@ module _ {K C R S F : Type 0} (run : Runner K C R) (kp : Keeping K C R S) (w : P
   abbrev pub build_turn : State K R S F → State K R S F
   build_turn s = build_turn_at s s.chain
 
-module _ {K C R S F : Type 0} (run : Runner K C R) (kp : Keeping K C R S) (jd : Judge K C R F) (w : Picture K C) where
+module _ {K C R S F : Type 0} (run : Runner K C R) (kp : Keeping K C R S) (jd : Judge K C R F)
+    (w : Picture K C) where
   -- the check part settles with this trace and verdict
   abbrev pub judged : State K R S F → Name → List (K × ℕ) → F → State K R S F
-  judged s o items f = record s { checked = put s.checked o (Some (items, f)); open_check = put s.open_check o false; held = put s.held o None }
+  judged s o items f = record s {
+    checked = put s.checked o (Some (items, f));
+    open_check = put s.open_check o false;
+    held = put s.held o None;
+  }
 
   -- it settles with what is kept
   abbrev pub judged_kept : State K R S F → Name → State K R S F
@@ -220,7 +235,8 @@ module _ {K C R S F : Type 0} (run : Runner K C R) (kp : Keeping K C R S) (jd : 
 
   -- the name is run for this cause, unless it was run before
   abbrev pub entered : State K R S F → Name → Why K → State K R S F
-  entered s o y = record s { runs = put s.runs o true; why = put s.why o (why_checked (s.runs o) (s.why o) y) }
+  entered s o y =
+      record s { runs = put s.runs o true; why = put s.why o (why_checked (s.runs o) (s.why o) y) }
 
   abbrev pub run_check_turn : State K R S F → Name → Why K → State K R S F
   run_check_turn s o y = check_held (entered s o y) o (s.held o)
@@ -266,7 +282,8 @@ module _ {K C R S F : Type 0} (run : Runner K C R) (kp : Keeping K C R S) (jd : 
   abbrev pub turn : State K R S F → State K R S F
   turn s = turn_at s s.checking
 
--- a Take: the numbers after it are handed in, and what was kept of a name that is no object now is dropped
+-- a Take: the numbers after it are handed in, and what was kept of a name that is no object now is
+-- dropped
 abbrev pub if_object : {A : Type 0} → List Name → (Name → Option A) → Name → Option A
 if_object objects f p = cond (is_among p objects) (f p) None
 
@@ -286,13 +303,15 @@ taken w number counter s = record {
   why = λ p. cond (is_among p w.objects) (s.why p) NotRun;
 }
 
-pub record KeepLaws {K C R S : Type 0} (run : Runner K C R) (kp : Keeping K C R S) (w : Picture K C) : Type 0 where
+pub record KeepLaws {K C R S : Type 0} (run : Runner K C R) (kp : Keeping K C R S)
+    (w : Picture K C) : Type 0 where
   pub seen_kept : (k : K) (r : R) → run.seen k r ≡ kp.seen k (kp.keep r)
   pub circle_kept : (r : R) → run.is_circular r ≡ true → kp.grade (kp.keep r) ≡ Circle
   pub kept_circle : (r : R) → kp.grade (kp.keep r) ≡ Circle → run.is_circular r ≡ true
   pub same_is : (t u : S) → kp.same t u ≡ true → t ≡ u
   pub names_target : (k : K) (p : Name) → w.target k ≡ Some p → kp.names k ≡ Some p
-  pub small_one : (k : K) (p : Name) (t : S) → kp.names k ≡ Some p → kp.grade t ≡ Failure → kp.small k 1 ≡ kp.seen k t
+  pub small_one : (k : K) (p : Name) (t : S) → kp.names k ≡ Some p → kp.grade t ≡ Failure
+      → kp.small k 1 ≡ kp.seen k t
   pub small_two : (k : K) (p : Name) → kp.names k ≡ Some p → kp.small k 2 ≡ run.circular k
 
 abbrev pub one_if : Bool → ℕ
@@ -313,13 +332,18 @@ on_chain s = length s.chain + if_checking s.checking
 
 -- twice the unsettled parts less the chain's length
 abbrev pub turns_left : {K R S F : Type 0} → List Name → State K R S F → ℕ
-turns_left objects s = 2 * (how_many s.open_build objects + how_many s.open_check objects) - on_chain s
+turns_left objects s =
+    2 * (how_many s.open_build objects + how_many s.open_check objects) - on_chain s
 
--- numbers after a Take: a fixed content has its small number, the same content keeps its number, and another draws
-pub record AreNumbered {K C R S : Type 0} (kp : Keeping K C R S) (w w' : Picture K C) (number number' : K → ℕ) (counter counter' : ℕ) : Type 0 where
+-- numbers after a Take: a fixed content has its small number, the same content keeps its number,
+-- and another draws
+pub record AreNumbered {K C R S : Type 0} (kp : Keeping K C R S) (w w' : Picture K C)
+    (number number' : K → ℕ) (counter counter' : ℕ) : Type 0 where
   pub up : counter ≤ counter'
   pub low : (k : K) → number' k < counter'
-  pub each : (k : K) → w'.target k ≡ None → (counter ≤ number' k) ⊎ ((w.target k ≡ None) × (number' k ≡ number k) × (w'.told k ≡ w.told k)) ⊎ ((number' k < 3) × (kp.small k (number' k) ≡ w'.told k))
+  pub each : (k : K) → w'.target k ≡ None → (counter ≤ number' k)
+      ⊎ ((w.target k ≡ None) × (number' k ≡ number k) × (w'.told k ≡ w.told k))
+      ⊎ ((number' k < 3) × (kp.small k (number' k) ≡ w'.told k))
 
 pub data Event (K C : Type 0) : Type 0 where
   Take : (picture : Picture K C) (number : K → ℕ) (counter : ℕ) → Event K C
@@ -341,7 +365,8 @@ module _ {K C R S F : Type 0} (run : Runner K C R) (kp : Keeping K C R S) (jd : 
   after x (e ∷ es) = after (happens x e) es
 
   abbrev pub IsAllowed : Situation K C R S F → Event K C → Type 0
-  IsAllowed x (Take w number counter) = Laws run w × KeepLaws run kp w × AreNumbered kp x.picture w x.state.number number x.state.counter counter
+  IsAllowed x (Take w number counter) = Laws run w × KeepLaws run kp w
+      × AreNumbered kp x.picture w x.state.number number x.state.counter counter
   IsAllowed x Turn = Unit {0}
   IsAllowed x Forget = (o : Name) → IsIn o x.picture.objects → x.state.open_build o ≡ false
 
@@ -367,35 +392,59 @@ module _ {K C R S F : Type 0} (run : Runner K C R) (kp : Keeping K C R S) (jd : 
   -- the number is the present one of this key, or the key asks for a circular object
   abbrev pub IsPresentAt : Situation K C R S F → K → ℕ → Option Name → Type 0
   IsPresentAt x k n None = n ≡ x.state.number k
-  IsPresentAt x k n (Some p) = ((x.state.open_build p ≡ false) × (t : S) × (x.state.last p ≡ Some (n, t))) ⊎ ((n ≡ 2) × (run.is_circular (built run x.picture p) ≡ true))
+  IsPresentAt x k n (Some p) = ((x.state.open_build p ≡ false) × (t : S)
+      × (x.state.last p ≡ Some (n, t))) ⊎ ((n ≡ 2)
+      × (run.is_circular (built run x.picture p) ≡ true))
 
   -- these items are those of the run with the true contents, which gives this end
-  abbrev pub AreReads : {X : Type 0} → Situation K C R S F → (List (K × C) → Answer K X) → List (K × C) → List (K × ℕ) → X → Type 0
+  abbrev pub AreReads : {X : Type 0} → Situation K C R S F → (List (K × C) → Answer K X)
+      → List (K × C) → List (K × ℕ) → X → Type 0
   AreReads x ask asked [] end = ask asked ≡ Ends end
-  AreReads x ask asked (q ∷ items) end = (ask asked ≡ Asks q.0) × IsPresentAt x q.0 q.1 (x.picture.target q.0) × AreReads x ask ((q.0, content run x.picture q.0) ∷ asked) items end
+  AreReads x ask asked (q ∷ items) end = (ask asked ≡ Asks q.0)
+      × IsPresentAt x q.0 q.1 (x.picture.target q.0)
+      × AreReads x ask ((q.0, content run x.picture q.0) ∷ asked) items end
 
   -- what is settled is what the recursion from scratch gives
   pub record IsFromScratch (x : Situation K C R S F) : Type 0 where
-    pub builds : (o : Name) → IsIn o x.picture.objects → x.state.open_build o ≡ false → (n : ℕ) × (x.state.last o ≡ Some (n, kp.keep (built run x.picture o))) × (items : List (K × ℕ)) × (x.state.reads o ≡ Some items) × AreReads x (run.build o) [] items (built run x.picture o)
-    pub checks : (o : Name) → IsIn o x.picture.objects → x.state.open_check o ≡ false → (items : List (K × ℕ)) × (f : F) × (x.state.checked o ≡ Some (items, f)) × (kp.grade (kp.keep (built run x.picture o)) ≡ Whole → AreReads x (jd.check (built run x.picture o)) [] items f)
+    pub builds : (o : Name) → IsIn o x.picture.objects → x.state.open_build o ≡ false
+        → (n : ℕ) × (x.state.last o ≡ Some (n, kp.keep (built run x.picture o)))
+        × (items : List (K × ℕ)) × (x.state.reads o ≡ Some items)
+        × AreReads x (run.build o) [] items (built run x.picture o)
+    pub checks : (o : Name) → IsIn o x.picture.objects → x.state.open_check o ≡ false
+        → (items : List (K × ℕ)) × (f : F) × (x.state.checked o ≡ Some (items, f))
+        × (kp.grade (kp.keep (built run x.picture o)) ≡ Whole
+        → AreReads x (jd.check (built run x.picture o)) [] items f)
     -- an object found on the chain below the top is circular, where the top's true run asks for it
-    pub circles : (o p : Name) (rest : List Name) (asked : List (K × C)) (k : K) → x.state.chain ≡ o ∷ rest → is_among p x.state.chain ≡ true → IsTrail (run.build o) (content run x.picture) asked → run.build o asked ≡ Asks k → x.picture.target k ≡ Some p → run.is_circular (built run x.picture p) ≡ true
+    pub circles : (o p : Name) (rest : List Name) (asked : List (K × C)) (k : K)
+        → x.state.chain ≡ o ∷ rest → is_among p x.state.chain ≡ true
+        → IsTrail (run.build o) (content run x.picture) asked → run.build o asked ≡ Asks k
+        → x.picture.target k ≡ Some p → run.is_circular (built run x.picture p) ≡ true
 
-  -- the content for which a live item stands: a small number's, or the present one where its number is the present one
+  -- the content for which a live item stands: a small number's, or the present one where its number
+  -- is the present one
   abbrev pub StandsFor : Situation K C R S F → K → ℕ → C → Type 0
-  StandsFor x k n c = ((n < 3) × (c ≡ kp.small k n)) ⊎ ((x.picture.target k ≡ None) × (n ≡ x.state.number k) × (c ≡ x.picture.told k)) ⊎ ((p : Name) × (t : S) × (x.picture.target k ≡ Some p) × (x.state.last p ≡ Some (n, t)) × (c ≡ kp.seen k t))
+  StandsFor x k n c = ((n < 3) × (c ≡ kp.small k n))
+      ⊎ ((x.picture.target k ≡ None) × (n ≡ x.state.number k) × (c ≡ x.picture.told k))
+      ⊎ ((p : Name) × (t : S) × (x.picture.target k ≡ Some p) × (x.state.last p ≡ Some (n, t))
+      × (c ≡ kp.seen k t))
 
   -- while its items are live, a run asks the keys of a record, and ends as it says
-  abbrev pub IsLiveRun : {X : Type 0} → Situation K C R S F → (List (K × C) → Answer K X) → List (K × C) → List (K × ℕ) → X → Type 0
+  abbrev pub IsLiveRun : {X : Type 0} → Situation K C R S F → (List (K × C) → Answer K X)
+      → List (K × C) → List (K × ℕ) → X → Type 0
   IsLiveRun x ask asked [] end = ask asked ≡ Ends end
-  IsLiveRun x ask asked (q ∷ items) end = (ask asked ≡ Asks q.0) × ((c : C) → StandsFor x q.0 q.1 c → IsLiveRun x ask ((q.0, c) ∷ asked) items end)
+  IsLiveRun x ask asked (q ∷ items) end = (ask asked ≡ Asks q.0)
+      × ((c : C) → StandsFor x q.0 q.1 c → IsLiveRun x ask ((q.0, c) ∷ asked) items end)
 
   -- every record's build part is sound, and its numbers are below the counter
-  pub record IsSoundRecord (x : Situation K C R S F) (o : Name) (items : List (K × ℕ)) : Type 0 where
-    pub num : ℕ
-    pub end : R
-    pub is_last : x.state.last o ≡ Some (num, kp.keep end)
-    pub live : IsLiveRun x (run.build o) [] items end
+  pub record IsSoundRecord (x : Situation K C R S F) (o : Name) (items : List (K × ℕ)) : Type 0
+    where
+      pub num : ℕ
+      pub end : R
+      pub is_last : x.state.last o ≡ Some (num, kp.keep end)
+      pub live : IsLiveRun x (run.build o) [] items end
 
   abbrev pub IsIncremental : Type 0
-  IsIncremental = (x : Situation K C R S F) (events : List (Event K C)) → IsNew x → AreAllowed x events → IsFromScratch (after x events) × ((o : Name) (items : List (K × ℕ)) → (after x events).state.reads o ≡ Some items → IsSoundRecord (after x events) o items)
+  IsIncremental = (x : Situation K C R S F) (events : List (Event K C)) → IsNew x
+      → AreAllowed x events → IsFromScratch (after x events)
+      × ((o : Name) (items : List (K × ℕ)) → (after x events).state.reads o ≡ Some items
+      → IsSoundRecord (after x events) o items)

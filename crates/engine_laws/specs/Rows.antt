@@ -18,25 +18,42 @@ IsOnce [] = Unit {0}
 IsOnce (x ∷ xs) = (IsIn x xs → ⊥) × IsOnce xs
 
 -- each object stands once, and no trail asks for as many keys as the limit
-pub record EndsSoon {K C R F : Type 0} (run : Runner K C R) (jd : Judge K C R F) (w : Picture K C) : Type 0 where
+pub record EndsSoon {K C R F : Type 0} (run : Runner K C R) (jd : Judge K C R F)
+    (w : Picture K C) : Type 0 where
   pub once : IsOnce w.objects
   pub room : 0 < run.limit
-  pub builds : (o : Name) (asked : List (K × C)) (k : K) → IsTrail (run.build o) (content run w) asked → run.build o asked ≡ Asks k → length asked + 1 < run.limit
-  pub checks : (v : R) (asked : List (K × C)) (k : K) → IsTrail (jd.check v) (content run w) asked → jd.check v asked ≡ Asks k → length asked + 1 < run.limit
+  pub builds : (o : Name) (asked : List (K × C)) (k : K)
+      → IsTrail (run.build o) (content run w) asked → run.build o asked ≡ Asks k
+      → length asked + 1 < run.limit
+  pub checks : (v : R) (asked : List (K × C)) (k : K) → IsTrail (jd.check v) (content run w) asked
+      → jd.check v asked ≡ Asks k → length asked + 1 < run.limit
 
 module _ {K C R S F : Type 0} (run : Runner K C R) (kp : Keeping K C R S) (jd : Judge K C R F) where
   pub record AreSoundRows (x : Situation K C R S F) : Type 0 where
     pub laws : Laws run x.picture
     pub keep_laws : KeepLaws run kp x.picture
-    pub named : (k : K) (p : Name) → kp.names k ≡ Some p → IsIn p x.picture.objects → x.picture.target k ≡ Some p
+    pub named : (k : K) (p : Name) → kp.names k ≡ Some p → IsIn p x.picture.objects
+        → x.picture.target k ≡ Some p
     pub three : 3 ≤ x.state.counter
     pub low : (k : K) → x.state.number k < x.state.counter
-    pub numbers : (k : K) → x.picture.target k ≡ None → ((x.state.number k < 3) × (kp.small k (x.state.number k) ≡ x.picture.told k)) ⊎ (3 ≤ x.state.number k)
-    pub results : (p : Name) (n : ℕ) (t : S) → x.state.last p ≡ Some (n, t) → (n < x.state.counter) × IsGraded n (kp.grade t) × IsIn p x.picture.objects × (t ≡ kp.keep (built run x.picture p))
-    pub has : (o : Name) → IsIn o x.picture.objects → (n : ℕ) × (x.state.last o ≡ Some (n, kp.keep (built run x.picture o)))
-    pub builds : (o : Name) → IsIn o x.picture.objects → (items : List (K × ℕ)) × (x.state.reads o ≡ Some items) × AreReads run kp jd x (run.build o) [] items (built run x.picture o)
-    pub only : (o : Name) (items : List (K × ℕ)) → x.state.reads o ≡ Some items → IsIn o x.picture.objects
-    pub checks : (o : Name) → IsIn o x.picture.objects → (items : List (K × ℕ)) × (f : F) × (x.state.checked o ≡ Some (items, f)) × (kp.grade (kp.keep (built run x.picture o)) ≡ Whole → AreReads run kp jd x (jd.check (built run x.picture o)) [] items f) × ((kp.grade (kp.keep (built run x.picture o)) ≡ Whole → ⊥) → items ≡ [])
+    pub numbers : (k : K) → x.picture.target k ≡ None
+        → ((x.state.number k < 3) × (kp.small k (x.state.number k) ≡ x.picture.told k))
+        ⊎ (3 ≤ x.state.number k)
+    pub results : (p : Name) (n : ℕ) (t : S) → x.state.last p ≡ Some (n, t)
+        → (n < x.state.counter) × IsGraded n (kp.grade t) × IsIn p x.picture.objects
+        × (t ≡ kp.keep (built run x.picture p))
+    pub has : (o : Name) → IsIn o x.picture.objects
+        → (n : ℕ) × (x.state.last o ≡ Some (n, kp.keep (built run x.picture o)))
+    pub builds : (o : Name) → IsIn o x.picture.objects
+        → (items : List (K × ℕ)) × (x.state.reads o ≡ Some items)
+        × AreReads run kp jd x (run.build o) [] items (built run x.picture o)
+    pub only : (o : Name) (items : List (K × ℕ)) → x.state.reads o ≡ Some items
+        → IsIn o x.picture.objects
+    pub checks : (o : Name) → IsIn o x.picture.objects
+        → (items : List (K × ℕ)) × (f : F) × (x.state.checked o ≡ Some (items, f))
+        × (kp.grade (kp.keep (built run x.picture o)) ≡ Whole
+        → AreReads run kp jd x (jd.check (built run x.picture o)) [] items f)
+        × ((kp.grade (kp.keep (built run x.picture o)) ≡ Whole → ⊥) → items ≡ [])
     pub settled : (o : Name) → x.state.open_build o ≡ false
     pub no_held : (o : Name) → x.state.held o ≡ None
     pub no_chain : x.state.chain ≡ []
@@ -46,8 +63,13 @@ module _ {K C R S F : Type 0} (run : Runner K C R) (kp : Keeping K C R S) (jd : 
 
   -- with sound rows handed in, what is settled is from scratch after any events
   abbrev pub IsIncrementalFromRows : Type 0
-  IsIncrementalFromRows = (x : Situation K C R S F) (events : List (Event K C)) → AreSoundRows x → AreAllowed run kp jd x events → IsFromScratch run kp jd (after run kp jd x events)
+  IsIncrementalFromRows = (x : Situation K C R S F) (events : List (Event K C)) → AreSoundRows x
+      → AreAllowed run kp jd x events → IsFromScratch run kp jd (after run kp jd x events)
 
   -- each turn leaves one turn fewer, or nothing was to be done
   abbrev pub IsOneFewer : Type 0
-  IsOneFewer = (x : Situation K C R S F) (events : List (Event K C)) → AreSoundRows x → AreAllowed run kp jd x events → let y = after run kp jd x events in EndsSoon run jd y.picture → (turns_left y.picture.objects (turn run kp jd y.picture y.state) + 1 ≡ turns_left y.picture.objects y.state) ⊎ ((turn run kp jd y.picture y.state ≡ y.state) × (turns_left y.picture.objects y.state ≡ 0))
+  IsOneFewer = (x : Situation K C R S F) (events : List (Event K C)) → AreSoundRows x
+      → AreAllowed run kp jd x events → let y = after run kp jd x events
+      in EndsSoon run jd y.picture → (turns_left y.picture.objects
+      (turn run kp jd y.picture y.state) + 1 ≡ turns_left y.picture.objects y.state)
+      ⊎ ((turn run kp jd y.picture y.state ≡ y.state) × (turns_left y.picture.objects y.state ≡ 0))

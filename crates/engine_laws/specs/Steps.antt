@@ -13,8 +13,10 @@ pub record Costs (K C R : Type 0) : Type 0 where
   pub check : R → List (K × C) → ℕ
 
 -- what is told of a question only adds to the work, and no true run asks more keys than this
-pub record CostLaws {K C X : Type 0} (ask : List (K × C) → Answer K X) (cost : List (K × C) → ℕ) (tell : K → C) (most : ℕ) : Type 0 where
-  pub grows : (asked : List (K × C)) (k : K) → IsTrail ask tell asked → ask asked ≡ Asks k → cost asked ≤ cost ((k, tell k) ∷ asked)
+pub record CostLaws {K C X : Type 0} (ask : List (K × C) → Answer K X) (cost : List (K × C)
+    → ℕ) (tell : K → C) (most : ℕ) : Type 0 where
+  pub grows : (asked : List (K × C)) (k : K) → IsTrail ask tell asked → ask asked ≡ Asks k
+      → cost asked ≤ cost ((k, tell k) ∷ asked)
   pub short : (asked : List (K × C)) → IsTrail ask tell asked → length asked ≤ most
 
 abbrev pub looked_on : {C : Type 0} → Word C → ℕ → ℕ → ℕ
@@ -26,7 +28,8 @@ abbrev pub looked : {K C : Type 0} → (K → Word C) → List (K × ℕ) → �
 looked tells [] = 0
 looked tells (q ∷ items) = looked_on (tells q.0) q.1 (looked tells items)
 
-abbrev pub next_told : {K C R : Type 0} → Answer K R → List (K × C) → (K → List (K × C)) → List (K × C)
+abbrev pub next_told : {K C R : Type 0} → Answer K R → List (K × C) → (K → List (K × C))
+    → List (K × C)
 next_told (Ends r) asked go = asked
 next_told (Asks k) asked go = go k
 
@@ -57,7 +60,8 @@ abbrev pub if_run : Bool → ℕ → ℕ
 if_run true n = n
 if_run false n = 0
 
-module _ {K C R S F : Type 0} (run : Runner K C R) (kp : Keeping K C R S) (jd : Judge K C R F) (cost : Costs K C R) (w : Picture K C) where
+module _ {K C R S F : Type 0} (run : Runner K C R) (kp : Keeping K C R S) (jd : Judge K C R F)
+    (cost : Costs K C R) (w : Picture K C) where
   -- one run of the build, or of the check of a value
   abbrev pub build_work : State K R S F → Name → Work
   build_work s o = (1, cost.build o (told_in (run.build o) (tells run kp w s) run.limit []))
@@ -72,7 +76,8 @@ module _ {K C R S F : Type 0} (run : Runner K C R) (kp : Keeping K C R S) (jd : 
 
   abbrev pub record_work : State K R S F → Name → Option (List (K × ℕ)) → Work
   record_work s o None = build_work s o
-  record_work s o (Some items) = both_of (0, looked (tells run kp w s) items) (compared_work s o (compared (tells run kp w s) items))
+  record_work s o (Some items) = both_of (0, looked (tells run kp w s) items)
+      (compared_work s o (compared (tells run kp w s) items))
 
   -- a check after a second build
   abbrev pub value_work : State K R S F → R → Grade → Work
@@ -87,7 +92,8 @@ module _ {K C R S F : Type 0} (run : Runner K C R) (kp : Keeping K C R S) (jd : 
 
   abbrev pub held_work : State K R S F → Name → Option R → Work
   held_work s o (Some v) = check_work s v
-  held_work s o None = both_of (build_work s o) (rebuilt_work s (ran (run.build o) (tells run kp w s) run.limit []))
+  held_work s o None =
+      both_of (build_work s o) (rebuilt_work s (ran (run.build o) (tells run kp w s) run.limit []))
 
   abbrev pub check_compared_work : State K R S F → Name → Compared K → Work
   check_compared_work s o AllEqual = nothing
@@ -96,7 +102,8 @@ module _ {K C R S F : Type 0} (run : Runner K C R) (kp : Keeping K C R S) (jd : 
 
   abbrev pub checked_work : State K R S F → Name → Option (List (K × ℕ) × F) → Work
   checked_work s o None = held_work s o (s.held o)
-  checked_work s o (Some q) = both_of (0, looked (tells run kp w s) q.0) (check_compared_work s o (compared (tells run kp w s) q.0))
+  checked_work s o (Some q) = both_of (0, looked (tells run kp w s) q.0)
+      (check_compared_work s o (compared (tells run kp w s) q.0))
 
   abbrev pub graded_work : State K R S F → Name → Grade → Work
   graded_work s o Whole = checked_work s o (s.checked o)
@@ -173,18 +180,24 @@ module _ {K C R S F : Type 0} (run : Runner K C R) (kp : Keeping K C R S) (jd : 
 
   -- what a run of an object may cost at most
   abbrev pub run_bound : Name → ℕ
-  run_bound o = (1 + asks_objects (true_answers (run.build o))) * (cost.build o (true_answers (run.build o)) + if_whole (kp.grade (kp.keep (built run w o))) (cost.check (built run w o) (true_answers (jd.check (built run w o)))))
+  run_bound o = (1 + asks_objects (true_answers (run.build o)))
+      * (cost.build o (true_answers (run.build o))
+      + if_whole (kp.grade (kp.keep (built run w o)))
+      (cost.check (built run w o) (true_answers (jd.check (built run w o)))))
 
-module _ {K C R S F : Type 0} (run : Runner K C R) (kp : Keeping K C R S) (jd : Judge K C R F) (cost : Costs K C R) where
+module _ {K C R S F : Type 0} (run : Runner K C R) (kp : Keeping K C R S) (jd : Judge K C R F)
+    (cost : Costs K C R) where
   -- the steps of n turns
   abbrev pub turns_steps : ℕ → Situation K C R S F → ℕ
   turns_steps zero x = 0
-  turns_steps (suc n) x = (turn_work run kp jd cost x.picture x.state).1 + turns_steps n (happens run kp jd x Turn)
+  turns_steps (suc n) x =
+      (turn_work run kp jd cost x.picture x.state).1 + turns_steps n (happens run kp jd x Turn)
 
   -- the names that n turns run, and those before
   abbrev pub run_in_turns : ℕ → Situation K C R S F → (Name → Bool) → Name → Bool
   run_in_turns zero x have_run = have_run
-  run_in_turns (suc n) x have_run = run_in_turns n (happens run kp jd x Turn) (run_after run kp jd cost x.picture x.state have_run)
+  run_in_turns (suc n) x have_run = run_in_turns n (happens run kp jd x Turn)
+      (run_after run kp jd cost x.picture x.state have_run)
 
   abbrev pub after_turns : ℕ → Situation K C R S F → Situation K C R S F
   after_turns zero x = x
@@ -198,4 +211,10 @@ module _ {K C R S F : Type 0} (run : Runner K C R) (kp : Keeping K C R S) (jd : 
 
   -- the steps of the turns after a Take: at most the records' and the runs' bounds
   abbrev pub IsBounded : Type 0
-  IsBounded = (x : Situation K C R S F) → IsReached run kp jd x → (w : Picture K C) (number : K → ℕ) (counter n most : ℕ) → IsAllowed run kp jd x (Take w number counter) → AreCosts w most → let z0 = happens run kp jd x (Take w number counter) in turns_steps n z0 ≤ sum_of (record_bound run kp jd cost w z0.state) w.objects + sum_of (λ o. if_run (run_in_turns n z0 (λ p. false) o) (run_bound run kp jd cost w o)) w.objects
+  IsBounded = (x : Situation K C R S F) → IsReached run kp jd x
+      → (w : Picture K C) (number : K → ℕ) (counter n most : ℕ)
+      → IsAllowed run kp jd x (Take w number counter) → AreCosts w most
+      → let z0 = happens run kp jd x (Take w number counter)
+      in turns_steps n z0 ≤ sum_of (record_bound run kp jd cost w z0.state) w.objects
+      + sum_of (λ o. if_run (run_in_turns n z0 (λ p. false) o) (run_bound run kp jd cost w o))
+      w.objects

@@ -30,7 +30,14 @@ abbrev pub two_target : Bool → Option Name
 two_target k = Some (named k)
 
 abbrev pub runner : Runner Bool Bool Bool
-runner = record { build = asks_other; seen = λ k r. r; circular = λ k. true; is_circular = λ r. r; nowhere = true; limit = 5 }
+runner = record {
+  build = asks_other;
+  seen = λ k r. r;
+  circular = λ k. true;
+  is_circular = λ r. r;
+  nowhere = true;
+  limit = 5;
+}
 
 abbrev pub grade_of : Bool → Grade
 grade_of true = Circle
@@ -43,7 +50,14 @@ is_two (suc (suc zero)) = true
 is_two (suc (suc (suc n))) = false
 
 abbrev pub keeping : Keeping Bool Bool Bool Bool
-keeping = record { keep = λ r. r; seen = λ k r. r; grade = grade_of; same = λ a b. false; names = two_target; small = λ k n. is_two n }
+keeping = record {
+  keep = λ r. r;
+  seen = λ k r. r;
+  grade = grade_of;
+  same = λ a b. false;
+  names = two_target;
+  small = λ k n. is_two n;
+}
 
 abbrev pub judge : Judge Bool Bool Bool ℕ
 judge = record { check = λ v asked. Ends 0; none = 0; fault = λ r. 1 }
@@ -55,7 +69,20 @@ abbrev pub two_picture : Picture Bool Bool
 two_picture = record { objects = first ∷ second ∷ []; target = two_target; told = λ k. false }
 
 abbrev pub new_state : State Bool Bool Bool ℕ
-new_state = record { counter = 3; number = λ k. 0; last = λ o. None; reads = λ o. None; checked = λ o. None; open_build = λ o. false; open_check = λ o. false; held = λ o. None; chain = []; checking = None; runs = λ o. false; why = λ o. NotRun }
+new_state = record {
+  counter = 3;
+  number = λ k. 0;
+  last = λ o. None;
+  reads = λ o. None;
+  checked = λ o. None;
+  open_build = λ o. false;
+  open_check = λ o. false;
+  held = λ o. None;
+  chain = [];
+  checking = None;
+  runs = λ o. false;
+  why = λ o. NotRun;
+}
 
 abbrev pub begin : Situation Bool Bool Bool Bool ℕ
 begin = record { picture = empty_picture; state = new_state }
@@ -68,4 +95,8 @@ abbrev pub costs : Costs Bool Bool Bool
 costs = record { build = λ o asked. length asked; check = λ v asked. 0 }
 
 abbrev pub IsInstance : Type 0
-IsInstance = IsNew runner keeping judge begin × AreAllowed runner keeping judge begin two_events × ((after runner keeping judge begin two_events).state.last first ≡ Some (2, true)) × ((after runner keeping judge begin two_events).state.last second ≡ Some (2, true)) × ((after runner keeping judge begin two_events).state.chain ≡ []) × AreCosts runner keeping judge costs two_picture 1
+IsInstance = IsNew runner keeping judge begin × AreAllowed runner keeping judge begin two_events
+    × ((after runner keeping judge begin two_events).state.last first ≡ Some (2, true))
+    × ((after runner keeping judge begin two_events).state.last second ≡ Some (2, true))
+    × ((after runner keeping judge begin two_events).state.chain ≡ [])
+    × AreCosts runner keeping judge costs two_picture 1

@@ -22,27 +22,32 @@ pub fn settled<K, C, R>()
 
 /// After any events what is settled is what the recursion from scratch gives.
 pub fn incremental<K, C, R, S, F>()
-    ensures { (run : Runner K C R) (keeping : Keeping K C R S) (judge : Judge K C R F) → IsIncremental run keeping judge }
+    ensures { (run : Runner K C R) (keeping : Keeping K C R S) (judge : Judge K C R F)
+        → IsIncremental run keeping judge }
 {}
 
 /// The same after a restore from sound rows.
 pub fn incremental_from_rows<K, C, R, S, F>()
-    ensures { (run : Runner K C R) (keeping : Keeping K C R S) (judge : Judge K C R F) → IsIncrementalFromRows run keeping judge }
+    ensures { (run : Runner K C R) (keeping : Keeping K C R S) (judge : Judge K C R F)
+        → IsIncrementalFromRows run keeping judge }
 {}
 
 /// Each turn leaves one turn fewer, or nothing was to be done.
 pub fn one_fewer<K, C, R, S, F>()
-    ensures { (run : Runner K C R) (keeping : Keeping K C R S) (judge : Judge K C R F) → IsOneFewer run keeping judge }
+    ensures { (run : Runner K C R) (keeping : Keeping K C R S) (judge : Judge K C R F)
+        → IsOneFewer run keeping judge }
 {}
 
 /// A round runs exactly what had no whole record, or whose record has changed.
 pub fn runs_what_changed<K, C, R, S, F>()
-    ensures { (run : Runner K C R) (keeping : Keeping K C R S) (judge : Judge K C R F) → RunsWhatChanged run keeping judge }
+    ensures { (run : Runner K C R) (keeping : Keeping K C R S) (judge : Judge K C R F)
+        → RunsWhatChanged run keeping judge }
 {}
 
 /// The turns after a Take cost at most what its records and the runs may cost.
 pub fn bounded<K, C, R, S, F>()
-    ensures { (run : Runner K C R) (keeping : Keeping K C R S) (judge : Judge K C R F) (cost : Costs K C R) → IsBounded run keeping judge cost }
+    ensures { (run : Runner K C R) (keeping : Keeping K C R S) (judge : Judge K C R F)
+        (cost : Costs K C R) → IsBounded run keeping judge cost }
 {}
 
 /// The premises can be met: two objects that read each other.

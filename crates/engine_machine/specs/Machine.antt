@@ -88,7 +88,11 @@ is_circle Whole = false
 
 -- the fault of a circular object, without a place
 abbrev pub nowhere : Fault
-nowhere = record { code = code.Circular; place = record { file = []; line = 0; column = 0 }; detail = [] }
+nowhere = record {
+  code = code.Circular;
+  place = record { file = []; line = 0; column = 0 };
+  detail = [];
+}
 
 -- a build by name
 abbrev pub Builds : Type 0 → Type 0
@@ -109,7 +113,14 @@ runner_of build = record {
 }
 
 abbrev pub keeping : {T : Type 0} → Keeping Key Content (End T) Kept
-keeping = record { keep = keep; seen = seen; grade = grade; same = same_kept; names = object_of; small = small }
+keeping = record {
+  keep = keep;
+  seen = seen;
+  grade = grade;
+  same = same_kept;
+  names = object_of;
+  small = small;
+}
 
 -- a fault is not checked
 abbrev pub check_end : {T : Type 0} → Checks T → End T → List (Key × Content) → Answer Key Verdict

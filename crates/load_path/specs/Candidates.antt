@@ -13,7 +13,8 @@ candidate name suffix prefix dir = with_slash dir ++ with_slash prefix ++ name +
 
 -- for the empty prefix and then for each entry of the load path, one in each directory
 abbrev pub all_candidates : List ℕ → List ℕ → List (List ℕ) → List (List ℕ) → List (List ℕ)
-all_candidates name suffix load dirs = flat_map (λ prefix. map (candidate name suffix prefix) dirs) ([] ∷ load)
+all_candidates name suffix load dirs =
+    flat_map (λ prefix. map (candidate name suffix prefix) dirs) ([] ∷ load)
 
 -- the names with one more, where it is new
 abbrev pub with_name : List (List ℕ) → List ℕ → List (List ℕ)

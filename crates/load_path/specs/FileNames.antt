@@ -15,7 +15,8 @@ abbrev mutual
   -- the same, from inside a segment on
   pub are_segments_on : List ℕ → Bool
   are_segments_on [] = true
-  are_segments_on (c ∷ cs) = if c == 47 then are_segments cs else (is_name_byte c && are_segments_on cs)
+  are_segments_on (c ∷ cs) =
+      if c == 47 then are_segments cs else (is_name_byte c && are_segments_on cs)
 
 abbrev pub is_file_name : List ℕ → Bool
 is_file_name bytes = nat_le (length bytes) MAX_FILE_NAME_BYTES && are_segments bytes

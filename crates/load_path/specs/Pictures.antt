@@ -41,7 +41,8 @@ content_in (f ∷ fs) n = if bytes_eq f.name n then Some f.content else content_
 -- a file comes in after all those whose names are below its own
 abbrev pub with_file : List ℕ → Content → List PictureFile → List PictureFile
 with_file n c [] = record { name = n; content = c } ∷ []
-with_file n c (f ∷ fs) = if is_below f.name n then f ∷ with_file n c fs else record { name = n; content = c } ∷ f ∷ fs
+with_file n c (f ∷ fs) =
+    if is_below f.name n then f ∷ with_file n c fs else record { name = n; content = c } ∷ f ∷ fs
 
 -- how many files stand before the position of this name
 abbrev pub position_in : List PictureFile → List ℕ → ℕ

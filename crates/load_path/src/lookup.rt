@@ -61,7 +61,8 @@ fn add_below(
     prefix: &str,
     dirs: &[Text],
 ) -> Result<(), AllocError>
-    ensures { OnOk result (names.new.items ≡ fold with_name names.old.items (map (candidate name.now suffix.now prefix.now) dirs.now)) }
+    ensures { OnOk result (names.new.items ≡ fold with_name names.old.items
+        (map (candidate name.now suffix.now prefix.now) dirs.now)) }
 {
     for dir in dirs {
         add_name(names, candidate(alloc, name, suffix, prefix, dir.as_str())?)?;

@@ -17,18 +17,23 @@ is_same name (Some n) = bytes_eq n name
 -- a name in its place, once
 abbrev pub with_object : List ℕ → List (List ℕ) → List (List ℕ)
 with_object name [] = name ∷ []
-with_object name (n ∷ names) = if is_below n name then n ∷ with_object name names else (if bytes_eq n name then n ∷ names else name ∷ n ∷ names)
+with_object name (n ∷ names) = if is_below n name then n ∷ with_object name names
+    else (if bytes_eq n name then n ∷ names else name ∷ n ∷ names)
 
 abbrev pub with_found : List PictureFile → List (List ℕ) → List ℕ → List (List ℕ) → List (List ℕ)
-with_found files dirs name names = if is_object_in files dirs name then with_object name names else names
+with_found files dirs name names =
+    if is_object_in files dirs name then with_object name names else names
 
 -- a name has a file below this front
 abbrev pub HasFile : List PictureFile → List ℕ → List ℕ → Type 0
 HasFile files front name = is_some (content_in files (front ++ (name ++ codes ".pan"))) ≡ true
 
 -- the objects that are so are added, and no other name
-pub record Adds (files : List PictureFile) (dirs : List (List ℕ)) (IsSo : List ℕ → Type 0) (old new : List (List ℕ)) : Type 0 where
+pub record Adds (files : List PictureFile) (dirs : List (List ℕ)) (IsSo : List ℕ
+    → Type 0) (old new : List (List ℕ)) : Type 0 where
   pub rising : are_rising new ≡ true
   pub keeps : (name : List ℕ) → stands_in name old ≡ true → stands_in name new ≡ true
-  pub sound : (name : List ℕ) → stands_in name new ≡ true → (stands_in name old ≡ true) ⊎ (is_object_in files dirs name ≡ true)
-  pub covers : (name : List ℕ) → IsSo name → is_object_in files dirs name ≡ true → stands_in name new ≡ true
+  pub sound : (name : List ℕ) → stands_in name new ≡ true
+      → (stands_in name old ≡ true) ⊎ (is_object_in files dirs name ≡ true)
+  pub covers : (name : List ℕ) → IsSo name → is_object_in files dirs name ≡ true
+      → stands_in name new ≡ true

@@ -27,9 +27,11 @@ abbrev pub is_object_content : Option Content → Bool
 is_object_content None = false
 is_object_content (Some content) = is_object_text content
 
--- a template name is an object where the first of its files that is there begins as an object template
+-- a template name is an object where the first of its files that is there begins as an object
+-- template
 abbrev pub is_object_in : List PictureFile → List (List ℕ) → List ℕ → Bool
-is_object_in files dirs name = is_name name && is_object_content (first_there files (candidates name (codes ".pan") [] dirs))
+is_object_in files dirs name =
+    is_name name && is_object_content (first_there files (candidates name (codes ".pan") [] dirs))
 
 abbrev pub stands_in : List ℕ → List (List ℕ) → Bool
 stands_in name names = list_any (λ n. bytes_eq n name) names
@@ -44,6 +46,7 @@ are_rising [] = true
 are_rising (n ∷ names) = begins_above n names && are_rising names
 
 -- the objects of a picture with these include directories, in byte order
-pub record AreObjects (files : List PictureFile) (dirs : List (List ℕ)) (names : List (List ℕ)) : Type 0 where
+pub record AreObjects (files : List PictureFile) (dirs : List (List ℕ))
+    (names : List (List ℕ)) : Type 0 where
   pub rising : are_rising names ≡ true
   pub exactly : (name : List ℕ) → stands_in name names ≡ is_object_in files dirs name

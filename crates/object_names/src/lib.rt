@@ -15,7 +15,8 @@ use std::alloc::{AllocError, Global};
 /// The name whose file this is, below a front: a directory and a slash, or nothing.
 fn name_in<'a>(front: &str, file: &'a str) -> Option<&'a str>
     ensures named { IfSome result (λ name. front.now ++ (name.now ++ codes ".pan") ≡ file.now) }
-    ensures complete { (name : List ℕ) → front.now ++ (name ++ codes ".pan") ≡ file.now → option_copied result ≡ Some name }
+    ensures complete { (name : List ℕ) → front.now ++ (name ++ codes ".pan") ≡ file.now
+        → option_copied result ≡ Some name }
 {
     file.strip_prefix(front)?.strip_suffix(".pan")
 }
@@ -117,7 +118,8 @@ fn add_file(
     file: &str,
 ) -> Result<(), AllocError>
     requires { are_rising names.old.items ≡ true }
-    ensures { OnOk result (Adds picture.now dirs.now (λ name. front.now ++ (name ++ codes ".pan") ≡ file.now) names.old.items names.new.items) }
+    ensures { OnOk result (Adds picture.now dirs.now (λ name. front.now ++ (name ++ codes ".pan")
+        ≡ file.now) names.old.items names.new.items) }
 {
     let Some(name) = name_in(front, file) else {
         return Ok(());
@@ -148,7 +150,8 @@ fn add_files(
     front: &str,
 ) -> Result<(), AllocError>
     requires { are_rising names.old.items ≡ true }
-    ensures { OnOk result (Adds picture.now dirs.now (HasFile picture.now front.now) names.old.items names.new.items) }
+    ensures { OnOk result (Adds picture.now dirs.now (HasFile picture.now front.now) names.old.items
+        names.new.items) }
 {
     for file in picture.files() {
         add_file(alloc, names, picture, dirs, front, file.name.as_str())?;
@@ -165,7 +168,8 @@ fn add_below(
     dir: &str,
 ) -> Result<(), AllocError>
     requires { are_rising names.old.items ≡ true }
-    ensures { OnOk result (Adds picture.now dirs.now (HasFile picture.now (with_slash dir.now)) names.old.items names.new.items) }
+    ensures { OnOk result (Adds picture.now dirs.now (HasFile picture.now (with_slash dir.now))
+        names.old.items names.new.items) }
 {
     let front = front_of(alloc, dir)?;
     add_files(alloc, names, picture, dirs, front.as_str())

@@ -2,7 +2,8 @@
 use Rattle.std.specs.Prelude.{◌≡◌, ℕ, List, [], take, Option, Some, None, IfSome, is_some, option_map, Bool, true, false, if◌then◌else◌, bytes_eq}
 use Rattle.std.specs.List.{list_any}
 
--- A shelf tells nothing of a name (None), or that it is absent (Some None), or its bytes (Some (Some b)).
+-- A shelf tells nothing of a name (None), or that it is absent (Some None), or its bytes (Some
+-- (Some b)).
 abbrev pub Cell : Type 0
 Cell = Option (Option (List ℕ))
 
@@ -12,7 +13,8 @@ with_content content cell = option_map (λ _. content) cell
 
 -- the name has this content, all other names are as they were
 abbrev pub Sets : (List ℕ → Cell) → List ℕ → Option (List ℕ) → (List ℕ → Cell) → Type 0
-Sets old name content new = (n : List ℕ) → new n ≡ (if bytes_eq name n then with_content content (old n) else old n)
+Sets old name content new =
+    (n : List ℕ) → new n ≡ (if bytes_eq name n then with_content content (old n) else old n)
 
 -- the name is unspecified, all other names are as they were
 abbrev pub AllBut : (List ℕ → Cell) → List ℕ → (List ℕ → Cell) → Type 0
@@ -29,7 +31,8 @@ AreSame old new = (n : List ℕ) → new n ≡ old n
 
 -- the names are those that are there, and no other
 abbrev pub Names : (List ℕ → Cell) → List (List ℕ) → Type 0
-Names cell names = (n : List ℕ) → IfSome (cell n) (λ content. is_some content ≡ list_any (λ m. bytes_eq m n) names)
+Names cell names = (n : List ℕ) → IfSome (cell n) (λ content. is_some content
+    ≡ list_any (λ m. bytes_eq m n) names)
 
 -- what it tells of, it goes on telling of
 abbrev pub TellsAsMuch : (List ℕ → Cell) → (List ℕ → Cell) → Type 0

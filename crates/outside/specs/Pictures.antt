@@ -30,7 +30,8 @@ read_of (Some bytes) = if is_short bytes then bytes else []
 
 -- file number i was read
 abbrev pub Finds : List MemFile → ℕ → Got → List ℕ → Type 0
-Finds files i got into = IfSome (slice_get files i) (λ f. (got ≡ got_of f.content) × (into ≡ read_of f.content))
+Finds files i got into =
+    IfSome (slice_get files i) (λ f. (got ≡ got_of f.content) × (into ≡ read_of f.content))
 
 -- a file of the picture has this name
 abbrev pub has_name : List ℕ → List MemFile → Bool

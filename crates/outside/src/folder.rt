@@ -39,7 +39,8 @@ pub(crate) fn path_below(alloc: Global, root: &str, name: &str) -> Result<String
 /// None where the error says that no file is there: none has the name, or a folder has it, or one of the
 /// folders on the way to it is a file.
 fn unless_absent<T>(outcome: io::Result<T>) -> io::Result<Option<T>>
-    ensures ok { IfOk result (λ found. MatchOption found (IsErrAnd outcome (λ e. says_absent (error_kind e) ≡ true)) (λ value. outcome ≡ Ok value)) }
+    ensures ok { IfOk result (λ found. MatchOption found
+        (IsErrAnd outcome (λ e. says_absent (error_kind e) ≡ true)) (λ value. outcome ≡ Ok value)) }
     ensures err { IfErr result (λ e. (outcome ≡ Err e) × (says_absent (error_kind e) ≡ false)) }
 {
     match outcome {
@@ -156,7 +157,8 @@ pub(crate) fn files_below<R: Files + AllocGlobal + Clone + Drop>(
 /// Reads all that a reader has still to give, where that is at most `MAX_FILE_BYTES` bytes. Of more nothing is
 /// given.
 pub(crate) fn read_short<F: Read + Drop>(from: F, into: &mut Vec<u8>) -> io::Result<Got>
-    ensures told { IfOk result (λ got. IfSome (F.remaining from) (λ bytes. (got ≡ got_of (Some bytes)) × (into.new.items ≡ read_of (Some bytes)))) }
+    ensures told { IfOk result (λ got. IfSome (F.remaining from)
+        (λ bytes. (got ≡ got_of (Some bytes)) × (into.new.items ≡ read_of (Some bytes)))) }
     ensures within { OnOk result (length into.new.items ≤ MAX_FILE_BYTES) }
 {
     into.clear();
@@ -214,7 +216,8 @@ pub(crate) fn put_file<R: Files + AllocGlobal>(rt: &R, path: &str, bytes: &[u8])
 }
 
 fn hidden_beside(alloc: Global, folder: &str, name: &str) -> Result<String, AllocError>
-    ensures { IfOk result (λ hidden. string_bytes hidden ≡ folder.now ++ codes "/." ++ name.now ++ codes ".new") }
+    ensures { IfOk result (λ hidden. string_bytes hidden ≡ folder.now ++ codes "/." ++ name.now
+        ++ codes ".new") }
 {
     let mut hidden = path_below(alloc, folder, ".")?;
     hidden.push_str(name)?;

@@ -43,7 +43,8 @@ impl<W: Write + Drop> Sink for HostSink<W> {
         ensures ok { OnOk result (Appends None bytes.now None) }
         ensures refused { OnErr result (AppendsPart None bytes.now None) }
         ensures cause { HasCause self.old.faults.count self.new.faults.count result }
-        ensures written { OnOk result (WriterAppends (W.contents self.old.writer) (W.contents self.new.writer) bytes.now) }
+        ensures written { OnOk result (WriterAppends (W.contents self.old.writer)
+            (W.contents self.new.writer) bytes.now) }
     {
         match self.writer.write_all(bytes) {
             Ok(()) => Ok(()),

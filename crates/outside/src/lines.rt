@@ -19,7 +19,8 @@ pub trait Lines {
     /// Takes the next line, or gives false at the end. At Ok `into` holds the line alone, without its line
     /// feed, and nothing at the end. A refused call takes no line, and leaves `into` unspecified.
     fn next(&mut self, into: &mut Vec<u8>) -> Result<bool, StoreError>
-        ensures ok { IfOk result (λ more. NextLine more into.new.items (left self.old) (left self.new)) }
+        ensures ok { IfOk result (λ more. NextLine more into.new.items (left self.old)
+            (left self.new)) }
         ensures refused { OnErr result (left self.new ≡ left self.old) }
         ensures cause { HasCause (fault_count self.old) (fault_count self.new) result };
 }

@@ -41,7 +41,8 @@ impl Lines for MemLines {
     }
 
     fn next(&mut self, into: &mut Vec<u8>) -> Result<bool, StoreError>
-        ensures ok { IfOk result (λ more. NextLine more into.new.items (Some self.old.lines) (Some self.new.lines)) }
+        ensures ok { IfOk result (λ more. NextLine more into.new.items (Some self.old.lines)
+            (Some self.new.lines)) }
         ensures refused { OnErr result (Some self.new.lines ≡ Some self.old.lines) }
         ensures cause { HasCause self.old.calls.faults self.new.calls.faults result }
         ensures counted { self.new.calls ≡ after_call self.old.calls }

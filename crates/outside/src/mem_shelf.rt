@@ -97,7 +97,8 @@ impl Shelf for MemShelf {
     }
 
     fn read(&mut self, name: &str, most: usize, into: &mut Vec<u8>) -> Result<bool, StoreError>
-        ensures ok { IfOk result (λ there. IfSome (cell_of self.old.shelf.held name.now) (IsReadOf most there into.new.items)) }
+        ensures ok { IfOk result (λ there. IfSome (cell_of self.old.shelf.held name.now)
+            (IsReadOf most there into.new.items)) }
         ensures within { OnOk result (length into.new.items ≤ most) }
         ensures opened { self.new.shelf.root ≡ self.old.shelf.root }
         ensures same { AreSame (cell_of self.old.shelf.held) (cell_of self.new.shelf.held) }
@@ -113,10 +114,13 @@ impl Shelf for MemShelf {
     }
 
     fn put(&mut self, name: &str, bytes: &[u8]) -> Result<(), StoreError>
-        ensures ok { OnOk result (Sets (cell_of self.old.shelf.held) name.now (Some bytes.now) (cell_of self.new.shelf.held)) }
-        ensures refused { OnErr result (AllBut (cell_of self.old.shelf.held) name.now (cell_of self.new.shelf.held)) }
+        ensures ok { OnOk result (Sets (cell_of self.old.shelf.held) name.now (Some bytes.now)
+            (cell_of self.new.shelf.held)) }
+        ensures refused { OnErr result (AllBut (cell_of self.old.shelf.held) name.now
+            (cell_of self.new.shelf.held)) }
         ensures tells { TellsAsMuch (cell_of self.old.shelf.held) (cell_of self.new.shelf.held) }
-        ensures done { OnOk result (Does (Some self.old.shelf.changes) (change.Put name.now) (Some self.new.shelf.changes)) }
+        ensures done { OnOk result (Does (Some self.old.shelf.changes) (change.Put name.now)
+            (Some self.new.shelf.changes)) }
         ensures undone { OnErr result (Some self.new.shelf.changes ≡ Some self.old.shelf.changes) }
         ensures opened { self.new.shelf.root ≡ self.old.shelf.root }
         ensures cause { HasCause self.old.calls.faults self.new.calls.faults result }
@@ -130,10 +134,13 @@ impl Shelf for MemShelf {
     }
 
     fn remove(&mut self, name: &str) -> Result<(), StoreError>
-        ensures ok { OnOk result (Sets (cell_of self.old.shelf.held) name.now (None) (cell_of self.new.shelf.held)) }
-        ensures refused { OnErr result (AllBut (cell_of self.old.shelf.held) name.now (cell_of self.new.shelf.held)) }
+        ensures ok { OnOk result (Sets (cell_of self.old.shelf.held) name.now (None)
+            (cell_of self.new.shelf.held)) }
+        ensures refused { OnErr result (AllBut (cell_of self.old.shelf.held) name.now
+            (cell_of self.new.shelf.held)) }
         ensures tells { TellsAsMuch (cell_of self.old.shelf.held) (cell_of self.new.shelf.held) }
-        ensures done { OnOk result (Does (Some self.old.shelf.changes) (change.Removed name.now) (Some self.new.shelf.changes)) }
+        ensures done { OnOk result (Does (Some self.old.shelf.changes) (change.Removed name.now)
+            (Some self.new.shelf.changes)) }
         ensures undone { OnErr result (Some self.new.shelf.changes ≡ Some self.old.shelf.changes) }
         ensures opened { self.new.shelf.root ≡ self.old.shelf.root }
         ensures cause { HasCause self.old.calls.faults self.new.calls.faults result }

@@ -50,7 +50,8 @@ impl Sink for MemSink {
 
     fn write(&mut self, bytes: &[u8]) -> Result<(), StoreError>
         ensures ok { OnOk result (Appends (Some self.old.sink) bytes.now (Some self.new.sink)) }
-        ensures refused { OnErr result (AppendsPart (Some self.old.sink) bytes.now (Some self.new.sink)) }
+        ensures refused { OnErr result (AppendsPart (Some self.old.sink) bytes.now
+            (Some self.new.sink)) }
         ensures cause { HasCause self.old.calls.faults self.new.calls.faults result }
         ensures counted { self.new.calls ≡ after_call self.old.calls }
         ensures listed { IsErrOf result StoreError.Failed ↔ (is_to_fail self.old.calls ≡ true) }

@@ -71,10 +71,14 @@ impl Source for MemSource {
 
     fn begin_scan(&mut self) -> Result<usize, StoreError>
         ensures count { IfOk result (λ n. n ≡ length self.new.source.scanned) }
-        ensures taken { OnOk result (Some self.new.source.scanned ≡ option_map next_picture (Some self.old.source.coming)) }
-        ensures later { OnOk result (Some self.new.source.coming ≡ option_map later_pictures (Some self.old.source.coming)) }
-        ensures told { OnOk result (IfSome (Some self.new.source.scanned) (λ files. length files ≡ length self.new.source.scanned)) }
-        ensures distinct { OnOk result (IfSome (Some self.new.source.scanned) (λ files. are_distinct files ≡ true)) }
+        ensures taken { OnOk result (Some self.new.source.scanned
+            ≡ option_map next_picture (Some self.old.source.coming)) }
+        ensures later { OnOk result (Some self.new.source.coming
+            ≡ option_map later_pictures (Some self.old.source.coming)) }
+        ensures told { OnOk result (IfSome (Some self.new.source.scanned) (λ files. length files
+            ≡ length self.new.source.scanned)) }
+        ensures distinct { OnOk result (IfSome (Some self.new.source.scanned)
+            (λ files. are_distinct files ≡ true)) }
         ensures refused { OnErr result (Some self.new.source.coming ≡ Some self.old.source.coming) }
         ensures opened { self.new.source.root ≡ self.old.source.root }
         ensures cause { HasCause self.old.calls.faults self.new.calls.faults result }
@@ -93,7 +97,8 @@ impl Source for MemSource {
 
     fn read(&mut self, i: usize, into: &mut Vec<u8>) -> Result<Got, StoreError>
         requires { i < length self.old.source.scanned }
-        ensures ok { IfOk result (λ got. IfSome (Some self.old.source.scanned) (λ files. Finds files i got into.new.items)) }
+        ensures ok { IfOk result (λ got. IfSome (Some self.old.source.scanned)
+            (λ files. Finds files i got into.new.items)) }
         ensures within { OnOk result (length into.new.items ≤ MAX_FILE_BYTES) }
         ensures opened { self.new.source.root ≡ self.old.source.root }
         ensures coming { Some self.new.source.coming ≡ Some self.old.source.coming }

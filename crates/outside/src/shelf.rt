@@ -53,7 +53,8 @@ pub trait Shelf {
     /// Reads the first `most` bytes of a name, or gives false where it is absent. At Ok `into` holds those
     /// bytes alone, and nothing where the name is absent. After a refusal `into` is unspecified.
     fn read(&mut self, name: &str, most: usize, into: &mut Vec<u8>) -> Result<bool, StoreError>
-        ensures ok { IfOk result (λ there. IfSome (cell self.old name.now) (IsReadOf most there into.new.items)) }
+        ensures ok { IfOk result (λ there. IfSome (cell self.old name.now)
+            (IsReadOf most there into.new.items)) }
         ensures within { OnOk result (length into.new.items ≤ most) }
         ensures opened { opened self.new ≡ opened self.old }
         ensures same { AreSame (cell self.old) (cell self.new) }
@@ -65,7 +66,8 @@ pub trait Shelf {
         ensures ok { OnOk result (Sets (cell self.old) name.now (Some bytes.now) (cell self.new)) }
         ensures refused { OnErr result (AllBut (cell self.old) name.now (cell self.new)) }
         ensures tells { TellsAsMuch (cell self.old) (cell self.new) }
-        ensures done { OnOk result (Does (changes self.old) (change.Put name.now) (changes self.new)) }
+        ensures done { OnOk result (Does (changes self.old) (change.Put name.now)
+            (changes self.new)) }
         ensures undone { OnErr result (changes self.new ≡ changes self.old) }
         ensures opened { opened self.new ≡ opened self.old }
         ensures cause { HasCause (fault_count self.old) (fault_count self.new) result };
@@ -76,7 +78,8 @@ pub trait Shelf {
         ensures ok { OnOk result (Sets (cell self.old) name.now None (cell self.new)) }
         ensures refused { OnErr result (AllBut (cell self.old) name.now (cell self.new)) }
         ensures tells { TellsAsMuch (cell self.old) (cell self.new) }
-        ensures done { OnOk result (Does (changes self.old) (change.Removed name.now) (changes self.new)) }
+        ensures done { OnOk result (Does (changes self.old) (change.Removed name.now)
+            (changes self.new)) }
         ensures undone { OnErr result (changes self.new ≡ changes self.old) }
         ensures opened { opened self.new ≡ opened self.old }
         ensures cause { HasCause (fault_count self.old) (fault_count self.new) result };

@@ -59,9 +59,12 @@ pub trait Source {
     fn begin_scan(&mut self) -> Result<usize, StoreError>
         ensures count { IfOk result (λ n. n ≡ count self.new) }
         ensures taken { OnOk result (scanned self.new ≡ option_map next_picture (coming self.old)) }
-        ensures later { OnOk result (coming self.new ≡ option_map later_pictures (coming self.old)) }
-        ensures told { OnOk result (IfSome (scanned self.new) (λ files. length files ≡ count self.new)) }
-        ensures distinct { OnOk result (IfSome (scanned self.new) (λ files. are_distinct files ≡ true)) }
+        ensures later { OnOk result (coming self.new
+            ≡ option_map later_pictures (coming self.old)) }
+        ensures told { OnOk result (IfSome (scanned self.new) (λ files. length files
+            ≡ count self.new)) }
+        ensures distinct { OnOk result (IfSome (scanned self.new) (λ files. are_distinct files
+            ≡ true)) }
         ensures refused { OnErr result (coming self.new ≡ coming self.old) }
         ensures opened { opened self.new ≡ opened self.old }
         ensures cause { HasCause (fault_count self.old) (fault_count self.new) result };
@@ -75,7 +78,8 @@ pub trait Source {
     /// is gone or too long. After a refusal `into` is unspecified.
     fn read(&mut self, i: usize, into: &mut Vec<u8>) -> Result<Got, StoreError>
         requires { i < count self.old }
-        ensures ok { IfOk result (λ got. IfSome (scanned self.old) (λ files. Finds files i got into.new.items)) }
+        ensures ok { IfOk result (λ got. IfSome (scanned self.old)
+            (λ files. Finds files i got into.new.items)) }
         ensures within { OnOk result (length into.new.items ≤ MAX_FILE_BYTES) }
         ensures opened { opened self.new ≡ opened self.old }
         ensures coming { coming self.new ≡ coming self.old }

@@ -1,5 +1,5 @@
--- How far a tree reaches in memory: how many pointers a walk or a drop follows one after the other at most. The
--- texts at which its ways end are not counted.
+-- How far a tree reaches in memory: how many pointers a walk or a drop follows one after the other
+-- at most. The texts at which its ways end are not counted.
 use Rattle.std.specs.Prelude.{ℕ, ◌+◌, max, List, [], ◌∷◌, map, Option, Some, None}
 use Rattle.std.specs.declared.rc.Rc.{Rc}
 use Rattle.std.specs.declared.alloc.Global.{Global}
@@ -24,8 +24,8 @@ abbrev pub most : List ℕ → ℕ
 most [] = 0
 most (n ∷ ns) = max n (most ns)
 
--- What a node reaches. As the left operand of further steps it reaches less by one where it has steps already: they
--- stand beside these, and no pointer lies between.
+-- What a node reaches. As the left operand of further steps it reaches less by one where it has
+-- steps already: they stand beside these, and no pointer lies between.
 pub record Reach : Type 0 where
   pub whole : ℕ
   pub left : ℕ
@@ -76,16 +76,20 @@ abbrev pub reference_step : Reference-F Reach ℕ ℕ ℕ Reach ℕ → ℕ
 reference_step r = 1 + most r.indexes.items
 
 abbrev pub item_pointers : Item → ℕ
-item_pointers = fold-Item Reach ℕ ℕ ℕ Reach ℕ form_step item_form_step step_step item_step node_step reference_step
+item_pointers = fold-Item Reach ℕ ℕ ℕ Reach ℕ form_step item_form_step step_step item_step node_step
+    reference_step
 
 abbrev pub node_reach : Node → Reach
-node_reach = fold-Node Reach ℕ ℕ ℕ Reach ℕ form_step item_form_step step_step item_step node_step reference_step
+node_reach = fold-Node Reach ℕ ℕ ℕ Reach ℕ form_step item_form_step step_step item_step node_step
+    reference_step
 
 abbrev pub step_pointers : Step → ℕ
-step_pointers = fold-Step Reach ℕ ℕ ℕ Reach ℕ form_step item_form_step step_step item_step node_step reference_step
+step_pointers = fold-Step Reach ℕ ℕ ℕ Reach ℕ form_step item_form_step step_step item_step node_step
+    reference_step
 
 abbrev pub reference_pointers : Reference → ℕ
-reference_pointers = fold-Reference Reach ℕ ℕ ℕ Reach ℕ form_step item_form_step step_step item_step node_step reference_step
+reference_pointers = fold-Reference Reach ℕ ℕ ℕ Reach ℕ form_step item_form_step step_step item_step
+    node_step reference_step
 
 abbrev pub node_pointers : Node → ℕ
 node_pointers n = (node_reach n).whole

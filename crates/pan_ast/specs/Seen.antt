@@ -21,7 +21,8 @@ form_step (Form-F.Inside i) p = plain.Inside p i.value
 form_step (Form-F.Unary op n) p = plain.Unary p op n.value
 form_step (Form-F.Spine a s ss) p = steps_on p (stepped p a.value s.value) ss.items
 
-abbrev pub item_form_step : ItemForm-F (Place → Node) (Place → Item) Step Item Node Reference → Place → Item
+abbrev pub item_form_step : ItemForm-F (Place → Node) (Place → Item) Step Item Node Reference
+    → Place → Item
 item_form_step (ItemForm-F.Block is) p = plain.Block p (items_of is.items)
 item_form_step (ItemForm-F.If c t None) p = plain.If p c.value t.value
 item_form_step (ItemForm-F.If c t (Some e)) p = plain.IfElse p c.value t.value e.value
@@ -43,21 +44,26 @@ item_step i = i.form i.place
 abbrev pub node_step : Node-F (Place → Node) (Place → Item) Step Item Node Reference → Node
 node_step n = n.form n.place
 
-abbrev pub reference_step : Reference-F (Place → Node) (Place → Item) Step Item Node Reference → Reference
+abbrev pub reference_step : Reference-F (Place → Node) (Place → Item) Step Item Node Reference
+    → Reference
 reference_step r = plain.Refer r.place r.name (items_of r.indexes.items)
 
 -- what a tree spells
 abbrev pub item_seen : RItem → Item
-item_seen = fold-Item (Place → Node) (Place → Item) Step Item Node Reference form_step item_form_step step_step item_step node_step reference_step
+item_seen = fold-Item (Place → Node) (Place → Item) Step Item Node Reference form_step
+    item_form_step step_step item_step node_step reference_step
 
 abbrev pub node_seen : RNode → Node
-node_seen = fold-Node (Place → Node) (Place → Item) Step Item Node Reference form_step item_form_step step_step item_step node_step reference_step
+node_seen = fold-Node (Place → Node) (Place → Item) Step Item Node Reference form_step
+    item_form_step step_step item_step node_step reference_step
 
 abbrev pub step_seen : RStep → Step
-step_seen = fold-Step (Place → Node) (Place → Item) Step Item Node Reference form_step item_form_step step_step item_step node_step reference_step
+step_seen = fold-Step (Place → Node) (Place → Item) Step Item Node Reference form_step
+    item_form_step step_step item_step node_step reference_step
 
 abbrev pub reference_seen : RReference → Reference
-reference_seen = fold-Reference (Place → Node) (Place → Item) Step Item Node Reference form_step item_form_step step_step item_step node_step reference_step
+reference_seen = fold-Reference (Place → Node) (Place → Item) Step Item Node Reference form_step
+    item_form_step step_step item_step node_step reference_step
 
 abbrev pub items_seen : List RItem → Items
 items_seen is = items_of (map item_seen is)

@@ -1,4 +1,5 @@
--- The ASCII characters that the rules of the language name, each as its byte; those of the base crate beside it.
+-- The ASCII characters that the rules of the language name, each as its byte; those of the base
+-- crate beside it.
 use Rattle.std.specs.Prelude.{ℕ}
 
 abbrev pub backspace : ℕ

@@ -11,29 +11,38 @@ use Rattle.pan_ast.specs.declared.token.Token.{Token}
 -- the words of the language
 abbrev pub words : List (List ℕ × Sort)
 words =
-    (codes "if", If) ∷ (codes "else", Else) ∷ (codes "while", While) ∷ (codes "for", For) ∷ (codes "foreach", Foreach)
+    (codes "if", If) ∷ (codes "else", Else) ∷ (codes "while", While) ∷ (codes "for", For)
+    ∷ (codes "foreach", Foreach)
     ∷ (codes "true", True) ∷ (codes "false", False) ∷ (codes "undef", Undef) ∷ (codes "null", Null)
-    ∷ (codes "with", With) ∷ (codes "extensible", Extensible) ∷ (codes "include", Include) ∷ (codes "choice", Choice)
+    ∷ (codes "with", With) ∷ (codes "extensible", Extensible) ∷ (codes "include", Include)
+    ∷ (codes "choice", Choice)
     ∷ (codes "object", Object) ∷ (codes "structure", Structure) ∷ (codes "unique", Unique)
     ∷ (codes "declaration", Declaration) ∷ (codes "template", Template)
-    ∷ (codes "final", Final) ∷ (codes "variable", Variable) ∷ (codes "function", Function) ∷ (codes "type", «Type»)
+    ∷ (codes "final", Final) ∷ (codes "variable", Variable) ∷ (codes "function", Function)
+    ∷ (codes "type", «Type»)
     ∷ (codes "bind", Bind) ∷ (codes "valid", Valid) ∷ (codes "prefix", Prefix) ∷ []
 
 -- the signs of the language
 abbrev pub signs : List (List ℕ × Sort)
 signs =
     (codes "{", OpenBrace) ∷ (codes "}", CloseBrace) ∷ (codes "(", Open) ∷ (codes ")", Close)
-    ∷ (codes "[", OpenBracket) ∷ (codes "]", CloseBracket) ∷ (codes ";", Semicolon) ∷ (codes ",", Comma)
-    ∷ (codes ":", Colon) ∷ (codes "?", Question) ∷ (codes "?=", ConditionalAssign) ∷ (codes "=", Assign)
+    ∷ (codes "[", OpenBracket) ∷ (codes "]", CloseBracket) ∷ (codes ";", Semicolon)
+    ∷ (codes ",", Comma)
+    ∷ (codes ":", Colon) ∷ (codes "?", Question) ∷ (codes "?=", ConditionalAssign)
+    ∷ (codes "=", Assign)
     ∷ (codes "==", Equal) ∷ (codes "!=", NotEqual) ∷ (codes "<", Less) ∷ (codes "<=", LessEqual)
-    ∷ (codes ">", More) ∷ (codes ">=", MoreEqual) ∷ (codes "+", Plus) ∷ (codes "-", Minus) ∷ (codes "*", Star)
-    ∷ (codes "/", Slash) ∷ (codes "%", Percent) ∷ (codes "!", Not) ∷ (codes "~", Flip) ∷ (codes "&", BitAnd)
-    ∷ (codes "&&", And) ∷ (codes "|", BitOr) ∷ (codes "||", Or) ∷ (codes "^", BitXor) ∷ (codes "..", Range) ∷ []
+    ∷ (codes ">", More) ∷ (codes ">=", MoreEqual) ∷ (codes "+", Plus) ∷ (codes "-", Minus)
+    ∷ (codes "*", Star)
+    ∷ (codes "/", Slash) ∷ (codes "%", Percent) ∷ (codes "!", Not) ∷ (codes "~", Flip)
+    ∷ (codes "&", BitAnd)
+    ∷ (codes "&&", And) ∷ (codes "|", BitOr) ∷ (codes "||", Or) ∷ (codes "^", BitXor)
+    ∷ (codes "..", Range) ∷ []
 
 -- the sort of a text in a table, and `other` where the table has no such text
 abbrev pub look_up : Sort → List ℕ → List (List ℕ × Sort) → Sort
 look_up other text [] = other
-look_up other text (entry ∷ entries) = if pointwise ◌==◌ text entry.0 then entry.1 else look_up other text entries
+look_up other text (entry ∷ entries) =
+    if pointwise ◌==◌ text entry.0 then entry.1 else look_up other text entries
 
 -- the sort of a token by its kind and value
 abbrev pub sort_of : TokenKind → List ℕ → Sort

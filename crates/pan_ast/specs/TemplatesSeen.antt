@@ -23,4 +23,10 @@ abbrev pub statement_seen : RStatement → Statement
 statement_seen s = record { place = s.place; form = form_seen s.form }
 
 abbrev pub template_seen : RTemplate → Template
-template_seen t = record { kind = t.kind; name = t.name; name_place = t.name_place; place = t.place; statements = map statement_seen t.statements.items }
+template_seen t = record {
+  kind = t.kind;
+  name = t.name;
+  name_place = t.name_place;
+  place = t.place;
+  statements = map statement_seen t.statements.items;
+}

@@ -38,19 +38,24 @@ type_step t = plain.Formed t.head t.suffixes.items
 
 -- what a type spells
 abbrev pub full_seen : RFullType → FullType
-full_seen = fold-FullType Field Head FullType Head TypeForm field_step head_step full_step record_step type_step
+full_seen = fold-FullType Field Head FullType Head TypeForm field_step head_step full_step
+    record_step type_step
 
 abbrev pub type_seen : RTypeForm → TypeForm
-type_seen = fold-TypeForm Field Head FullType Head TypeForm field_step head_step full_step record_step type_step
+type_seen = fold-TypeForm Field Head FullType Head TypeForm field_step head_step full_step
+    record_step type_step
 
 abbrev pub head_seen : RHead → Head
-head_seen = fold-Head Field Head FullType Head TypeForm field_step head_step full_step record_step type_step
+head_seen = fold-Head Field Head FullType Head TypeForm field_step head_step full_step record_step
+    type_step
 
 abbrev pub record_seen : RRecordForm → Head
-record_seen = fold-RecordForm Field Head FullType Head TypeForm field_step head_step full_step record_step type_step
+record_seen = fold-RecordForm Field Head FullType Head TypeForm field_step head_step full_step
+    record_step type_step
 
 abbrev pub field_seen : RField → Field
-field_seen = fold-Field Field Head FullType Head TypeForm field_step head_step full_step record_step type_step
+field_seen = fold-Field Field Head FullType Head TypeForm field_step head_step full_step record_step
+    type_step
 
 abbrev pub fields_seen : List RField → Fields
 fields_seen fs = fields_of (map field_seen fs)

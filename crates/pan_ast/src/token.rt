@@ -39,7 +39,13 @@ impl Model for Token {
 
     ghost use Rattle.pan_ast.specs.Sorts.{sort_of};
 
-    ghost view = { λ t. record { kind = t.kind; start = t.start; end = t.end; place = t.place; value = t.value } };
+    ghost view = { λ t. record {
+      kind = t.kind;
+      start = t.start;
+      end = t.end;
+      place = t.place;
+      value = t.value;
+    } };
 
     ghost invariant = { λ t. t.sort ≡ sort_of t.kind t.value };
 }

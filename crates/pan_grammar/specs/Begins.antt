@@ -16,13 +16,15 @@ module _ (May : ℕ → Tokens → Type 0) where
   ItemMay d t ts = May (suc d) (t ∷ ts) × (signed (sort t) ≡ true → May (suc (suc d)) (t ∷ ts))
 
   abbrev pub FullMay : ℕ → Token → Tokens → Type 0
-  FullMay d t ts = May (suc d) (t ∷ ts) × (starts_record (sort t) ≡ true → May (suc (suc d)) (t ∷ ts))
+  FullMay d t ts =
+      May (suc d) (t ∷ ts) × (starts_record (sort t) ≡ true → May (suc (suc d)) (t ∷ ts))
 
   abbrev pub StepMay : State → Token → Tokens → Type 0
   StepMay (IncludeRead p h ss) t ts = May 1 (t ∷ ts)
   StepMay (NeedFull s) t ts = FullMay (full_holders s) t ts
   StepMay (NeedItem s) t ts = ItemMay (holders s) t ts
   StepMay (NeedUnary n) t ts = UnaryMay (node_holders n) t ts
-  StepMay (BlockOpen p is s) t ts = at sorts.CloseBrace (sort t) ≡ false → ItemMay (suc (holders s)) t ts
+  StepMay (BlockOpen p is s) t ts =
+      at sorts.CloseBrace (sort t) ≡ false → ItemMay (suc (holders s)) t ts
   StepMay (CallOpen f n) t ts = at sorts.Close (sort t) ≡ false → ItemMay (node_holders n) t ts
   StepMay _ t ts = Unit {0}

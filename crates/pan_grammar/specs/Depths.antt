@@ -78,7 +78,8 @@ item_start _ = false
 
 -- what a full type can begin with
 abbrev pub full_start : Sort → Bool
-full_start s = is_type_name s || (at sorts.OpenBrace s || (at sorts.Extensible s || at sorts.Choice s))
+full_start s =
+    is_type_name s || (at sorts.OpenBrace s || (at sorts.Extensible s || at sorts.Choice s))
 
 -- the depth of the deepest construct that begins at a token, or 0
 abbrev pub unary_opens : ℕ → Sort → ℕ
@@ -93,7 +94,8 @@ full_opens d s = if starts_record s then suc (suc d) else suc d
 abbrev pub opens : State → Token → ℕ
 opens (NeedItem s) t = item_opens (holders s) (sort t)
 opens (NeedUnary n) t = unary_opens (node_holders n) (sort t)
-opens (BlockOpen p is s) t = if at sorts.CloseBrace (sort t) then 0 else item_opens (suc (holders s)) (sort t)
+opens (BlockOpen p is s) t =
+    if at sorts.CloseBrace (sort t) then 0 else item_opens (suc (holders s)) (sort t)
 opens (CallOpen f n) t = if at sorts.Close (sort t) then 0 else item_opens (node_holders n) (sort t)
 opens (NeedFull s) t = full_opens (full_holders s) (sort t)
 opens (IncludeRead p h ss) t = 1

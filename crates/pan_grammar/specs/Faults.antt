@@ -31,24 +31,27 @@ IsViable ts = (on : Tokens) × (z : Template) × Parses (ts ++ on) z
 abbrev pub IsShallow : Tokens → Type 0
 IsShallow ts = (on : Tokens) × (z : Template) × ParsesWhere (DeepInLast (length on)) (ts ++ on) z
 
--- a syntax fault at the first token of bad: those before it begin a text that parses, with no construct over the limit of
--- nesting in them, and no text that parses begins with those through it
+-- a syntax fault at the first token of bad: those before it begin a text that parses, with no
+-- construct over the limit of nesting in them, and no text that parses begins with those through it
 pub record IsFirstBad (ts bad : Tokens) : Type 0 where
   pub before : Tokens
   pub parts : ts ≡ before ++ bad
   pub viable : IsShallow before
   pub dead : (k : Token) (on : Tokens) → bad ≡ k ∷ on → IsViable (before ++ k ∷ []) → ⊥
 
--- a fault of nesting at k: some text that parses begins with the tokens through k, and in each of those the first
--- construct over the limit of nesting begins at k
+-- a fault of nesting at k: some text that parses begins with the tokens through k, and in each of
+-- those the first construct over the limit of nesting begins at k
 pub record IsTooDeep (ts : Tokens) (k : Token) (on : Tokens) : Type 0 where
   pub before : Tokens
   pub parts : ts ≡ before ++ k ∷ on
   pub viable : IsViable (before ++ k ∷ [])
-  pub none_before : (other : Tokens) (z : Template) → Parses (before ++ k ∷ other) z → ParsesWhere (DeepInLast (suc (length other))) (before ++ k ∷ other) z
-  pub one_at : (other : Tokens) (z : Template) → ParsesWhere (DeepInLast (length other)) (before ++ k ∷ other) z → ⊥
+  pub none_before : (other : Tokens) (z : Template) → Parses (before ++ k ∷ other) z
+      → ParsesWhere (DeepInLast (suc (length other))) (before ++ k ∷ other) z
+  pub one_at : (other : Tokens) (z : Template) → ParsesWhere (DeepInLast (length other)) (before
+      ++ k ∷ other) z → ⊥
 
--- the fault of tokens that are no template: F06 where they are wrong, F07 where they nest over the limit
+-- the fault of tokens that are no template: F06 where they are wrong, F07 where they nest over the
+-- limit
 abbrev pub IsFault : Tokens → Fault → Type 0
 IsFault ts f =
     ((k : Token) × (on : Tokens) × IsFirstBad ts (k ∷ on) × (f ≡ fault_at BadSyntax k.place))

@@ -1,4 +1,5 @@
--- What a stranger has to believe: the grammar, and what a fault of syntax or nesting is in its words.
+-- What a stranger has to believe: the grammar, and what a fault of syntax or nesting is in its
+-- words.
 pub mod Grammar
 pub mod Types
 pub mod Templates

@@ -46,28 +46,36 @@ full_of h ss make = NeedFull (StatementType h ss make)
 
 -- a statement that begins at p, after the word or the text that tells what it is
 abbrev pub path_read : Place → Bool → Header → List Statement → Token → State
-path_read p last h ss t = Takes ASetting (λ a. item_of h ss (λ i. stated p (statements.Assign last t.value (conditional a) i)))
+path_read p last h ss t = Takes ASetting (λ a. item_of h ss
+    (λ i. stated p (statements.Assign last t.value (conditional a) i)))
 
 abbrev pub variable_read : Place → Bool → Header → List Statement → State
-variable_read p last h ss = Takes AWord (λ w. Takes ASetting (λ a. item_of h ss (λ i. stated p (statements.Variable last w.value (conditional a) i))))
+variable_read p last h ss = Takes AWord (λ w. Takes ASetting
+    (λ a. item_of h ss (λ i. stated p (statements.Variable last w.value (conditional a) i))))
 
 abbrev pub function_read : Place → Header → List Statement → State
-function_read p h ss = Takes AWord (λ w. Takes AnAssign (λ e. item_of h ss (λ i. stated p (statements.Function w.value i))))
+function_read p h ss = Takes AWord (λ w. Takes AnAssign
+    (λ e. item_of h ss (λ i. stated p (statements.Function w.value i))))
 
 abbrev pub type_read : Place → Header → List Statement → State
-type_read p h ss = Takes AWord (λ w. Takes AnAssign (λ e. full_of h ss (λ f. stated p (statements.Define w.value f))))
+type_read p h ss = Takes AWord (λ w. Takes AnAssign
+    (λ e. full_of h ss (λ f. stated p (statements.Define w.value f))))
 
 abbrev pub bind_read : Place → Header → List Statement → State
-bind_read p h ss = Takes AText (λ x. Takes AnAssign (λ e. full_of h ss (λ f. stated p (statements.Bind x.value f))))
+bind_read p h ss = Takes AText (λ x. Takes AnAssign
+    (λ e. full_of h ss (λ f. stated p (statements.Bind x.value f))))
 
 abbrev pub valid_read : Place → Header → List Statement → State
-valid_read p h ss = Takes AText (λ x. Takes AnAssign (λ e. item_of h ss (λ i. stated p (statements.Valid x.value i))))
+valid_read p h ss = Takes AText (λ x. Takes AnAssign
+    (λ e. item_of h ss (λ i. stated p (statements.Valid x.value i))))
 
 abbrev pub prefix_read : Place → Header → List Statement → State
-prefix_read p h ss = Takes AText (λ x. Takes ASemicolon (λ e. Statements h (ss ++ stated p (statements.Prefix x.value) ∷ [])))
+prefix_read p h ss = Takes AText (λ x. Takes ASemicolon
+    (λ e. Statements h (ss ++ stated p (statements.Prefix x.value) ∷ [])))
 
 abbrev pub setting_at : Place → Bool → Header → List Statement → Token → Option State
-setting_at p last h ss t = when sorts.Text (sort t) (path_read p last h ss t) (when sorts.Variable (sort t) (variable_read p last h ss) None)
+setting_at p last h ss t = when sorts.Text (sort t) (path_read p last h ss t)
+    (when sorts.Variable (sort t) (variable_read p last h ss) None)
 
 abbrev pub statements_at : Header → List Statement → Token → Option State
 statements_at h ss t =
@@ -82,23 +90,28 @@ statements_at h ss t =
     (setting_at t.place false h ss t))))))))
 
 abbrev pub text_included_read : Place → Header → List Statement → Token → State
-text_included_read p h ss t = Takes ASemicolon (λ e. Statements h (ss ++ stated p (statements.Include (plain (nodes.Text t.place t.value))) ∷ []))
+text_included_read p h ss t = Takes ASemicolon (λ e. Statements h (ss
+    ++ stated p (statements.Include (plain (nodes.Text t.place t.value))) ∷ []))
 
 abbrev pub block_included_read : Place → Header → List Statement → Token → State
-block_included_read p h ss t = BlockOpen t.place [] (Out (StatementItem h ss (λ i. stated p (statements.Include i))))
+block_included_read p h ss t =
+    BlockOpen t.place [] (Out (StatementItem h ss (λ i. stated p (statements.Include i))))
 
 abbrev pub included_at : Place → Header → List Statement → Token → Option State
-included_at p h ss t = when sorts.Text (sort t) (text_included_read p h ss t) (when sorts.OpenBrace (sort t) (block_included_read p h ss t) None)
+included_at p h ss t = when sorts.Text (sort t) (text_included_read p h ss t)
+    (when sorts.OpenBrace (sort t) (block_included_read p h ss t) None)
 
 -- a header that begins at p, after `template`
 abbrev pub name_wanted : TemplateKind → Place → State
-name_wanted kind p = Takes AName (λ n. Takes ASemicolon (λ s. Statements (record { kind = kind; place = p; name = n }) []))
+name_wanted kind p = Takes AName (λ n. Takes ASemicolon
+    (λ s. Statements (record { kind = kind; place = p; name = n }) []))
 
 abbrev pub kind_read : Place → TemplateKind → State
 kind_read p kind = Takes ATemplate (λ w. name_wanted kind p)
 
 abbrev pub start_at : Token → Option State
-start_at t = when sorts.Template (sort t) (name_wanted kinds.Ordinary t.place) (when_some (kind_of (sort t)) (kind_read t.place) None)
+start_at t = when sorts.Template (sort t) (name_wanted kinds.Ordinary t.place)
+    (when_some (kind_of (sort t)) (kind_read t.place) None)
 
 -- ---- types
 
@@ -106,7 +119,8 @@ abbrev pub minus_read : (ℤ → State) → State
 minus_read next = Takes AnInt (λ n. next (neg_ℤ (number n)))
 
 abbrev pub signed_at : (ℤ → State) → Token → Option State
-signed_at next t = when sorts.Int (sort t) (next (number t)) (when sorts.Minus (sort t) (minus_read next) None)
+signed_at next t =
+    when sorts.Int (sort t) (next (number t)) (when sorts.Minus (sort t) (minus_read next) None)
 
 -- after `..` at the front, and after the second number
 abbrev pub high_wanted : Closing → Place → (Bounds → State) → State
@@ -125,7 +139,8 @@ abbrev pub key_read : Token → Bool → List Field → FullStack → State
 key_read k extensible fs s = Takes AMark (λ c. NeedFull (InField k c extensible fs s))
 
 abbrev pub include_read : Token → Bool → List Field → FullStack → State
-include_read i extensible fs s = Takes ATypeName (λ n. FieldsOpen extensible (fs ++ included i n ∷ []) s)
+include_read i extensible fs s =
+    Takes ATypeName (λ n. FieldsOpen extensible (fs ++ included i n ∷ []) s)
 
 abbrev pub is_key_text : Token → Bool
 is_key_text t = at sorts.Text (sort t) && is_key t.value
@@ -137,14 +152,17 @@ fields_at extensible fs s t =
     (when sorts.CloseBrace (sort t) (HasHead (recorded extensible fs) [] s) None))
 
 abbrev pub has_full : FullStack → FullType → Token → Option State
-has_full (StatementType h ss make) f t = when sorts.Semicolon (sort t) (Statements h (ss ++ make f ∷ [])) None
+has_full (StatementType h ss make) f t =
+    when sorts.Semicolon (sort t) (Statements h (ss ++ make f ∷ [])) None
 has_full (InField k c extensible fs s) f t = fields_at extensible (fs ++ own k c f ∷ []) s t
 
 abbrev pub has_default : TypeForm → Option Item → FullStack → Token → Option State
-has_default f e s t = when sorts.With (sort t) (NeedItem (Out (AfterWith f e s))) (has_full s (Full f e None) t)
+has_default f e s t =
+    when sorts.With (sort t) (NeedItem (Out (AfterWith f e s))) (has_full s (Full f e None) t)
 
 abbrev pub has_form : TypeForm → FullStack → Token → Option State
-has_form f s t = when sorts.Assign (sort t) (NeedItem (Out (AfterEquals f s))) (has_default f None s t)
+has_form f s t =
+    when sorts.Assign (sort t) (NeedItem (Out (AfterEquals f s))) (has_default f None s t)
 
 -- after `[` and `{` of a suffix
 abbrev pub list_open : Head → List Suffix → FullStack → State
@@ -190,7 +208,8 @@ texts_then xs s t =
     (when sorts.Close (sort t) (HasHead (types.Choice xs) [] s) None)
 
 abbrev pub hole_has : Hole → Item → Token → Option State
-hole_has (StatementItem h ss make) i t = when sorts.Semicolon (sort t) (Statements h (ss ++ make i ∷ [])) None
+hole_has (StatementItem h ss make) i t =
+    when sorts.Semicolon (sort t) (Statements h (ss ++ make i ∷ [])) None
 hole_has (AfterEquals f s) i t = has_default f (Some i) s t
 hole_has (AfterWith f e s) i t = has_full s (Full f e (Some i)) t
 
@@ -214,7 +233,9 @@ abbrev pub for_read : Place → ItemStack → State
 for_read p s = Takes AnOpen (λ o. NeedItem (InParts (for_parts p) s))
 
 abbrev pub foreach_read : Place → ItemStack → State
-foreach_read p s = Takes AnOpen (λ o. Takes AWord (λ k. Takes ASemicolon (λ s1. Takes AWord (λ v. Takes ASemicolon (λ s2. NeedItem (InParts (foreach_parts p k.value v.value) s))))))
+foreach_read p s = Takes AnOpen (λ o. Takes AWord (λ k. Takes ASemicolon
+    (λ s1. Takes AWord (λ v. Takes ASemicolon (λ s2. NeedItem
+    (InParts (foreach_parts p k.value v.value) s))))))
 
 abbrev pub item_at : Token → ItemStack → Option State
 item_at t s =
@@ -227,26 +248,33 @@ item_at t s =
     (unary_at t (down 9 (Chained s))))))))
 
 -- an operator of the level above l, or what comes without one
-abbrev pub operand_at : (l : ℕ) → Option Operator → Node → NodeStack (suc l) → Option State → Option State
+abbrev pub operand_at : (l : ℕ) → Option Operator → Node → NodeStack (suc l) → Option State
+    → Option State
 operand_at l op x n other = when_some op (λ o. NeedUnary (down l (Operand o x n))) other
 
 abbrev mutual
   pub has_item : ItemStack → Item → Token → Option State
   has_item (Out o) i t = hole_has o i t
-  has_item (InBlock p is s) i t = when sorts.Semicolon (sort t) (BlockOpen p (is ++ i ∷ []) s) (when sorts.CloseBrace (sort t) (HasItem (block p (is ++ i ∷ [])) s) None)
+  has_item (InBlock p is s) i t = when sorts.Semicolon (sort t) (BlockOpen p (is ++ i ∷ []) s)
+      (when sorts.CloseBrace (sort t) (HasItem (block p (is ++ i ∷ [])) s) None)
   has_item (InParts (Last make) s) i t = has_item s (make i) t
-  has_item (InParts (Further k next) s) i t = when (divider k) (sort t) (NeedItem (InParts (next i) s)) None
-  has_item (InParts (MayElse make) s) i t = when sorts.Else (sort t) (NeedItem (InParts (Last (λ b. make i (Some b))) s)) (has_item s (make i None) t)
-  has_item (InReference f is x s) i t = when sorts.CloseBracket (sort t) (HasReference f (is ++ i ∷ []) (index x i) s) None
+  has_item (InParts (Further k next) s) i t =
+      when (divider k) (sort t) (NeedItem (InParts (next i) s)) None
+  has_item (InParts (MayElse make) s) i t = when sorts.Else (sort t)
+      (NeedItem (InParts (Last (λ b. make i (Some b))) s)) (has_item s (make i None) t)
+  has_item (InReference f is x s) i t =
+      when sorts.CloseBracket (sort t) (HasReference f (is ++ i ∷ []) (index x i) s) None
   has_item (InIndex x n) i t = when sorts.CloseBracket (sort t) (HasPrimary (index x i) n) None
   has_item (InParens p n) i t = when sorts.Close (sort t) (HasPrimary (inside p i) n) None
-  has_item (InCall f is n) i t = when sorts.Comma (sort t) (NeedItem (InCall f (is ++ i ∷ []) n)) (when sorts.Close (sort t) (HasPrimary (called f (is ++ i ∷ [])) n) None)
+  has_item (InCall f is n) i t = when sorts.Comma (sort t) (NeedItem (InCall f (is ++ i ∷ []) n))
+      (when sorts.Close (sort t) (HasPrimary (called f (is ++ i ∷ [])) n) None)
 
   pub has_node : {l : ℕ} → NodeStack l → Node → Token → Option State
   has_node (Chained s) x t = has_item s (plain x) t
   has_node (Signed op p n) x t = has_node n (nodes.Unary p op x) t
   has_node (First {l} n) x t = operand_at l (op_of (suc l) (sort t)) x n (has_node n x t)
-  has_node (Operand {l} op a n) x t = operand_at l (op_of (suc l) (sort t)) (joined op a x) n (has_node n (joined op a x) t)
+  has_node (Operand {l} op a n) x t =
+      operand_at l (op_of (suc l) (sort t)) (joined op a x) n (has_node n (joined op a x) t)
 
 abbrev pub has_primary : NodeStack zero → Node → Token → Option State
 has_primary n x t = when sorts.OpenBracket (sort t) (NeedItem (InIndex x n)) (has_node n x t)
@@ -271,16 +299,22 @@ step (FieldsOpen e fs s) t = fields_at e fs s t
 step (HasHead h ss s) t = has_head h ss s t
 step (NeedSigned next) t = signed_at next t
 step (NeedBounds c next) t = bounds_at c next t
-step (HasLow c p n next) t = when (closing c) (sort t) (next (bounds p (Some n) (Some n))) (when sorts.Range (sort t) (RangeRead c p n next) None)
-step (RangeRead c p n next) t = when (closing c) (sort t) (next (bounds p (Some n) None)) (signed_at (high_read c p n next) t)
-step (RangeOpen c next) t = when (closing c) (sort t) (next None) (bounds_at c (λ b. next (Some b)) t)
+step (HasLow c p n next) t = when (closing c) (sort t) (next (bounds p (Some n) (Some n)))
+    (when sorts.Range (sort t) (RangeRead c p n next) None)
+step (RangeRead c p n next) t =
+    when (closing c) (sort t) (next (bounds p (Some n) None)) (signed_at (high_read c p n next) t)
+step (RangeOpen c next) t =
+    when (closing c) (sort t) (next None) (bounds_at c (λ b. next (Some b)) t)
 step (NeedItem s) t = item_at t s
 step (NeedUnary n) t = unary_at t n
-step (BlockOpen p is s) t = when sorts.CloseBrace (sort t) (HasItem (block p is) s) (item_at t (InBlock p is s))
+step (BlockOpen p is s) t =
+    when sorts.CloseBrace (sort t) (HasItem (block p is) s) (item_at t (InBlock p is s))
 step (WordRead f n) t = when sorts.Open (sort t) (CallOpen f n) (has_primary n (name f) t)
-step (ItemWord f s) t = when sorts.Open (sort t) (CallOpen f (down 9 (Chained s))) (has_reference f [] (name f) s t)
+step (ItemWord f s) t =
+    when sorts.Open (sort t) (CallOpen f (down 9 (Chained s))) (has_reference f [] (name f) s t)
 step (HasReference f is x s) t = has_reference f is x s t
-step (CallOpen f n) t = when sorts.Close (sort t) (HasPrimary (called f []) n) (item_at t (InCall f [] n))
+step (CallOpen f n) t =
+    when sorts.Close (sort t) (HasPrimary (called f []) n) (item_at t (InCall f [] n))
 step (HasItem i s) t = has_item s i t
 step (HasPrimary x n) t = has_primary n x t
 step (HasNode x n) t = has_node n x t
@@ -288,12 +322,14 @@ step (Done z) t = None
 
 -- ---- whole readings
 
--- the tokens from the first on that can't stand there, or at which a construct over the limit begins
+-- the tokens from the first on that can't stand there, or at which a construct over the limit
+-- begins
 pub data Stop : Type 0 where
   Bad : Tokens → Stop
   Deep : Tokens → Stop
 
-abbrev pub and_run : Option State → Bool → (State → Result Template Stop) → Tokens → Result Template Stop
+abbrev pub and_run : Option State → Bool → (State → Result Template Stop) → Tokens
+    → Result Template Stop
 and_run None over go ts = Err (Bad ts)
 and_run (Some next) over go ts = if over then Err (Deep ts) else go next
 

@@ -1,6 +1,5 @@
--- The template that tokens spell, or their first fault of syntax or nesting: what the machine answers, as a fault with
--- its place. A law of the parser's crate
--- ties it to the grammar both ways.
+-- The template that tokens spell, or their first fault of syntax or nesting: what the machine
+-- answers, as a fault with its place. A law of the parser's crate ties it to the grammar both ways.
 use Rattle.std.specs.Prelude.{[], ◌∷◌, Result, Ok, Err}
 use Rattle.pan_ast.specs.declared.fault.Code.{Code}
 use Rattle.pan_ast.specs.declared.fault.Code.TheVariants.{BadSyntax, TooDeep}
@@ -12,8 +11,8 @@ use Rattle.pan_grammar.specs.Grammar.{Tokens}
 use Rattle.pan_grammar.specs.States.{Start}
 use Rattle.pan_grammar.specs.Machine.{Stop, Bad, Deep, run}
 
--- The place of the first token. There is always one where a reading stops, as an End closes the tokens of a file: what
--- stands here for none is never an answer.
+-- The place of the first token. There is always one where a reading stops, as an End closes the
+-- tokens of a file: what stands here for none is never an answer.
 abbrev pub first_place : Tokens → Place
 first_place [] = record { file = []; line = 1; column = 1 }
 first_place (t ∷ ts) = t.place

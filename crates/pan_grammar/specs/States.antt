@@ -1,4 +1,5 @@
--- What is open while tokens are read: what waits for the item, the node or the type that is read, from the inside out.
+-- What is open while tokens are read: what waits for the item, the node or the type that is read,
+-- from the inside out.
 use Rattle.std.specs.Prelude.{ℕ, zero, suc, ℤ, Bool, ◌&&◌, List, Option}
 use Rattle.path_tree.specs.Grammar.{is_name}
 use Rattle.path_tree.specs.declared.operators.UnaryOp.{UnaryOp}
@@ -17,8 +18,9 @@ use Rattle.pan_grammar.specs.Grammar.{assigned, Operator}
 use Rattle.pan_grammar.specs.Types.{is_mark}
 use Rattle.pan_grammar.specs.Templates.{is_setting, Header}
 
--- what waits for a full type: a statement, by those before it and by how the type makes it; or a field, by its key, the
--- sign after it, whether the record is extensible, the fields before, and what waits for the record's full type
+-- what waits for a full type: a statement, by those before it and by how the type makes it; or a
+-- field, by its key, the sign after it, whether the record is extensible, the fields before, and
+-- what waits for the record's full type
 pub data FullStack : Type 0 where
   StatementType : Header → List Statement → (FullType → Statement) → FullStack
   InField : Token → Token → Bool → List Field → FullStack → FullStack
@@ -36,8 +38,8 @@ abbrev pub divider : Divider → Sort
 divider AtSemicolon = sorts.Semicolon
 divider AtClose = sorts.Close
 
--- the parts of an item from an awaited item on: it is the last; or a sign and further parts follow it; or perhaps an
--- `else` does
+-- the parts of an item from an awaited item on: it is the last; or a sign and further parts follow
+-- it; or perhaps an `else` does
 pub data Parts : Type 0 where
   Last : (Item → Item) → Parts
   Further : Divider → (Item → Parts) → Parts
@@ -50,7 +52,8 @@ abbrev pub while_parts : Place → Parts
 while_parts p = Further AtClose (λ c. Last (λ b. nodes.While p c b))
 
 abbrev pub for_parts : Place → Parts
-for_parts p = Further AtSemicolon (λ a. Further AtSemicolon (λ c. Further AtClose (λ n. Last (λ b. nodes.For p a c n b))))
+for_parts p = Further AtSemicolon (λ a. Further AtSemicolon
+    (λ c. Further AtClose (λ n. Last (λ b. nodes.For p a c n b))))
 
 abbrev pub foreach_parts : Place → List ℕ → List ℕ → Parts
 foreach_parts p k v = Further AtClose (λ r. Last (λ b. nodes.Foreach p k v r b))
@@ -91,7 +94,8 @@ closing Braces = sorts.CloseBrace
 
 -- the tokens that stand alone at their place
 pub data Wanted : Type 0 where
-  ATemplate AName ASemicolon AnAssign ASetting AText AWord ATypeName AnInt AnOpen AnOpenBrace AMark : Wanted
+  ATemplate AName ASemicolon AnAssign ASetting AText AWord ATypeName AnInt AnOpen AnOpenBrace
+      AMark : Wanted
   Closes : Closing → Wanted
 
 abbrev pub fits : Wanted → Token → Bool

@@ -51,19 +51,22 @@ pub data IsSigned : Tokens → ℤ → Tokens → Type 0 where
 -- what stands after the first Signed n of Bounds that begin at p; n alone means exactly n
 pub data IsHigh (p : Place) (n : ℤ) : Tokens → Bounds → Tokens → Type 0 where
   exactly : {rest : Tokens} → IsHigh p n rest (bounds p (Some n) (Some n)) rest
-  at_least : {r : Token} {rest : Tokens} → sort r ≡ sorts.Range → IsHigh p n (r ∷ rest) (bounds p (Some n) None) rest
+  at_least : {r : Token} {rest : Tokens} → sort r ≡ sorts.Range
+      → IsHigh p n (r ∷ rest) (bounds p (Some n) None) rest
   from_to : {r : Token} {ts rest : Tokens} {m : ℤ}
-      → sort r ≡ sorts.Range → IsSigned ts m rest → IsHigh p n (r ∷ ts) (bounds p (Some n) (Some m)) rest
+      → sort r ≡ sorts.Range → IsSigned ts m rest → IsHigh p n (r
+      ∷ ts) (bounds p (Some n) (Some m)) rest
 
 -- Bounds = Signed [ ".." [ Signed ] ] | ".." Signed
 pub data IsBounds : Tokens → Bounds → Tokens → Type 0 where
   from_low : {t : Token} {ts ts1 rest : Tokens} {n : ℤ} {b : Bounds}
       → IsSigned (t ∷ ts) n ts1 → IsHigh t.place n ts1 b rest → IsBounds (t ∷ ts) b rest
   at_most : {r : Token} {ts rest : Tokens} {n : ℤ}
-      → sort r ≡ sorts.Range → IsSigned ts n rest → IsBounds (r ∷ ts) (bounds r.place None (Some n)) rest
+      → sort r ≡ sorts.Range → IsSigned ts n rest → IsBounds (r
+      ∷ ts) (bounds r.place None (Some n)) rest
 
--- A part in brackets that is left out is not followed by the token that it would begin with; after a type such a token
--- can be nothing else.
+-- A part in brackets that is left out is not followed by the token that it would begin with; after
+-- a type such a token can be nothing else.
 
 -- [ Bounds ] and a sign that closes
 pub data IsRange (close : Sort) : Tokens → Option Bounds → Tokens → Type 0 where
@@ -75,12 +78,14 @@ pub data IsRange (close : Sort) : Tokens → Option Bounds → Tokens → Type 0
 pub data IsBounded : Tokens → Option Bounds → Tokens → Type 0 where
   unbounded : {t : Token} {ts : Tokens} → sort t ≢ sorts.Open → IsBounded (t ∷ ts) None (t ∷ ts)
   bounded : {o k : Token} {ts rest : Tokens} {b : Bounds}
-      → sort o ≡ sorts.Open → IsBounds ts b (k ∷ rest) → sort k ≡ sorts.Close → IsBounded (o ∷ ts) (Some b) rest
+      → sort o ≡ sorts.Open → IsBounds ts b (k ∷ rest) → sort k ≡ sorts.Close
+      → IsBounded (o ∷ ts) (Some b) rest
 
 -- { Suffix }
 -- Suffix = "[" [ Bounds ] "]" | "{" [ Bounds ] "}" | "*"
 pub data IsSuffixes : Tokens → List Suffix → Tokens → Type 0 where
-  no_suffix : {t : Token} {ts : Tokens} → is_suffix (sort t) ≡ false → IsSuffixes (t ∷ ts) [] (t ∷ ts)
+  no_suffix : {t : Token} {ts : Tokens} → is_suffix (sort t) ≡ false
+      → IsSuffixes (t ∷ ts) [] (t ∷ ts)
   a_list : {o : Token} {ts ts1 rest : Tokens} {b : Option Bounds} {ss : List Suffix}
       → sort o ≡ sorts.OpenBracket → IsRange sorts.CloseBracket ts b ts1 → IsSuffixes ts1 ss rest
       → IsSuffixes (o ∷ ts) (suffixes.List b ∷ ss) rest
@@ -94,7 +99,8 @@ pub data IsSuffixes : Tokens → List Suffix → Tokens → Type 0 where
 pub data IsTexts : Tokens → List (List ℕ) → Tokens → Type 0 where
   no_text : {k : Token} {rest : Tokens} → sort k ≡ sorts.Close → IsTexts (k ∷ rest) [] rest
   a_text : {c t : Token} {ts rest : Tokens} {xs : List (List ℕ)}
-      → sort c ≡ sorts.Comma → sort t ≡ sorts.Text → IsTexts ts xs rest → IsTexts (c ∷ t ∷ ts) (t.value ∷ xs) rest
+      → sort c ≡ sorts.Comma → sort t ≡ sorts.Text → IsTexts ts xs rest
+      → IsTexts (c ∷ t ∷ ts) (t.value ∷ xs) rest
 
 module _ (May : ℕ → Tokens → Type 0) where
   -- [ w Item ], for a sign or a word w
@@ -111,31 +117,38 @@ module _ (May : ℕ → Tokens → Type 0) where
           → IsFull d ts (Full f e w) rest
 
     -- Type = ( TypeName [ "(" Bounds ")" ] | Record | Choice ) { Suffix }
-    -- Record = [ "extensible" ] "{" { Field } "}"; it begins where its Type does, and the Type holds it
+    -- Record = [ "extensible" ] "{" { Field } "}"; it begins where its Type does, and the Type
+    -- holds it
     -- Choice = "choice" "(" Text { "," Text } ")"
     pub data IsType : ℕ → Tokens → TypeForm → Tokens → Type 0 where
       a_named : {d : ℕ} {t : Token} {ts ts1 rest : Tokens} {b : Option Bounds} {ss : List Suffix}
-          → May (suc d) (t ∷ ts) → is_type_name (sort t) ≡ true → IsBounded ts b ts1 → IsSuffixes ts1 ss rest
+          → May (suc d) (t ∷ ts) → is_type_name (sort t) ≡ true → IsBounded ts b ts1
+          → IsSuffixes ts1 ss rest
           → IsType d (t ∷ ts) (Formed (named t b) ss) rest
       a_record : {d : ℕ} {t : Token} {ts ts1 rest : Tokens} {fs : List Field} {ss : List Suffix}
           → May (suc d) (t ∷ ts) → May (suc (suc d)) (t ∷ ts) → sort t ≡ sorts.OpenBrace
           → IsFields (suc (suc d)) ts fs ts1 → IsSuffixes ts1 ss rest
           → IsType d (t ∷ ts) (Formed (recorded false fs) ss) rest
-      an_extensible : {d : ℕ} {t o : Token} {ts ts1 rest : Tokens} {fs : List Field} {ss : List Suffix}
+      an_extensible : {d : ℕ} {t o : Token} {ts ts1 rest : Tokens} {fs : List Field}
+          {ss : List Suffix}
           → May (suc d) (t ∷ o ∷ ts) → May (suc (suc d)) (t ∷ o ∷ ts) → sort t ≡ sorts.Extensible
           → sort o ≡ sorts.OpenBrace → IsFields (suc (suc d)) ts fs ts1 → IsSuffixes ts1 ss rest
           → IsType d (t ∷ o ∷ ts) (Formed (recorded true fs) ss) rest
-      a_choice : {d : ℕ} {t o x : Token} {ts ts1 rest : Tokens} {xs : List (List ℕ)} {ss : List Suffix}
-          → May (suc d) (t ∷ o ∷ x ∷ ts) → sort t ≡ sorts.Choice → sort o ≡ sorts.Open → sort x ≡ sorts.Text
+      a_choice : {d : ℕ} {t o x : Token} {ts ts1 rest : Tokens} {xs : List (List ℕ)}
+          {ss : List Suffix}
+          → May (suc d) (t ∷ o ∷ x ∷ ts) → sort t ≡ sorts.Choice → sort o ≡ sorts.Open
+          → sort x ≡ sorts.Text
           → IsTexts ts xs ts1 → IsSuffixes ts1 ss rest
           → IsType d (t ∷ o ∷ x ∷ ts) (Formed (trees.Choice (x.value ∷ xs)) ss) rest
 
     -- { Field } "}"
     -- Field = Text ( ":" | "?" ) FullType | "include" TypeName, where the Text is a key
     pub data IsFields : ℕ → Tokens → List Field → Tokens → Type 0 where
-      no_field : {d : ℕ} {t : Token} {rest : Tokens} → sort t ≡ sorts.CloseBrace → IsFields d (t ∷ rest) [] rest
+      no_field : {d : ℕ} {t : Token} {rest : Tokens} → sort t ≡ sorts.CloseBrace
+          → IsFields d (t ∷ rest) [] rest
       own_field : {d : ℕ} {k c : Token} {ts ts1 rest : Tokens} {f : FullType} {fs : List Field}
-          → sort k ≡ sorts.Text → is_key k.value ≡ true → is_mark (sort c) ≡ true → IsFull d ts f ts1
+          → sort k ≡ sorts.Text → is_key k.value ≡ true → is_mark (sort c) ≡ true
+          → IsFull d ts f ts1
           → IsFields d ts1 fs rest → IsFields d (k ∷ c ∷ ts) (own k c f ∷ fs) rest
       include_field : {d : ℕ} {i n : Token} {ts rest : Tokens} {fs : List Field}
           → sort i ≡ sorts.Include → is_type_name (sort n) ≡ true → IsFields d ts fs rest

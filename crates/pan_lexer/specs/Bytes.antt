@@ -1,5 +1,6 @@
 -- Kinds of bytes.
 use Rattle.std.specs.Prelude.{ℕ, ◌-◌, Bool, false, not, ◌||◌, ◌&&◌, ◌==◌, nat_le, if◌then◌else◌, List, [], ◌∷◌}
+pub use Rattle.std.specs.Char.{digit_value}
 pub use Rattle.base.specs.Ascii.{between, is_digit, is_hexadecimal_digit, is_letter, is_octal_digit}
 use Rattle.base.specs.Characters.{close_brace, colon, digit_0, digit_9, line_feed, minus_sign, open_brace, plus_sign, slash, underscore, upper_F}
 use Rattle.pan_ast.specs.Signs.{ampersand, backslash, caret, carriage_return, close_bracket, double_quote, exclamation_mark, less_sign, open_bracket, open_parenthesis, percent_sign, question_mark, semicolon, single_quote, space, tab, tilde, vertical_bar}
@@ -39,7 +40,9 @@ is_in_double b = not (b == double_quote) && not (b == backslash)
 
 -- { } ( ) [ ] ; , : + - * / % ~ ^
 abbrev pub is_single_sign : ℕ → Bool
-is_single_sign b = between open_parenthesis minus_sign b || (b == slash) || between colon semicolon b || (b == percent_sign) || (b == open_bracket) || between close_bracket caret b || (b == open_brace) || between close_brace tilde b
+is_single_sign b = between open_parenthesis minus_sign b || (b == slash)
+    || between colon semicolon b || (b == percent_sign) || (b == open_bracket)
+    || between close_bracket caret b || (b == open_brace) || between close_brace tilde b
 
 -- < = > ? !, each with or without an = after it
 abbrev pub may_have_equals : ℕ → Bool
@@ -63,7 +66,3 @@ starts_twice c (b ∷ bs) = (b == c) && starts c bs
 abbrev pub begins : (ℕ → Bool) → List ℕ → Bool
 begins p [] = false
 begins p (b ∷ bs) = p b
-
--- the value of a digit of any base
-abbrev pub digit_value : ℕ → ℕ
-digit_value b = if nat_le b digit_9 then b - digit_0 else (if nat_le b upper_F then b - 55 else b - 87)

@@ -22,7 +22,8 @@ use Rattle.pan_lexer.specs.Parts.{Front, Skip, Written, Int, Text, Document, Bad
 abbrev pub advance : At → ℕ → At
 advance p b =
     if b == line_feed then record { start = p.start + 1; line = p.line + 1; column = 1 }
-    else (if is_continuation b then record p { start = p.start + 1 } else record p { start = p.start + 1; column = p.column + 1 })
+    else (if is_continuation b then record p { start = p.start + 1 }
+    else record p { start = p.start + 1; column = p.column + 1 })
 
 abbrev pub place_after : At → List ℕ → At
 place_after p bytes = fold advance p bytes
@@ -54,7 +55,13 @@ mode_after After kind value = After
 
 -- a token of n bytes
 abbrev pub token : List ℕ → TokenKind → At → ℕ → List ℕ → Token
-token file kind p n value = record { kind = kind; start = p.start; end = p.start + n; place = place_in file p; value = value }
+token file kind p n value = record {
+  kind = kind;
+  start = p.start;
+  end = p.start + n;
+  place = place_in file p;
+  value = value;
+}
 
 -- a fault, without a detail
 abbrev pub fault : List ℕ → Code → At → Fault
@@ -65,23 +72,30 @@ before front (Ok ts) = Ok (front ++ ts)
 before front (Err e) = Err e
 
 -- What follows is read from a number of bytes on, behind the first.
-abbrev pub taken : List ℕ → Mode → At → List ℕ → Front → (ℕ → Mode → Result (List Token) Fault) → Result (List Token) Fault
+abbrev pub taken : List ℕ → Mode → At → List ℕ → Front → (ℕ → Mode → Result (List Token) Fault)
+    → Result (List Token) Fault
 taken file m p bs (Skip kind n) next = next (n - 1) m
-taken file m p bs (Written kind n) next = before (token file kind p n (take n bs) ∷ []) (next (n - 1) (mode_after m kind (take n bs)))
-taken file m p bs (Int v n) next = before (token file kinds.Int p n (decimal v) ∷ []) (next (n - 1) (mode_after m kinds.Int []))
-taken file m p bs (Text v n) next = before (token file kinds.Text p n v ∷ []) (next (n - 1) (mode_after m kinds.Text []))
+taken file m p bs (Written kind n) next =
+    before (token file kind p n (take n bs) ∷ []) (next (n - 1) (mode_after m kind (take n bs)))
+taken file m p bs (Int v n) next =
+    before (token file kinds.Int p n (decimal v) ∷ []) (next (n - 1) (mode_after m kinds.Int []))
+taken file m p bs (Text v n) next =
+    before (token file kinds.Text p n v ∷ []) (next (n - 1) (mode_after m kinds.Text []))
 taken file m p bs (Document v n k) next =
     let q = place_after p (take n bs) in
-    before (token file kinds.Text p n v ∷ token file kinds.Sign q 1 (semicolon ∷ []) ∷ []) (next (n + k) (mode_after m kinds.Text []))
+    before (token file kinds.Text p n v ∷ token file kinds.Sign q 1 (semicolon ∷ [])
+    ∷ []) (next (n + k) (mode_after m kinds.Text []))
 taken file m p bs (Bad code d) next = Err (fault file code (place_after p (take d bs)))
 
 -- The tokens of a text whose first n bytes belong to a piece that was read.
 abbrev pub lexed : List ℕ → ℕ → Mode → At → List ℕ → Result (List Token) Fault
 lexed file n m p [] = Ok (token file kinds.End p 0 [] ∷ [])
 lexed file (suc n) m p (b ∷ bs) = lexed file n m (advance p b) bs
-lexed file zero m p (b ∷ bs) = taken file m p (b ∷ bs) (front (is_naming m) (b ∷ bs)) (λ n m'. lexed file n m' (advance p b) bs)
+lexed file zero m p (b ∷ bs) = taken file m p (b ∷ bs) (front (is_naming m) (b ∷ bs))
+    (λ n m'. lexed file n m' (advance p b) bs)
 
--- The tokens of the bytes of a file of this name. A file that is not UTF-8 has that fault and no other.
+-- The tokens of the bytes of a file of this name. A file that is not UTF-8 has that fault and no
+-- other.
 abbrev pub lexed_file : List ℕ → List ℕ → Result (List Token) Fault
 lexed_file file bytes =
     if utf8_valid_len bytes == length bytes then lexed file 0 Before origin bytes

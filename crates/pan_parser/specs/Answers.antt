@@ -27,13 +27,16 @@ Fails (stops.Bad ts) read = read ≡ Err (Bad ts.now)
 Fails (stops.Deep ts) read = read ≡ Err (Deep ts.now)
 
 -- the whole reading goes on as next says, or fails
-abbrev pub Goes : {X : Type 0} → Result X Stopped → (X → Result Template Stop) → Result Template Stop → Type 0
+abbrev pub Goes : {X : Type 0} → Result X Stopped → (X → Result Template Stop)
+    → Result Template Stop → Type 0
 Goes (Ok x) next read = read ≡ next x
 Goes (Err e) next read = Fails e read
 
--- the state takes a token of which the test holds and no other, with which nothing begins, and then there is the next one
+-- the state takes a token of which the test holds and no other, with which nothing begins, and then
+-- there is the next one
 abbrev pub Wants : State → (Token → Bool) → (Token → State) → Type 0
-Wants s test next = (at_end s ≡ Err (Bad [])) × ((t : Token) → step s t ≡ when_that (test t) (next t) None) × ((t : Token) → opens s t ≡ 0)
+Wants s test next = (at_end s ≡ Err (Bad [])) × ((t : Token)
+    → step s t ≡ when_that (test t) (next t) None) × ((t : Token) → opens s t ≡ 0)
 
 -- whether a token of the sort is what is expected
 abbrev pub takes : Expected → Sort → Bool
@@ -88,7 +91,8 @@ abbrev pub NoSuffix : Tokens → Type 0
 NoSuffix ts = Front is_suffix false ts
 
 -- a type's head and suffixes, with the suffix that was read, or as before
-abbrev pub suffixed : Option (Suffix × Bor (List Token)) → Head → List Suffix → FullStack → Tokens → Result Template Stop
+abbrev pub suffixed : Option (Suffix × Bor (List Token)) → Head → List Suffix → FullStack → Tokens
+    → Result Template Stop
 suffixed None h ss s ts = run ts (HasHead h ss s)
 suffixed (Some r) h ss s ts = run r.1.now (HasHead h (ss ++ r.0 ∷ []) s)
 

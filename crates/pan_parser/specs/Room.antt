@@ -1,5 +1,5 @@
--- How far a tree reaches in memory that constructs hold: each construct that it may hold takes eleven pointers at most,
--- one for each line of chains of operators and two more.
+-- How far a tree reaches in memory that constructs hold: each construct that it may hold takes
+-- eleven pointers at most, one for each line of chains of operators and two more.
 use Rattle.std.specs.Prelude.{ℕ, ◌+◌, ◌*◌, ◌≤◌}
 use Rattle.base.specs.declared.limits.TheConstants.{MAX_NESTING}
 

@@ -1,5 +1,5 @@
--- The template that a file spells, or its first fault: that of its bytes, F01 to F05, or else that of its tokens, F06 or
--- F07.
+-- The template that a file spells, or its first fault: that of its bytes, F01 to F05, or else that
+-- of its tokens, F06 or F07.
 use Rattle.std.specs.Prelude.{ℕ, List, Result, Ok, Err}
 use Rattle.pan_ast.specs.declared.fault.Fault.{Fault}
 use Rattle.pan_ast.specs.declared.token.Token.{Token}

@@ -1,5 +1,5 @@
--- Keys and their answers; how a piece of a program runs and is told answers; runs that are told lists of pairs or words,
--- and the laws of a run.
+-- Keys and their answers; how a piece of a program runs and is told answers; runs that are told
+-- lists of pairs or words, and the laws of a run.
 pub mod Keys
 pub mod Contents
 pub mod Run

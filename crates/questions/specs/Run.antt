@@ -1,4 +1,5 @@
--- How a piece of a program runs: it is told answers, begins with a state and a meter, and comes to an outcome.
+-- How a piece of a program runs: it is told answers, begins with a state and a meter, and comes to
+-- an outcome.
 use Rattle.std.specs.Prelude.{ℕ, ◌-◌, List, [], Option, Some, None, Bool, true, false, nat_eq}
 use Rattle.path_tree.specs.Plain.{Plain}
 use Rattle.pan_ast.specs.declared.place.Place.{Place}
@@ -79,7 +80,8 @@ answered (Some c) k s m = Done c s (noted k m)
 abbrev pub ask : {S : Type 0} → Key → Run S Content
 ask k o s m = answered (o k) k s m
 
--- a piece with a state of its own: its value, or what it returned, and the outer state that its own leaves
+-- a piece with a state of its own: its value, or what it returned, and the outer state that its own
+-- leaves
 abbrev pub ended : {S T : Type 0} → (T → S) → Outcome T Plain → Outcome S Plain
 ended out (Done t s m) = Done t (out s) m
 ended out (Returned t s m) = Done t (out s) m

@@ -64,7 +64,8 @@ abbrev pub stopped : {R : Type 0} → Word Content → Ran Key R
 stopped (Needs p) = Stops p
 stopped (Tells n c) = Lost
 
--- an outcome as a run over words: its end with the keys that it asked and their numbers, or the object that it waits for
+-- an outcome as a run over words: its end with the keys that it asked and their numbers, or the
+-- object that it waits for
 abbrev pub ran_by : {S X R : Type 0} → (Key → Word Content) → Ending S X R → Outcome S X → Ran Key R
 ran_by tells f (Done x s m) = Finished (map (numbered tells) m.asked) (f.done x s)
 ran_by tells f (Returned t s m) = Finished (map (numbered tells) m.asked) (f.returned t s)
@@ -76,19 +77,26 @@ abbrev pub IsPlainList : List (Key × Content) → Type 0
 IsPlainList [] = Unit {0}
 IsPlainList (q ∷ qs) = (is_circular_answer q.0 q.1 ≡ false) × IsPlainList qs
 
--- The laws of a run as questions and answers. may: the keys that it may ask; is_circular: whether an end is the fault of
--- a circular object.
-pub record RunLaws {R : Type 0} (may : Key → Type 0) (is_circular : R → Bool) (run : List (Key × Content) → Answer Key R) (work : List (Key × Content) → ℕ) : Type 0 where
+-- The laws of a run as questions and answers. may: the keys that it may ask; is_circular: whether
+-- an end is the fault of a circular object.
+pub record RunLaws {R : Type 0} (may : Key → Type 0) (is_circular : R → Bool)
+    (run : List (Key × Content) → Answer Key R) (work : List (Key × Content) → ℕ) : Type 0 where
   -- a key that is asked is not in the list
   pub unknown : (qs : List (Key × Content)) (k : Key) → run qs ≡ Asks k → answer_in qs k ≡ None
   pub key : (qs : List (Key × Content)) (k : Key) → run qs ≡ Asks k → may k
-  -- the work is bounded; a run that ends by asking uses at most that of the run with an answer; each key costs
+  -- the work is bounded; a run that ends by asking uses at most that of the run with an answer;
+  -- each key costs
   pub bounded : (qs : List (Key × Content)) → work qs ≤ MAX_WORK
-  pub grows : (qs : List (Key × Content)) (k : Key) (c : Content) → run qs ≡ Asks k → work qs ≤ work ((k, c) ∷ qs)
+  pub grows : (qs : List (Key × Content)) (k : Key) (c : Content) → run qs ≡ Asks k
+      → work qs ≤ work ((k, c) ∷ qs)
   pub paid : (qs : List (Key × Content)) → AreAsked run qs → length qs ≤ work qs
-  -- an answer Circular ends the run with the fault of a circular object, and without one there is no such fault
-  pub circular : (qs : List (Key × Content)) (k : Key) (c : Content) → run qs ≡ Asks k → is_circular_answer k c ≡ true → (r : R) × (run ((k, c) ∷ qs) ≡ Ends r) × (is_circular r ≡ true)
-  pub plain : (qs : List (Key × Content)) (r : R) → IsPlainList qs → run qs ≡ Ends r → is_circular r ≡ false
+  -- an answer Circular ends the run with the fault of a circular object, and without one there is
+  -- no such fault
+  pub circular : (qs : List (Key × Content)) (k : Key) (c : Content) → run qs ≡ Asks k
+      → is_circular_answer k c ≡ true → (r : R) × (run ((k, c) ∷ qs) ≡ Ends r)
+      × (is_circular r ≡ true)
+  pub plain : (qs : List (Key × Content)) (r : R) → IsPlainList qs → run qs ≡ Ends r
+      → is_circular r ≡ false
 
 -- how an end is the fault of a circular object
 pub record IsEnd {S X R : Type 0} (end : Ending S X R) (is_circular_end : R → Bool) : Type 0 where
@@ -98,8 +106,11 @@ pub record IsEnd {S X R : Type 0} (end : Ending S X R) (is_circular_end : R → 
 
 -- A run over words is the run that is told what they tell. No run asks as many as 2,000,001 keys.
 abbrev pub IsRanBy : {S X R : Type 0} → Ending S X R → Run S X → S → Type 0
-IsRanBy f r s = (tells : Key → Word Content) → ran (λ qs. answer_by f (r (answer_in qs) s whole)) tells more_than_asked [] ≡ ran_by tells f (r (answers_of tells) s whole)
+IsRanBy f r s = (tells : Key → Word Content) → ran (λ qs. answer_by f (r (answer_in qs) s whole))
+    tells more_than_asked [] ≡ ran_by tells f (r (answers_of tells) s whole)
 
 -- and it uses the work of the run that is told the pairs that it was told
 abbrev pub IsWorkOf : {S X R : Type 0} → Ending S X R → Run S X → S → Type 0
-IsWorkOf f r s = (tells : Key → Word Content) → work_of (r (answers_of tells) s whole) ≡ work_of (r (answer_in (told_in (λ qs. answer_by f (r (answer_in qs) s whole)) tells more_than_asked [])) s whole)
+IsWorkOf f r s = (tells : Key → Word Content) → work_of (r (answers_of tells) s whole)
+    ≡ work_of (r (answer_in (told_in (λ qs. answer_by f (r (answer_in qs) s whole)) tells
+    more_than_asked [])) s whole)

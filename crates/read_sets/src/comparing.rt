@@ -35,7 +35,8 @@ pub fn compare<N: Numbers, L: Ledger>(
 ) -> Mismatch
     requires { from ≤ length trace.now }
     ensures answer { result ≡ mismatch (N.number_of numbers.now) from (drop from trace.now) }
-    ensures counted { steps.new ≡ steps.old + looked (N.number_of numbers.now) (drop from trace.now) }
+    ensures counted { steps.new ≡ steps.old + looked (N.number_of numbers.now)
+        (drop from trace.now) }
 {
     let items = trace.items();
     let mut at = from;

@@ -51,10 +51,11 @@ by_last (Some l) c = by_result l.1 c
 abbrev pub is_pending : {T : Type 0} → EngineSituation T → Name → Bool
 is_pending x p = x.state.open_build p || x.state.open_check p
 
--- the answer for a name: none where it is no object, none yet where a part is unsettled, and else by its last result
--- and its verdict
+-- the answer for a name: none where it is no object, none yet where a part is unsettled, and else
+-- by its last result and its verdict
 abbrev pub answer_at : {T : Type 0} → EngineSituation T → Name → Seen
-answer_at x p = cond (is_among p x.picture.objects) (cond (is_pending x p) pending (by_last (x.state.last p) (x.state.checked p))) no_object
+answer_at x p = cond (is_among p x.picture.objects)
+    (cond (is_pending x p) pending (by_last (x.state.last p) (x.state.checked p))) no_object
 
 -- why a name was run last, or that it is no object
 pub data SeenWhy : Type 0 where
@@ -74,13 +75,16 @@ why_at x p = cond (is_among p x.picture.objects) (of_object (x.state.why p)) of_
 abbrev pub seen_reads : Option Reads → Option (List (Key × ℕ) × List (Key × ℕ))
 seen_reads = option_map (λ r. (pairs_of r.build.now, pairs_of r.check.now))
 
-abbrev pub both_reads : Option (List (Key × ℕ)) → Option (List (Key × ℕ) × Verdict) → Option (List (Key × ℕ) × List (Key × ℕ))
+abbrev pub both_reads : Option (List (Key × ℕ)) → Option (List (Key × ℕ) × Verdict)
+    → Option (List (Key × ℕ) × List (Key × ℕ))
 both_reads None c = None
 both_reads (Some items) None = None
 both_reads (Some items) (Some c) = Some (items, c.0)
 
-abbrev pub reads_at : {T : Type 0} → EngineSituation T → Name → Option (List (Key × ℕ) × List (Key × ℕ))
-reads_at x p = cond (is_among p x.picture.objects) (cond (is_pending x p) None (both_reads (x.state.reads p) (x.state.checked p))) None
+abbrev pub reads_at : {T : Type 0} → EngineSituation T → Name
+    → Option (List (Key × ℕ) × List (Key × ℕ))
+reads_at x p = cond (is_among p x.picture.objects)
+    (cond (is_pending x p) None (both_reads (x.state.reads p) (x.state.checked p))) None
 
 -- the objects that were run
 abbrev pub runs_at : {T : Type 0} → EngineSituation T → List Name

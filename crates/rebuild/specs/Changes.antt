@@ -29,8 +29,16 @@ abbrev pub dropped_row : {T : Type 0} → Cause → Row T → Row T
 dropped_row c r = record r { build = None; check = None; run = true; cause = c }
 
 -- the build part settles with what a run gave
-abbrev pub settled_row : {T : Type 0} → ℕ → Result Plain Fault → Option (Built T) → List Item → Row T → Row T
-settled_row number result held items r = record r { last = Some (record { number = number; result = result }); build = Some items; check = None; open_build = false; held = held }
+abbrev pub settled_row : {T : Type 0} → ℕ → Result Plain Fault → Option (Built T) → List Item
+    → Row T → Row T
+settled_row number result held items r = record r {
+  last = Some
+      (record { number = number; result = result });
+  build = Some items;
+  check = None;
+  open_build = false;
+  held = held;
+}
 
 abbrev pub changed_cause : Option Key → Cause
 changed_cause None = cause.NoRecord
@@ -59,7 +67,11 @@ entered_row c r = record r { run = true; cause = entered_cause r.run r.cause c }
 
 -- the check part settles with what a run gave, and with its record
 abbrev pub judged_row : {T : Type 0} → List Item → Option Fault → Row T → Row T
-judged_row items verdict r = record r { check = Some (record { reads = items; verdict = verdict }); open_check = false; held = None }
+judged_row items verdict r = record r {
+  check = Some (record { reads = items; verdict = verdict });
+  open_check = false;
+  held = None;
+}
 
 abbrev pub judged_kept_row : {T : Type 0} → Row T → Row T
 judged_kept_row r = record r { open_check = false; held = None }

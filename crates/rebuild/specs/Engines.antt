@@ -22,7 +22,8 @@ use Rattle.rebuild.specs.Ready.{core_state, core_picture, is_chain, are_known, a
 abbrev pub EngineSituation : Type 0 → Type 0
 EngineSituation T = Situation Key Content (End T) Kept Verdict
 
--- limits and directories, the files of the last take with their numbers, and the machine's picture and state
+-- limits and directories, the files of the last take with their numbers, and the machine's picture
+-- and state
 pub record EngineValue (T : Type 0) : Type 0 where
   pub limits : Limits
   pub dirs : List (List ℕ)
@@ -49,7 +50,8 @@ abbrev pub turns_left_of : {T : Type 0} → Core T → ℕ
 turns_left_of c = turns_left (names c.rows.items) (core_state c)
 
 abbrev pub value_of : {T : Type 0} → Core T → EngineValue T
-value_of c = record { limits = c.limits; dirs = c.dirs; files = c.files.items; situation = situation_of c }
+value_of c =
+    record { limits = c.limits; dirs = c.dirs; files = c.files.items; situation = situation_of c }
 
 -- before the first take
 abbrev pub new_situation : {T : Type 0} → EngineSituation T
@@ -57,27 +59,35 @@ new_situation = record { picture = picture_in [] []; state = state_of 3 [] [] []
 
 -- the data is in order: an invariant as a test
 abbrev pub is_ready : {T : Type 0} → Core T → Bool
-is_ready c = nat_le 3 c.counter && (are_once (names c.rows.items) && (are_graded c.rows.items && (is_chain c.chain && are_known (names c.rows.items) c.chain)))
+is_ready c = nat_le 3 c.counter && (are_once (names c.rows.items)
+    && (are_graded c.rows.items && (is_chain c.chain && are_known (names c.rows.items) c.chain)))
 
 -- some list of events of the machine leads to the engine's situation
 abbrev pub IsEngine : {T : Type 0} → Meanings T → EngineValue T → Type 0
-IsEngine m e = IsReached (runner_of (m e.dirs e.limits).build) keeping (judge_of (m e.dirs e.limits).check) e.situation
+IsEngine m e = IsReached (runner_of (m e.dirs e.limits).build) keeping
+    (judge_of (m e.dirs e.limits).check) e.situation
 
 -- what an event makes of it
-abbrev pub after_event : {T : Type 0} → Meanings T → EngineValue T → Event Key Content → EngineSituation T
-after_event m e event = happens (runner_of (m e.dirs e.limits).build) keeping (judge_of (m e.dirs e.limits).check) e.situation event
+abbrev pub after_event : {T : Type 0} → Meanings T → EngineValue T → Event Key Content
+    → EngineSituation T
+after_event m e event = happens (runner_of (m e.dirs e.limits).build) keeping
+    (judge_of (m e.dirs e.limits).check) e.situation event
 
 -- what is settled in it is what compiling the whole picture from scratch gives
 abbrev pub IsTrue : {T : Type 0} → Meanings T → EngineValue T → Type 0
-IsTrue m e = IsFromScratch (runner_of (m e.dirs e.limits).build) keeping (judge_of (m e.dirs e.limits).check) e.situation
+IsTrue m e = IsFromScratch (runner_of (m e.dirs e.limits).build) keeping
+    (judge_of (m e.dirs e.limits).check) e.situation
 
 -- a take of these files and objects, after files that had numbers
 abbrev pub take_of : List FileRow → ℕ → List PictureFile → List Name → Event Key Content
-take_of old counter files objects = Take (picture_in files objects) (number_in (numbered old counter files)) (counter_after old counter files)
+take_of old counter files objects = Take (picture_in files objects)
+    (number_in (numbered old counter files)) (counter_after old counter files)
 
 -- what a take of these files and objects makes of an engine
-abbrev pub after_take : {T : Type 0} → Meanings T → EngineValue T → List PictureFile → List Name → EngineSituation T
-after_take m e files objects = after_event m e (take_of e.files e.situation.state.counter files objects)
+abbrev pub after_take : {T : Type 0} → Meanings T → EngineValue T → List PictureFile → List Name
+    → EngineSituation T
+after_take m e files objects =
+    after_event m e (take_of e.files e.situation.state.counter files objects)
 
 -- what one turn makes of it
 abbrev pub after_turn : {T : Type 0} → Meanings T → EngineValue T → EngineSituation T

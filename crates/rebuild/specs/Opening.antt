@@ -26,4 +26,5 @@ IsTop c (Check at) = IsCheckTop c at
 
 -- what a turn did, by the parts on the chain before it and after it
 abbrev pub turned_by : ℕ → ℕ → Turned
-turned_by before after = cond (nat_lt after before) Settled (cond (nat_eq after before) Idle (cond (nat_eq before 0) Opened Demanded))
+turned_by before after = cond (nat_lt after before) Settled
+    (cond (nat_eq after before) Idle (cond (nat_eq before 0) Opened Demanded))

@@ -24,8 +24,10 @@ kept_or r (Some x) = reopened x
 
 -- the row at this place takes what the old rows keep of its name; those keep all of other names
 pub record IsRenewed {T : Type 0} (at : ℕ) (fresh old fresh' old' : List (Row T)) : Type 0 where
-  pub taken : (e : Row T) → fresh' ≡ slice_set fresh at (kept_or (get_or fresh at e) (row_in (get_or fresh at e).name old))
-  pub others : (e : Row T) (q : Name) → equal q (get_or fresh at e).name ≡ false → row_in q old' ≡ row_in q old
+  pub taken : (e : Row T) → fresh' ≡ slice_set fresh at
+      (kept_or (get_or fresh at e) (row_in (get_or fresh at e).name old))
+  pub others : (e : Row T) (q : Name) → equal q (get_or fresh at e).name ≡ false
+      → row_in q old' ≡ row_in q old
 
 -- the first i objects have what was kept of them, the others are fresh
 abbrev pub renewed : {T : Type 0} → ℕ → List Name → List (Row T) → List (Row T)
@@ -35,10 +37,13 @@ renewed (suc i) (o ∷ objects) old = taken_row o (row_in o old) ∷ renewed i o
 
 -- the state after a Take of a picture with these files and objects
 abbrev pub taken_state : {T : Type 0} → List PictureFile → List Name → Core T → EngineState T
-taken_state files objects c = taken (picture_of (numbered c.files.items c.counter files) objects) (number_in (numbered c.files.items c.counter files)) (counter_after c.files.items c.counter files) (core_state c)
+taken_state files objects c = taken (picture_of (numbered c.files.items c.counter files) objects)
+    (number_in (numbered c.files.items c.counter files))
+    (counter_after c.files.items c.counter files) (core_state c)
 
 -- the data after a Take of a picture with these files and objects
-pub record IsTaken {T : Type 0} (files : List PictureFile) (objects : List Name) (c new : Core T) : Type 0 where
+pub record IsTaken {T : Type 0} (files : List PictureFile) (objects : List Name)
+    (c new : Core T) : Type 0 where
   pub state : core_state new ≡ taken_state files objects c
   pub ready : IsReady new
   pub limits : new.limits ≡ c.limits

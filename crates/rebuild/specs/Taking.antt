@@ -45,15 +45,27 @@ old_or_none old name (Bytes bs) = number_before (Bytes bs) (file_in old name)
 -- files keep their numbers or draw, in order
 abbrev pub numbered : List FileRow → ℕ → List PictureFile → List FileRow
 numbered old counter [] = []
-numbered old counter (f ∷ fs) = with_number f (number_or counter (old_or_none old f.name f.content)) ∷ numbered old (counter_or counter (old_or_none old f.name f.content)) fs
+numbered old counter (f ∷ fs) = with_number f (number_or counter (old_or_none old f.name f.content))
+    ∷ numbered old (counter_or counter (old_or_none old f.name f.content)) fs
 
 abbrev pub counter_after : List FileRow → ℕ → List PictureFile → ℕ
 counter_after old counter [] = counter
-counter_after old counter (f ∷ fs) = counter_after old (counter_or counter (old_or_none old f.name f.content)) fs
+counter_after old counter (f ∷ fs) =
+    counter_after old (counter_or counter (old_or_none old f.name f.content)) fs
 
 -- the row of an object that was none before
 abbrev pub new_row : {T : Type 0} → Name → Row T
-new_row p = record { name = p; last = None; build = None; check = None; open_build = true; open_check = true; held = None; run = false; cause = cause.NotRun }
+new_row p = record {
+  name = p;
+  last = None;
+  build = None;
+  check = None;
+  open_build = true;
+  open_check = true;
+  held = None;
+  run = false;
+  cause = cause.NotRun;
+}
 
 -- the row of an object after a Take
 abbrev pub taken_row : {T : Type 0} → Name → Option (Row T) → Row T

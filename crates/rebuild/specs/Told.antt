@@ -27,17 +27,20 @@ seen_settled terms None = (2, None)
 seen_settled terms (Some l) = seen_last terms l
 
 abbrev pub seen_row : {T : Type 0} → Bool → List Term → Row T → Option (ℕ × Option Plain)
-seen_row on_chain terms r = cond on_chain (Some (2, None)) (cond r.open_build None (Some (seen_settled terms r.last)))
+seen_row on_chain terms r =
+    cond on_chain (Some (2, None)) (cond r.open_build None (Some (seen_settled terms r.last)))
 
 abbrev pub is_on_chain : List Part → Name → Bool
 is_on_chain parts p = holds_build p parts
 
 -- of the object with this name, at these terms
-abbrev pub seen_found : {T : Type 0} → List Part → List Term → Option (Row T) → Option (ℕ × Option Plain)
+abbrev pub seen_found : {T : Type 0} → List Part → List Term → Option (Row T)
+    → Option (ℕ × Option Plain)
 seen_found parts terms None = Some (0, None)
 seen_found parts terms (Some r) = seen_row (is_on_chain parts r.name) terms r
 
-abbrev pub seen_in : {T : Type 0} → List (Row T) → List Part → Name → List Term → Option (ℕ × Option Plain)
+abbrev pub seen_in : {T : Type 0} → List (Row T) → List Part → Name → List Term
+    → Option (ℕ × Option Plain)
 seen_in rows parts p terms = seen_found parts terms (row_in p rows)
 
 abbrev pub number_of : {T : Type 0} → List FileRow → List (Row T) → List Part → Key → Option ℕ

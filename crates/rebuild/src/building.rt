@@ -87,8 +87,10 @@ fn number_for<T>(row: &Row<T>, tree: &Tree, counter: u64) -> u64
 
 /// A number is given: the counter is drawn where it is this number.
 fn give_number<T: Drop>(core: &mut Core<T>, number: u64) -> Result<(), TurnError>
-    ensures given { OnOk result (core.new ≡ record core.old { counter = next_counter number core.old.counter }) }
-    ensures low { OnOk result (core.old.counter ≤ END_OF_NUMBERS → core.new.counter ≤ END_OF_NUMBERS) }
+    ensures given { OnOk result (core.new ≡ record core.old
+        { counter = next_counter number core.old.counter }) }
+    ensures low { OnOk result (core.old.counter ≤ END_OF_NUMBERS
+        → core.new.counter ≤ END_OF_NUMBERS) }
     ensures before { OnErr result (core.new ≡ core.old) }
 {
     if number == core.counter {
@@ -120,7 +122,8 @@ fn stop_top<T: Drop>(
     requires ready { IsReady core.old }
     requires top { IsBuildTop core.old at }
     requires known { is_among name (names core.old.rows.items) ≡ true }
-    ensures state { OnOk result (core_state core.new ≡ stopped_turn core.old (top_cause differs core.old) name) }
+    ensures state { OnOk result (core_state core.new
+        ≡ stopped_turn core.old (top_cause differs core.old) name) }
     ensures ready { OnOk result (StaysReady core.old core.new) }
     ensures before { OnErr result (core.new ≡ core.old) }
 {
@@ -139,7 +142,8 @@ fn settle_fault<T: Drop>(
 )
     requires ready { IsReady core.old }
     requires top { IsBuildTop core.old at }
-    ensures state { core_state core.new ≡ settled_turn core.old (top_cause differs core.old) (pairs_of reads) (Err fault) }
+    ensures state { core_state core.new ≡ settled_turn core.old (top_cause differs core.old)
+        (pairs_of reads) (Err fault) }
     ensures ready { StaysReady core.old core.new }
 {
     let number = fault_number(fault.code);
@@ -157,7 +161,8 @@ fn settle_value<T: Drop>(
 ) -> Result<(), TurnError>
     requires ready { IsReady core.old }
     requires top { IsBuildTop core.old at }
-    ensures state { OnOk result (core_state core.new ≡ settled_turn core.old (top_cause differs core.old) (pairs_of reads) (Ok built)) }
+    ensures state { OnOk result (core_state core.new
+        ≡ settled_turn core.old (top_cause differs core.old) (pairs_of reads) (Ok built)) }
     ensures ready { OnOk result (StaysReady core.old core.new) }
     ensures before { OnErr result (core.new ≡ core.old) }
 {
@@ -187,7 +192,8 @@ pub(crate) fn build_at<R: Runner, L: Ledger>(
     requires ready { IsReady core.now }
     requires named { row_place (top_name core.now.chain) 0 core.now.rows.items ≡ Some at }
     requires picture { R.files_of runner.old ≡ pictured core.now.files.items }
-    ensures answer { IfOk result (λ end. top_run (R.meaning (R.dirs_of runner.old) core.now.limits).build core.now ≡ build_ran end) }
+    ensures answer { IfOk result (λ end. top_run (R.meaning (R.dirs_of runner.old)
+        core.now.limits).build core.now ≡ build_ran end) }
     ensures files { R.files_of runner.new ≡ R.files_of runner.old }
     ensures dirs { R.dirs_of runner.new ≡ R.dirs_of runner.old }
 {
@@ -205,7 +211,9 @@ fn run_top<R: Runner, L: Ledger>(
     requires ready { IsReady core.old }
     requires top { IsBuildTop core.old at }
     requires picture { R.files_of runner.old ≡ pictured core.old.files.items }
-    ensures state { OnOk result (core_state core.new ≡ ran_turn (R.meaning (R.dirs_of runner.old) core.old.limits).build core.old (top_cause differs core.old)) }
+    ensures state { OnOk result (core_state core.new
+        ≡ ran_turn (R.meaning (R.dirs_of runner.old) core.old.limits).build core.old
+        (top_cause differs core.old)) }
     ensures ready { OnOk result (StaysReady core.old core.new) }
     ensures before { OnErr result (core.new ≡ core.old) }
 {
@@ -230,7 +238,8 @@ pub(crate) fn build_top<R: Runner, L: Ledger>(
     requires ready { IsReady core.old }
     requires top { IsBuildTop core.old at }
     requires picture { R.files_of runner.old ≡ pictured core.old.files.items }
-    ensures state { OnOk result (core_state core.new ≡ build_turn (R.meaning (R.dirs_of runner.old) core.old.limits).build core.old) }
+    ensures state { OnOk result (core_state core.new
+        ≡ build_turn (R.meaning (R.dirs_of runner.old) core.old.limits).build core.old) }
     ensures ready { OnOk result (StaysReady core.old core.new) }
     ensures before { OnErr result (core.new ≡ core.old) }
 {

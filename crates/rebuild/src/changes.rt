@@ -60,7 +60,8 @@ pub(crate) fn settle_build<T: Drop>(
     reads: Trace,
     differs: Option<usize>,
 )
-    ensures { row.new ≡ settled_row number kept held reads (dropped_row (cause_for differs row.old) row.old) }
+    ensures { row.new ≡ settled_row number kept held reads
+        (dropped_row (cause_for differs row.old) row.old) }
 {
     drop_record(row, differs);
     row.last = Some(Last {
@@ -99,7 +100,8 @@ pub(crate) fn judge_run<T: Drop>(
     verdict: Option<Fault>,
     differs: Option<usize>,
 )
-    ensures { row.new ≡ judged_row reads verdict (entered_row (check_cause differs row.old.check) row.old) }
+    ensures { row.new ≡ judged_row reads verdict (entered_row (check_cause differs row.old.check)
+        row.old) }
 {
     if !row.run {
         row.cause = check_cause(row.check.take(), differs);

@@ -54,7 +54,8 @@ fn judge_run_top<T: Drop>(
 )
     requires ready { IsReady core.old }
     requires top { IsCheckTop core.old at }
-    ensures state { core_state core.new ≡ judged_run_turn core.old (top_check_cause differs core.old) (pairs_of reads) verdict }
+    ensures state { core_state core.new ≡ judged_run_turn core.old
+        (top_check_cause differs core.old) (pairs_of reads) verdict }
     ensures ready { StaysReady core.old core.new }
 {
     judge_run(&mut core.rows[at], reads, verdict, differs);
@@ -71,7 +72,8 @@ fn finish_check<T: Drop>(
 )
     requires ready { IsReady core.old }
     requires top { IsCheckTop core.old at }
-    ensures state { core_state core.new ≡ ended_turn core.old (top_check_cause differs core.old) (check_ran end) }
+    ensures state { core_state core.new ≡ ended_turn core.old (top_check_cause differs core.old)
+        (check_ran end) }
     ensures ready { StaysReady core.old core.new }
 {
     match end {
@@ -90,7 +92,10 @@ fn check_value<R: Runner, L: Ledger>(
 ) -> Result<CheckEnd, AllocError>
     requires ready { IsReady core.now }
     requires picture { R.files_of runner.old ≡ pictured core.now.files.items }
-    ensures answer { IfOk result (λ end. value_run (R.meaning (R.dirs_of runner.old) core.now.limits).build (R.meaning (R.dirs_of runner.old) core.now.limits).check core.now built.now ≡ check_ran end) }
+    ensures answer { IfOk result (λ end. value_run
+        (R.meaning (R.dirs_of runner.old) core.now.limits).build
+        (R.meaning (R.dirs_of runner.old) core.now.limits).check core.now built.now
+        ≡ check_ran end) }
     ensures files { R.files_of runner.new ≡ R.files_of runner.old }
     ensures dirs { R.dirs_of runner.new ≡ R.dirs_of runner.old }
 {
@@ -110,7 +115,10 @@ fn rerun_top<R: Runner, L: Ledger>(
     requires top { IsCheckTop core.old at }
     requires none { column held_of None core.old.rows.items (top_name core.old.chain) ≡ None }
     requires picture { R.files_of runner.old ≡ pictured core.old.files.items }
-    ensures state { OnOk result (core_state core.new ≡ run_check_state (R.meaning (R.dirs_of runner.old) core.old.limits).build (R.meaning (R.dirs_of runner.old) core.old.limits).check core.old (top_check_cause differs core.old)) }
+    ensures state { OnOk result (core_state core.new
+        ≡ run_check_state (R.meaning (R.dirs_of runner.old) core.old.limits).build
+        (R.meaning (R.dirs_of runner.old) core.old.limits).check core.old
+        (top_check_cause differs core.old)) }
     ensures ready { OnOk result (StaysReady core.old core.new) }
     ensures before { OnErr result (core.new ≡ core.old) }
 {
@@ -139,7 +147,10 @@ fn run_check_top<R: Runner, L: Ledger>(
     requires ready { IsReady core.old }
     requires top { IsCheckTop core.old at }
     requires picture { R.files_of runner.old ≡ pictured core.old.files.items }
-    ensures state { OnOk result (core_state core.new ≡ run_check_state (R.meaning (R.dirs_of runner.old) core.old.limits).build (R.meaning (R.dirs_of runner.old) core.old.limits).check core.old (top_check_cause differs core.old)) }
+    ensures state { OnOk result (core_state core.new
+        ≡ run_check_state (R.meaning (R.dirs_of runner.old) core.old.limits).build
+        (R.meaning (R.dirs_of runner.old) core.old.limits).check core.old
+        (top_check_cause differs core.old)) }
     ensures ready { OnOk result (StaysReady core.old core.new) }
     ensures before { OnErr result (core.new ≡ core.old) }
 {
@@ -174,7 +185,9 @@ fn compare_top<R: Runner, L: Ledger>(
     requires ready { IsReady core.old }
     requires top { IsCheckTop core.old at }
     requires picture { R.files_of runner.old ≡ pictured core.old.files.items }
-    ensures state { OnOk result (core_state core.new ≡ with_check_state (R.meaning (R.dirs_of runner.old) core.old.limits).build (R.meaning (R.dirs_of runner.old) core.old.limits).check core.old) }
+    ensures state { OnOk result (core_state core.new
+        ≡ with_check_state (R.meaning (R.dirs_of runner.old) core.old.limits).build
+        (R.meaning (R.dirs_of runner.old) core.old.limits).check core.old) }
     ensures ready { OnOk result (StaysReady core.old core.new) }
     ensures before { OnErr result (core.new ≡ core.old) }
 {
@@ -203,7 +216,9 @@ pub(crate) fn check_top<R: Runner, L: Ledger>(
     requires ready { IsReady core.old }
     requires top { IsCheckTop core.old at }
     requires picture { R.files_of runner.old ≡ pictured core.old.files.items }
-    ensures state { OnOk result (core_state core.new ≡ check_state (R.meaning (R.dirs_of runner.old) core.old.limits).build (R.meaning (R.dirs_of runner.old) core.old.limits).check core.old) }
+    ensures state { OnOk result (core_state core.new
+        ≡ check_state (R.meaning (R.dirs_of runner.old) core.old.limits).build
+        (R.meaning (R.dirs_of runner.old) core.old.limits).check core.old) }
     ensures ready { OnOk result (StaysReady core.old core.new) }
     ensures before { OnErr result (core.new ≡ core.old) }
 {

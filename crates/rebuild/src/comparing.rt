@@ -71,7 +71,8 @@ pub(crate) fn compare_check<T, L: Ledger>(
     core: &Core<T>,
     steps: &mut Steps<L>,
 ) -> Result<Found, AllocError>
-    ensures { IfOk result (λ f. f ≡ found_of (core_number_of core.now) (option_map check_reads row.now.check)) }
+    ensures { IfOk result (λ f. f ≡ found_of (core_number_of core.now)
+        (option_map check_reads row.now.check)) }
 {
     match &row.check {
         None => Ok(Found::Unread),

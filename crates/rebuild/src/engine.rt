@@ -79,9 +79,11 @@ impl<R: Runner> Engine<R> {
         runner: &mut R,
         steps: &mut Steps<L>,
     ) -> Result<(), TakeError>
-        ensures objects { OnOk result (AreObjects picture self.old.core.dirs (objects_of self.new.core)) }
+        ensures objects { OnOk result (AreObjects picture self.old.core.dirs
+            (objects_of self.new.core)) }
         ensures few { OnOk result (length (objects_of self.new.core) ≤ MAX_OBJECTS) }
-        ensures state { OnOk result (situation_of self.new.core ≡ after_take R.meaning (value_of self.old.core) picture (objects_of self.new.core)) }
+        ensures state { OnOk result (situation_of self.new.core
+            ≡ after_take R.meaning (value_of self.old.core) picture (objects_of self.new.core)) }
         ensures files { OnOk result (pictured self.new.core.files.items ≡ picture) }
         ensures dirs { self.new.core.dirs ≡ self.old.core.dirs }
         ensures limits { self.new.core.limits ≡ self.old.core.limits }
@@ -89,7 +91,8 @@ impl<R: Runner> Engine<R> {
         ensures given { OnOk result (R.files_of runner.new ≡ picture) }
         ensures given_dirs { OnOk result (R.dirs_of runner.new ≡ self.old.core.dirs) }
         ensures runs { R.runs_of runner.new ≡ R.runs_of runner.old }
-        ensures refused { IfErr result (IsRefused self.old.core.files.items self.old.core.counter picture self.old.core.dirs) }
+        ensures refused { IfErr result (IsRefused self.old.core.files.items self.old.core.counter
+            picture self.old.core.dirs) }
         ensures before { OnErr result (self.new.core ≡ self.old.core) }
         ensures runner_before { OnErr result (runner.new ≡ runner.old) }
         ensures refused_steps { OnErr result (steps.new ≤ steps.old + length picture) }
@@ -110,9 +113,12 @@ impl<R: Runner> Engine<R> {
     ) -> Result<Turned, TurnError>
         requires picture { R.files_of runner.old ≡ pictured self.old.core.files.items }
         requires dirs { R.dirs_of runner.old ≡ self.old.core.dirs }
-        ensures state { OnOk result (situation_of self.new.core ≡ after_turn R.meaning (value_of self.old.core)) }
-        ensures turned { IfOk result (λ did. did ≡ turned_by (parts_of self.old.core) (parts_of self.new.core)) }
-        ensures fewer { OnOk result (turns_left_of self.new.core ≡ turns_left_of self.old.core - 1) }
+        ensures state { OnOk result (situation_of self.new.core
+            ≡ after_turn R.meaning (value_of self.old.core)) }
+        ensures turned { IfOk result (λ did. did ≡ turned_by (parts_of self.old.core)
+            (parts_of self.new.core)) }
+        ensures fewer { OnOk result (turns_left_of self.new.core ≡ turns_left_of self.old.core
+            - 1) }
         ensures files { OnOk result (self.new.core.files.items ≡ self.old.core.files.items) }
         ensures dirs { self.new.core.dirs ≡ self.old.core.dirs }
         ensures before { OnErr result (self.new.core ≡ self.old.core) }

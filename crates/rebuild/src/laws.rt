@@ -19,7 +19,14 @@ use runner::Runner;
 /// object that it read; for each object that they run, the work of its build and its check once, and once more for each
 /// other object that it reads.
 pub fn rounds<R: Runner>()
-    ensures runs { (dirs : List (List ℕ)) (limits : Limits) → RunsWhatChanged (runner_of (R.meaning dirs limits).build) keeping (judge_of (R.meaning dirs limits).check) }
-    ensures steps { (dirs : List (List ℕ)) (limits : Limits) → IsBounded (runner_of (R.meaning dirs limits).build) keeping (judge_of (R.meaning dirs limits).check) (costs_of (R.meaning dirs limits)) }
-    ensures costs { (dirs : List (List ℕ)) (limits : Limits) (files : List PictureFile) (objects : List Name) → AreCosts (runner_of (R.meaning dirs limits).build) keeping (judge_of (R.meaning dirs limits).check) (costs_of (R.meaning dirs limits)) (picture_in files objects) MAX_WORK }
+    ensures runs { (dirs : List (List ℕ)) (limits : Limits)
+        → RunsWhatChanged (runner_of (R.meaning dirs limits).build) keeping
+        (judge_of (R.meaning dirs limits).check) }
+    ensures steps { (dirs : List (List ℕ)) (limits : Limits)
+        → IsBounded (runner_of (R.meaning dirs limits).build) keeping
+        (judge_of (R.meaning dirs limits).check) (costs_of (R.meaning dirs limits)) }
+    ensures costs { (dirs : List (List ℕ)) (limits : Limits) (files : List PictureFile)
+        (objects : List Name) → AreCosts (runner_of (R.meaning dirs limits).build) keeping
+        (judge_of (R.meaning dirs limits).check) (costs_of (R.meaning dirs limits))
+        (picture_in files objects) MAX_WORK }
 {}

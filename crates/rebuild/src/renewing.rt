@@ -98,7 +98,8 @@ fn take_files<T: Drop, L: Ledger>(
     ensures taken { OnOk result (IsTaken files.now objects.now core.old core.new) }
     ensures before { OnErr result (core.new ≡ core.old) }
     ensures steps { OnOk result (steps.new ≡ steps.old + length files.now) }
-    ensures refused { IfErr result (λ e. IsSpent e (counter_after core.old.files.items core.old.counter files.now)) }
+    ensures refused { IfErr result (λ e. IsSpent e
+        (counter_after core.old.files.items core.old.counter files.now)) }
     ensures refused_steps { OnErr result (steps.new ≤ steps.old + length files.now) }
 {
     let mut rows = fresh_rows(alloc, objects)?;
@@ -123,7 +124,8 @@ pub(crate) fn take_picture<T: Drop, L: Ledger>(
     ensures taken { OnOk result (IsPictureTaken picture.now core.old core.new) }
     ensures before { OnErr result (core.new ≡ core.old) }
     ensures steps { OnOk result (steps.new ≡ steps.old + length picture.now) }
-    ensures refused { IfErr result (λ e. IsRefused core.old.files.items core.old.counter picture.now core.old.dirs e) }
+    ensures refused { IfErr result (λ e. IsRefused core.old.files.items core.old.counter picture.now
+        core.old.dirs e) }
     ensures refused_steps { OnErr result (steps.new ≤ steps.old + length picture.now) }
 {
     let found = objects(alloc, picture, core.dirs.as_slice())?;

@@ -116,10 +116,13 @@ fn number_file(
     file: &PictureFile,
     counter: &mut u64,
 ) -> Result<FileRow, TakeError>
-    ensures file { IfOk result (λ row. row ≡ with_number file.now (number_or counter.old (old_or_none old.now file.now.name file.now.content))) }
-    ensures counter { OnOk result (counter.new ≡ counter_or counter.old (old_or_none old.now file.now.name file.now.content)) }
+    ensures file { IfOk result (λ row. row ≡ with_number file.now
+        (number_or counter.old (old_or_none old.now file.now.name file.now.content))) }
+    ensures counter { OnOk result (counter.new ≡ counter_or counter.old
+        (old_or_none old.now file.now.name file.now.content)) }
     ensures low { OnOk result (counter.old ≤ END_OF_NUMBERS → counter.new ≤ END_OF_NUMBERS) }
-    ensures refused { IfErr result (λ e. IsSpent e (counter_or counter.old (old_or_none old.now file.now.name file.now.content))) }
+    ensures refused { IfErr result (λ e. IsSpent e
+        (counter_or counter.old (old_or_none old.now file.now.name file.now.content))) }
 {
     let name = file.name.share()?;
     let content = copy_content(alloc, &file.content)?;

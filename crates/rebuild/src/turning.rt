@@ -75,7 +75,8 @@ fn push_check<T: Drop>(core: &mut Core<T>, name: Name) -> Result<(), TurnError>
     requires ready { IsReady core.old }
     requires empty { core.old.chain ≡ [] }
     requires known { is_among name (names core.old.rows.items) ≡ true }
-    ensures state { OnOk result (core_state core.new ≡ record (core_state core.old) { checking = Some name }) }
+    ensures state { OnOk result (core_state core.new
+        ≡ record (core_state core.old) { checking = Some name }) }
     ensures ready { OnOk result (StaysReady core.old core.new) }
     ensures before { OnErr result (core.new ≡ core.old) }
 {
@@ -113,7 +114,9 @@ pub(crate) fn step<R: Runner, L: Ledger>(
 ) -> Result<(), TurnError>
     requires ready { IsReady core.old }
     requires picture { R.files_of runner.old ≡ pictured core.old.files.items }
-    ensures state { OnOk result (core_state core.new ≡ turned (R.meaning (R.dirs_of runner.old) core.old.limits).build (R.meaning (R.dirs_of runner.old) core.old.limits).check core.old) }
+    ensures state { OnOk result (core_state core.new
+        ≡ turned (R.meaning (R.dirs_of runner.old) core.old.limits).build
+        (R.meaning (R.dirs_of runner.old) core.old.limits).check core.old) }
     ensures ready { OnOk result (StaysReady core.old core.new) }
     ensures before { OnErr result (core.new ≡ core.old) }
 {

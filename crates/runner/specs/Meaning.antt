@@ -1,10 +1,10 @@
 -- What a runner's builds and checks ask and give, and their laws.
-use Rattle.std.specs.Prelude.{ℕ, ◌+◌, List, cond, nat_lt}
-use Rattle.asking.specs.Asked.{Answer}
+use Rattle.std.specs.Prelude.{ℕ, ◌+◌, List, [], cond, nat_lt}
+use Rattle.asking.specs.Asked.{Answer, Word, Ran, ran, told_in}
 use Rattle.questions.specs.declared.key.Key.{Key}
 use Rattle.questions.specs.Contents.{Content}
 use Rattle.questions.specs.Laws.{MayAsk}
-use Rattle.questions.specs.Told.{RunLaws}
+use Rattle.questions.specs.Told.{RunLaws, more_than_asked}
 use Rattle.runner.specs.declared.ends.Built.{Built}
 use Rattle.runner.specs.Ends.{End, Verdict, is_circular_end, is_circular_verdict}
 
@@ -15,10 +15,27 @@ pub record Meaning (T : Type 0) : Type 0 where
   pub check : Built T → List (Key × Content) → Answer Key Verdict
   pub check_work : Built T → List (Key × Content) → ℕ
 
+-- how a build goes that is told these words, and the work that it uses
+abbrev pub build_run : {T : Type 0} → Meaning T → List ℕ → (Key → Word Content) → Ran Key (End T)
+build_run m object tells = ran (m.build object) tells more_than_asked []
+
+abbrev pub build_steps : {T : Type 0} → Meaning T → List ℕ → (Key → Word Content) → ℕ
+build_steps m object tells =
+    m.build_work object (told_in (m.build object) tells more_than_asked [])
+
+-- how a check goes, and the work that it uses
+abbrev pub check_run : {T : Type 0} → Meaning T → Built T → (Key → Word Content) → Ran Key Verdict
+check_run m built tells = ran (m.check built) tells more_than_asked []
+
+abbrev pub check_steps : {T : Type 0} → Meaning T → Built T → (Key → Word Content) → ℕ
+check_steps m built tells = m.check_work built (told_in (m.check built) tells more_than_asked [])
+
 -- a run of an object asks no key of the object itself
 pub record IsLawful {T : Type 0} (m : Meaning T) : Type 0 where
-  pub builds : (object : List ℕ) → RunLaws (MayAsk object) is_circular_end (m.build object) (m.build_work object)
-  pub checks : (built : Built T) → RunLaws (MayAsk built.object) is_circular_verdict (m.check built) (m.check_work built)
+  pub builds : (object : List ℕ) → RunLaws (MayAsk object) is_circular_end (m.build object)
+      (m.build_work object)
+  pub checks : (built : Built T) → RunLaws (MayAsk built.object) is_circular_verdict (m.check built)
+      (m.check_work built)
 
 abbrev pub last_count : ℕ
 last_count = 18446744073709551615

@@ -37,6 +37,7 @@ object_word object None = Needs object
 object_word object (Some q) = Tells q.0 (object_content q.0 q.1)
 
 -- files are told by the picture and their numbers, objects as they are known
-abbrev pub words : List PictureFile → (List ℕ → ℕ) → (List ℕ → List Term → Option (ℕ × Option Plain)) → Key → Word Content
+abbrev pub words : List PictureFile → (List ℕ → ℕ)
+    → (List ℕ → List Term → Option (ℕ × Option Plain)) → Key → Word Content
 words picture numbers objects (File f) = Tells (numbers f) (file_content (content_in picture f))
 words picture numbers objects (Under p terms) = object_word p (objects p terms)

@@ -1,9 +1,7 @@
-ghost use Rattle.std.specs.Prelude.{◌≡◌, ◌≤◌, ◌+◌, [], IfOk, OnOk, OnErr};
-ghost use Rattle.asking.specs.Asked.{ran, told_in};
-ghost use Rattle.questions.specs.Told.{more_than_asked};
+ghost use Rattle.std.specs.Prelude.{◌≡◌, ◌≤◌, ◌+◌, IfOk, OnOk, OnErr};
 ghost use Rattle.runner.specs.Words.{words};
 ghost use Rattle.runner.specs.Ends.{build_ran, check_ran};
-ghost use Rattle.runner.specs.Meaning.{counted};
+ghost use Rattle.runner.specs.Meaning.{build_run, build_steps, check_run, check_steps, counted};
 
 use crate::ends::{BuildEnd, Built, CheckEnd};
 use crate::known::Known;
@@ -59,13 +57,21 @@ pub trait Runner {
         limits: &Limits,
         steps: &mut Steps<L>,
     ) -> Result<BuildEnd<Self::Rest>, AllocError>
-        ensures answer { IfOk result (λ end. ran ((meaning (dirs_of self.old) limits.now).build name.now) (words (files_of self.old) (K.numbers known.now) (K.objects known.now)) more_than_asked [] ≡ build_ran end) }
-        ensures steps { OnOk result (steps.new ≡ steps.old + (meaning (dirs_of self.old) limits.now).build_work name.now (told_in ((meaning (dirs_of self.old) limits.now).build name.now) (words (files_of self.old) (K.numbers known.now) (K.objects known.now)) more_than_asked [])) }
+        ensures answer { IfOk result (λ end.
+            build_run (meaning (dirs_of self.old) limits.now) name.now
+            (words (files_of self.old) (K.numbers known.now) (K.objects known.now))
+            ≡ build_ran end) }
+        ensures steps { OnOk result (steps.new ≡ steps.old
+            + build_steps (meaning (dirs_of self.old) limits.now) name.now
+            (words (files_of self.old) (K.numbers known.now) (K.objects known.now))) }
         ensures files { files_of self.new ≡ files_of self.old }
         ensures dirs { dirs_of self.new ≡ dirs_of self.old }
         ensures runs { OnOk result (runs_of self.new ≡ counted (runs_of self.old)) }
-        ensures refused_steps { OnErr result (steps.new ≤ steps.old + (meaning (dirs_of self.old) limits.now).build_work name.now (told_in ((meaning (dirs_of self.old) limits.now).build name.now) (words (files_of self.old) (K.numbers known.now) (K.objects known.now)) more_than_asked [])) }
-        ensures refused_runs { OnErr result ((runs_of self.old ≤ runs_of self.new) × (runs_of self.new ≤ counted (runs_of self.old))) };
+        ensures refused_steps { OnErr result (steps.new ≤ steps.old
+            + build_steps (meaning (dirs_of self.old) limits.now) name.now
+            (words (files_of self.old) (K.numbers known.now) (K.objects known.now))) }
+        ensures refused_runs { OnErr result ((runs_of self.old ≤ runs_of self.new)
+            × (runs_of self.new ≤ counted (runs_of self.old))) };
 
     /// Runs the check of what was built, told as a build is.
     fn run_check<K: Known, L: Ledger>(
@@ -75,13 +81,21 @@ pub trait Runner {
         limits: &Limits,
         steps: &mut Steps<L>,
     ) -> Result<CheckEnd, AllocError>
-        ensures answer { IfOk result (λ end. ran ((meaning (dirs_of self.old) limits.now).check built.now) (words (files_of self.old) (K.numbers known.now) (K.objects known.now)) more_than_asked [] ≡ check_ran end) }
-        ensures steps { OnOk result (steps.new ≡ steps.old + (meaning (dirs_of self.old) limits.now).check_work built.now (told_in ((meaning (dirs_of self.old) limits.now).check built.now) (words (files_of self.old) (K.numbers known.now) (K.objects known.now)) more_than_asked [])) }
+        ensures answer { IfOk result (λ end.
+            check_run (meaning (dirs_of self.old) limits.now) built.now
+            (words (files_of self.old) (K.numbers known.now) (K.objects known.now))
+            ≡ check_ran end) }
+        ensures steps { OnOk result (steps.new ≡ steps.old
+            + check_steps (meaning (dirs_of self.old) limits.now) built.now
+            (words (files_of self.old) (K.numbers known.now) (K.objects known.now))) }
         ensures files { files_of self.new ≡ files_of self.old }
         ensures dirs { dirs_of self.new ≡ dirs_of self.old }
         ensures runs { OnOk result (runs_of self.new ≡ counted (runs_of self.old)) }
-        ensures refused_steps { OnErr result (steps.new ≤ steps.old + (meaning (dirs_of self.old) limits.now).check_work built.now (told_in ((meaning (dirs_of self.old) limits.now).check built.now) (words (files_of self.old) (K.numbers known.now) (K.objects known.now)) more_than_asked [])) }
-        ensures refused_runs { OnErr result ((runs_of self.old ≤ runs_of self.new) × (runs_of self.new ≤ counted (runs_of self.old))) };
+        ensures refused_steps { OnErr result (steps.new ≤ steps.old
+            + check_steps (meaning (dirs_of self.old) limits.now) built.now
+            (words (files_of self.old) (K.numbers known.now) (K.objects known.now))) }
+        ensures refused_runs { OnErr result ((runs_of self.old ≤ runs_of self.new)
+            × (runs_of self.new ≤ counted (runs_of self.old))) };
 
     /// The laws of builds and checks: a key is asked once, each question costs a step, the work of a run is bounded, and
     /// an object whose chain of reads never ends has the fault of a circular object.
