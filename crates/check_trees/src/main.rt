@@ -3,8 +3,9 @@
 //!
 //! `new` begins with an empty dict; `put PATH VALUE` and `remove PATH` change the tree, and
 //! `push PATH VALUE` and `front PATH VALUE` a list in it, which is taken out, grown and put back;
-//! `field KEY` reads a field; `list VALUE..` makes a list; `path TEXT` and `int TEXT` read a path
-//! and an integer; `do SIGN VALUE` and `do VALUE SIGN VALUE` apply an operator. A value is a whole
+//! `field KEY` reads a field; `list VALUE..` makes a list; `path TEXT`, `int TEXT`, `key TEXT`
+//! and `name TEXT` read a path, an integer, a key and a template name; `escape TEXT` and
+//! `unescape TEXT` make a key of a text and a text of a key; `do SIGN VALUE` and `do VALUE SIGN VALUE` apply an operator. A value is a whole
 //! number, `true`, `false`, `undef`, `null`, `{}`, `[]`, or a text behind `"`. With each change a
 //! copy that was made before it is looked at again. Any other line is a remark. The expected output
 //! is written by hand from the rules.
@@ -15,7 +16,7 @@ use base::Text;
 use base::integers::integer_of;
 use dml_ops::{binary, unary};
 use json_profile::profile_text;
-use path_tree::{BinaryOp, Path, PathError, PutError, Refused, Term, Tree, UnaryOp};
+use path_tree::{BinaryOp, Key, Name, Path, Refused, Term, Tree, UnaryOp, escape, unescape};
 use std::alloc::Global;
 
 fn value_of(alloc: Global, word: &str) -> Result<Tree> {
@@ -178,6 +179,36 @@ fn print_integer(rt: &HostRuntime, text: &str) -> Result<()> {
     Ok(())
 }
 
+fn print_key(rt: &HostRuntime, text: &str) -> Result<()> {
+    match Key::parse(rt.alloc(), text) {
+        Ok(key) => println!(rt; "  {}", key.as_str())?,
+        Err(error) => println!(rt; "  {error:?}")?,
+    }
+    Ok(())
+}
+
+fn print_name(rt: &HostRuntime, text: &str) -> Result<()> {
+    match Name::parse(rt.alloc(), text) {
+        Ok(name) => println!(rt; "  {}", name.as_str())?,
+        Err(error) => println!(rt; "  {error:?}")?,
+    }
+    Ok(())
+}
+
+fn print_unescaped(rt: &HostRuntime, key: &str) -> Result<()> {
+    match unescape(rt.alloc(), key)? {
+        Some(text) => println!(rt; "  {text}")?,
+        None => println!(rt; "  no text")?,
+    }
+    Ok(())
+}
+
+fn print_escaped(rt: &HostRuntime, text: &str) -> Result<()> {
+    let key = escape(rt.alloc(), text)?;
+    println!(rt; "  {}", key.as_str())?;
+    Ok(())
+}
+
 fn remove(rt: &HostRuntime, tree: &mut Tree, path: &str) -> Result<()> {
     let path = path_of(rt.alloc(), path)?;
     let terms = path.terms.as_slice();
@@ -213,10 +244,15 @@ fn run(rt: &HostRuntime, tree: &mut Tree, words: &[&str]) -> Result<()> {
         }
         ["path"] => print_path(rt, ""),
         ["path", text] => print_path(rt, text),
+        ["int", text] => print_integer(rt, text),
+        ["key", text] => print_key(rt, text),
+        ["name", text] => print_name(rt, text),
+        ["escape"] => print_escaped(rt, ""),
+        ["escape", text] => print_escaped(rt, text),
+        ["unescape", text] => print_unescaped(rt, text),
         ["do", operands @ ..] => apply(rt, operands),
         ["field", key] => print_field(rt, tree, key),
         ["list", words @ ..] => print_list(rt, words),
-        ["int", text] => print_integer(rt, text),
         _ => change(rt, tree, words),
     }
 }

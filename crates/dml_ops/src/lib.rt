@@ -11,6 +11,3 @@ mod two;
 
 pub use one::unary;
 pub use two::binary;
-
-#[cfg(test)]
-mod tests;

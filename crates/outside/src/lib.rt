@@ -47,6 +47,3 @@ pub use sure_lines::SureLines;
 pub use sure_shelf::{Held, SureShelf};
 pub use sure_sink::SureSink;
 pub use sure_source::SureSource;
-
-#[cfg(test)]
-mod tests;

@@ -1,9 +1,8 @@
 -- How far each form of a tree in memory reaches.
-use Rattle.std.proofs.Common.{◌≡◌, ◌∙◌, ap, sym, refl, ℕ, ℤ, ◌+◌, ◌-◌, ◌≤◌, ◌<◌, max, List, map, ◌++◌, [], ◌∷◌, Some, None, Option, Bool, true, false, length, get_or, arith, rules}
+use Rattle.std.proofs.Common.{◌≡◌, ◌∙◌, ap, refl, ℕ, ℤ, ◌+◌, ◌≤◌, ◌<◌, max, List, ◌++◌, [], ◌∷◌, Some, None, Option, Bool, length, get_or, arith, rules}
 use Rattle.std.proofs.lemmas.List.Recursion.{max_push, max_bounds}
 use Rattle.std.specs.declared.vec.Vec.{Vec}
 use Rattle.std.specs.declared.boxed.Box.{Box}
-use Rattle.std.specs.declared.rc.Rc.{Rc}
 use Rattle.std.specs.declared.alloc.Global.{Global}
 use Rattle.path_tree.specs.declared.operators.UnaryOp.{UnaryOp}
 use Rattle.path_tree.specs.declared.operators.BinaryOp.{BinaryOp}
@@ -28,7 +27,7 @@ use Rattle.pan_ast.specs.declared.types.FullType.{FullType}
 use Rattle.pan_ast.specs.declared.types.TypeForm.{TypeForm}
 use Rattle.pan_ast.specs.declared.types.RecordForm.{RecordForm}
 use Rattle.pan_ast.specs.declared.template.Statement.{Statement}
-use Rattle.pan_ast.specs.Pointers.{most, Reach, form_step, item_pointers, node_pointers, step_pointers, reference_pointers, items_pointers, steps_pointers, left_pointers, option_pointers, shared_pointers, full_pointers, type_pointers, head_pointers, field_pointers, fields_pointers, statement_pointers, statements_pointers}
+use Rattle.pan_ast.specs.Pointers.{Reach, form_step, item_pointers, node_pointers, step_pointers, reference_pointers, items_pointers, steps_pointers, left_pointers, option_pointers, shared_pointers, full_pointers, type_pointers, head_pointers, field_pointers, fields_pointers, statement_pointers, statements_pointers}
 
 abbrev with_form : Node → Form → Node
 with_form n f = record { place = n.place; form = f }

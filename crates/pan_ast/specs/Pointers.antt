@@ -11,7 +11,6 @@ use Rattle.pan_ast.specs.declared.syntax.Step.{Step, fold-Step}
 use Rattle.pan_ast.specs.declared.types.FullType.{FullType, fold-FullType}
 use Rattle.pan_ast.specs.declared.types.TypeForm.{TypeForm, fold-TypeForm}
 use Rattle.pan_ast.specs.declared.types.Head.{Head, fold-Head}
-use Rattle.pan_ast.specs.declared.types.RecordForm.{RecordForm, fold-RecordForm}
 use Rattle.pan_ast.specs.declared.types.Field.{Field, fold-Field}
 use Rattle.pan_ast.specs.declared.types.Field.TheOpen.{Field-F, Head-F, FullType-F, RecordForm-F, TypeForm-F}
 use Rattle.pan_ast.specs.declared.template.StatementForm.{StatementForm}

@@ -318,26 +318,3 @@ pub fn fault_line(alloc: Global, fault: &Fault) -> Result<Vec<u8>, AllocError>
     push_detail(&mut line, fault.detail.as_str().as_bytes())?;
     Ok(line)
 }
-
-#[cfg(test)]
-mod tests {
-    use super::*;
-    use anyhow::Result;
-
-    #[test]
-    fn prints_a_fault_with_its_detail(rt: HostRuntime) -> Result<()> {
-        let alloc = rt.alloc();
-        let place = Place {
-            file: Text::new(alloc, "h.pan")?,
-            line: 3,
-            column: 12,
-        };
-        let fault = Fault::new(alloc, Code::BadPath, place, "/a\\é\n")?;
-        let line = fault_line(alloc, &fault)?;
-        assert_eq!(rt;
-            line.as_slice(),
-            b"F18 h.pan:3:12 /a\\\\\\xc3\\xa9\\x0a".as_slice()
-        );
-        Ok(())
-    }
-}

@@ -27,6 +27,3 @@ pub use operators::{BinaryOp, UnaryOp};
 pub use path::{Anchor, Path, PathError, PutError, Term};
 pub use refused::Refused;
 pub use tree::Tree;
-
-#[cfg(test)]
-mod tests;

@@ -1,14 +1,19 @@
+//! Calls the devices of memory and of the host one after the other, and prints what each answers: a scan of two
+//! files and of an empty picture, a shelf that is written, read and listed, a sink of which one write fails, and
+//! folders of the host. The expected output is written by hand.
+#![tactic(auto)]
+
 ghost use Rattle.std.specs.Prelude.{◌≡◌, ◌<◌, IfOk, true};
 ghost use Rattle.outside.specs.Pictures.{are_pictures};
 
-use crate::{
-    Got, Held, HostShelf, HostSink, HostSource, MemFile, MemShelf, MemSink, MemSource, Shelf, Sink,
+use anyhow::Result;
+use base::{Bytes, Seq, Text};
+use outside::{
+    Got, HostShelf, HostSink, HostSource, MemFile, MemShelf, MemSink, MemSource, Shelf, Sink,
     Source, StoreError, SureShelf, SureSink, SureSource, are_distinct,
 };
-use base::{Bytes, Seq, Text};
 use std::alloc::{AllocError, Global};
 use std::io::{ErrorKind, Write};
-use std::test::Fail;
 use std::{fs, io};
 
 fn pictures(alloc: Global) -> Result<Vec<Seq<MemFile>>, AllocError>
@@ -61,19 +66,24 @@ fn scanned<S: Source>(alloc: Global, source: &mut S) -> Result<String, StoreErro
     Ok(text)
 }
 
-const SCANNED: &str = "a.pan: object template a;\ngone.pan gone\nnone left\n";
-
-#[test]
-fn sources_in_memory(rt: HostRuntime) -> Result<(), Fail> {
-    let mut sure = SureSource::new(rt.alloc(), pictures(rt.alloc())?);
-    assert_eq!(rt; scanned(rt.alloc(), &mut sure)?.as_str(), SCANNED);
-    assert_eq!(rt; sure.faults(), 0);
-
-    let mut source = MemSource::new(rt.alloc(), pictures(rt.alloc())?, vec![in rt.alloc(); 1]?);
-    assert!(rt; scanned(rt.alloc(), &mut source).is_err());
-    assert_eq!(rt; source.faults(), 1);
-    assert_eq!(rt; scanned(rt.alloc(), &mut source)?.as_str(), SCANNED);
+fn print_seen(rt: &HostRuntime, seen: Result<String, StoreError>, faults: u64) -> Result<()> {
+    match seen {
+        Ok(text) => print!(rt; "{text}")?,
+        Err(error) => println!(rt; "{error:?}")?,
+    }
+    println!(rt; "faults {faults}")?;
     Ok(())
+}
+
+fn print_sources(rt: &HostRuntime) -> Result<()> {
+    let alloc = rt.alloc();
+    println!(rt; "a source that never fails")?;
+    let mut sure = SureSource::new(alloc, pictures(alloc)?);
+    print_seen(rt, scanned(alloc, &mut sure), sure.faults())?;
+    println!(rt; "a source of which the second call fails, twice")?;
+    let mut source = MemSource::new(alloc, pictures(alloc)?, vec![in alloc; 1]?);
+    print_seen(rt, scanned(alloc, &mut source), source.faults())?;
+    print_seen(rt, scanned(alloc, &mut source), source.faults())
 }
 
 // Puts, reads, lists and removes, and gives what was seen.
@@ -101,38 +111,39 @@ fn kept<H: Shelf>(alloc: Global, shelf: &mut H, root: &str) -> Result<String, St
     Ok(text)
 }
 
-const KEPT: &str = "there null\nthere [1, \nabsent \nb/c.json\n";
-
-#[test]
-fn shelves_in_memory(rt: HostRuntime) -> Result<(), Fail> {
-    let mut sure = SureShelf::new(rt.alloc(), Vec::new(rt.alloc()));
-    assert_eq!(rt; kept(rt.alloc(), &mut sure, "out")?.as_str(), KEPT);
-    assert_eq!(rt; sure.faults(), 0);
-    assert_eq!(rt; sure.held().len(), 1);
-
-    let failing = vec![in rt.alloc(); 2]?;
-    let mut shelf = MemShelf::new(rt.alloc(), Vec::new(rt.alloc()), failing);
-    assert!(rt; kept(rt.alloc(), &mut shelf, "out").is_err());
-    assert_eq!(rt; shelf.faults(), 1);
-    assert_eq!(rt; shelf.held().len(), 1);
-    assert_eq!(rt; kept(rt.alloc(), &mut shelf, "out")?.as_str(), KEPT);
-    Ok(())
+fn print_shelves(rt: &HostRuntime) -> Result<()> {
+    let alloc = rt.alloc();
+    println!(rt; "a shelf that never fails")?;
+    let mut sure = SureShelf::new(alloc, Vec::new(alloc));
+    print_seen(rt, kept(alloc, &mut sure, "out"), sure.faults())?;
+    println!(rt; "a shelf of which the third call fails, twice")?;
+    let mut shelf = MemShelf::new(alloc, Vec::new(alloc), vec![in alloc; 2]?);
+    print_seen(rt, kept(alloc, &mut shelf, "out"), shelf.faults())?;
+    println!(rt; "held {}", shelf.held().len())?;
+    print_seen(rt, kept(alloc, &mut shelf, "out"), shelf.faults())
 }
 
-#[test]
-fn sinks_in_memory(rt: HostRuntime) -> Result<(), Fail> {
-    let mut sure = SureSink::new(rt.alloc());
-    sure.write(b"one\n")?;
-    sure.write(b"two\n")?;
-    assert_eq!(rt; sure.written(), b"one\ntwo\n".as_slice());
-    assert_eq!(rt; sure.faults(), 0);
+fn wrote<S: Sink>(sink: &mut S, bytes: &[u8]) -> &'static str {
+    match sink.write(bytes) {
+        Ok(()) => "written",
+        Err(StoreError::Failed) => "failed",
+        Err(StoreError::Memory) => "no memory",
+    }
+}
 
-    let mut sink = MemSink::new(rt.alloc(), vec![in rt.alloc(); 1]?);
-    sink.write(b"one\n")?;
-    assert_eq!(rt; sink.write(b"two\n"), Err(StoreError::Failed));
-    sink.write(b"three\n")?;
-    assert_eq!(rt; sink.written(), b"one\nthree\n".as_slice());
-    assert_eq!(rt; sink.faults(), 1);
+fn print_sinks(rt: &HostRuntime) -> Result<()> {
+    let alloc = rt.alloc();
+    println!(rt; "a sink of which the second write fails")?;
+    let mut sink = MemSink::new(alloc, vec![in alloc; 1]?);
+    for line in ["one\n", "two\n", "three\n"] {
+        println!(rt; "{}", wrote(&mut sink, line.as_bytes()))?;
+    }
+    print!(rt; "{}", str::from_utf8(sink.written())?)?;
+    println!(rt; "faults {}", sink.faults())?;
+    println!(rt; "a sink that never fails")?;
+    let mut sure = SureSink::new(alloc);
+    println!(rt; "{}", wrote(&mut sure, b"one\n"))?;
+    print!(rt; "{}", str::from_utf8(sure.written())?)?;
     Ok(())
 }
 
@@ -160,43 +171,17 @@ impl Write for Narrow {
     }
 }
 
-#[test]
-fn a_sink_of_the_host(rt: HostRuntime) -> Result<(), Fail> {
+fn print_narrow(rt: &HostRuntime) -> Result<()> {
+    println!(rt; "a sink of the host that takes five bytes")?;
     let mut narrow = Narrow {
         taken: Vec::new(rt.alloc()),
         room: 5,
     };
     let mut sink = HostSink::new(&mut narrow);
-    sink.write(b"one\n")?;
-    assert_eq!(rt; sink.write(b"two\n"), Err(StoreError::Failed));
-    assert_eq!(rt; sink.faults(), 1);
-    assert_eq!(rt; narrow.taken.as_slice(), b"one\nt".as_slice());
-    Ok(())
-}
-
-#[test]
-fn folders_of_the_host(rt: HostRuntime) -> Result<(), Fail> {
-    let mut shelf = HostShelf::new(rt.clone()?);
-    let seen = kept(rt.alloc(), &mut shelf, "folders_of_the_host/out");
-    let mut source = HostSource::new(rt.clone()?);
-    let opened = source.open_root("folders_of_the_host");
-    let count = source.begin_scan();
-    let mut bytes = Vec::new(rt.alloc());
-    let got = if count == Ok(1) {
-        source.read(0, &mut bytes)
-    } else {
-        Ok(Got::Gone)
-    };
-    let missing = source.open_root("folders_of_the_host/missing");
-    fs::remove_dir_all(&rt, "folders_of_the_host")?;
-    assert_eq!(rt; seen?.as_str(), KEPT);
-    assert_eq!(rt; shelf.faults(), 0);
-    assert_eq!(rt; opened, Ok(()));
-    assert_eq!(rt; count, Ok(1));
-    assert_eq!(rt; got, Ok(Got::Bytes));
-    assert_eq!(rt; bytes.as_slice(), b"[1, 2]".as_slice());
-    assert_eq!(rt; missing, Err(StoreError::Failed));
-    assert_eq!(rt; source.faults(), 1);
+    println!(rt; "{}", wrote(&mut sink, b"one\n"))?;
+    println!(rt; "{}", wrote(&mut sink, b"two\n"))?;
+    println!(rt; "faults {}", sink.faults())?;
+    println!(rt; "{}", str::from_utf8(&narrow.taken)?)?;
     Ok(())
 }
 
@@ -211,16 +196,33 @@ fn listed<H: Shelf>(alloc: Global, shelf: &mut H, root: &str) -> Result<String, 
     shelf.names(&mut names)?;
     for name in &names {
         text.push_str(name.as_str())?;
-        text.push(' ')?;
+        text.push('\n')?;
     }
     Ok(text)
 }
 
-#[test]
-fn names_of_folders_come_in_byte_order(rt: HostRuntime) -> Result<(), Fail> {
+fn print_folders(rt: &HostRuntime) -> Result<()> {
+    let alloc = rt.alloc();
+    println!(rt; "a shelf of the host")?;
     let mut shelf = HostShelf::new(rt.clone()?);
-    let seen = listed(rt.alloc(), &mut shelf, "names_of_folders");
-    fs::remove_dir_all(&rt, "names_of_folders")?;
-    assert_eq!(rt; seen?.as_str(), "a-b a/x a/y/z a0 b ");
+    print_seen(rt, kept(alloc, &mut shelf, "folder/out"), shelf.faults())?;
+    println!(rt; "names come in byte order")?;
+    print_seen(rt, listed(alloc, &mut shelf, "names"), shelf.faults())?;
+    println!(rt; "a source of the host")?;
+    let mut source = HostSource::new(rt.clone()?);
+    println!(rt; "{:?}", source.open_root("folder"))?;
+    println!(rt; "{:?}", source.begin_scan())?;
+    println!(rt; "{:?}", source.open_root("folder/missing"))?;
+    println!(rt; "faults {}", source.faults())?;
+    fs::remove_dir_all(rt, "folder")?;
+    fs::remove_dir_all(rt, "names")?;
     Ok(())
+}
+
+fn main(rt: HostRuntime) -> Result<()> {
+    print_sources(&rt)?;
+    print_shelves(&rt)?;
+    print_sinks(&rt)?;
+    print_narrow(&rt)?;
+    print_folders(&rt)
 }
