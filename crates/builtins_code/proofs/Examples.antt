@@ -1,12 +1,23 @@
 -- The definitions on written values.
 use Rattle.std.proofs.Common.{◌≡◌, [], ◌∷◌, Ok, Err, true, pos, negsuc, codes, refl}
-use Rattle.regex.proofs.OnLiterals.{regex_on_literals}
+use Rattle.std.specs.Prelude.{⊤}
+use Rattle.std.specs.Fmt.{digits}
+use Rattle.std.specs.Str.{chars, is_utf8}
+use lib.Utf8.{encode}
+use Rattle.base64.specs.Decode.{groups_bytes, groups_error, scan_steps}
+use Rattle.base64.specs.Rfc4648.{encode_symbols}
+use Rattle.json.specs.Print.{escape_byte, print_from}
 use Rattle.serde_json.proofs.OnLiterals.{serde_json_on_literals}
 use Rattle.path_tree.specs.Plain.{dict, list, text, long, boolean, undef, null, item, no_items, field, no_fields}
-use Rattle.path_tree.specs.declared.refused.Refused.TheVariants.{BadArgument, BadIndex, BadPattern}
+use Rattle.path_tree.specs.declared.refused.Refused.TheVariants.{BadArgument, BadIndex}
 use Rattle.builtins_code.specs.Base64Texts.{base64_decode_of, base64_encode_of}
 use Rattle.builtins_code.specs.Digests.{digest_of}
 use Rattle.builtins_code.specs.Json.{json_decode_of, json_encode_of}
+
+-- what is unfolded to write and read a written text
+unfoldable codes_on_literals : ⊤
+unfolding digits chars is_utf8 encode groups_bytes groups_error scan_steps encode_symbols escape_byte print_from
+codes_on_literals = tt
 
 a_decoded_text : json_decode_of (text (codes "{\"b\":null,\"a\":[1]}") ∷ [])
     ≡ Ok (dict (field (codes "a") (list (item (long (pos 1)) no_items)) (field (codes "b") undef no_fields)))
@@ -50,20 +61,25 @@ a_null = refl
 
 an_encoded_dict : json_encode_of (dict (field (codes "a") (list (item (long (negsuc 0)) no_items)) (field (codes "b") (boolean true) no_fields)) ∷ [])
     ≡ Ok (text (codes "{\"a\":[-1],\"b\":true}"))
+unfolding codes_on_literals
 an_encoded_dict = refl
 
 -- RFC 4648, section 10
 encoded_man : base64_encode_of (text (codes "foob") ∷ []) ≡ Ok (text (codes "Zm9vYg=="))
+unfolding codes_on_literals
 encoded_man = refl
 
 decoded_man : base64_decode_of (text (codes "Zm9vYg==") ∷ []) ≡ Ok (text (codes "foob"))
+unfolding codes_on_literals
 decoded_man = refl
 
 without_padding : base64_decode_of (text (codes "Zm9vYg") ∷ []) ≡ Err BadArgument
+unfolding codes_on_literals
 without_padding = refl
 
 -- the bytes FF FE
 no_text : base64_decode_of (text (codes "//4=") ∷ []) ≡ Err BadArgument
+unfolding codes_on_literals
 no_text = refl
 
 no_algorithm : digest_of (text (codes "sha1") ∷ text (codes "abc") ∷ []) ≡ Err BadArgument

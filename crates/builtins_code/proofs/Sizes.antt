@@ -1,11 +1,14 @@
 -- What is too large makes that too large in which it is.
-use Rattle.std.proofs.Common.{◌≡◌, ℕ, zero, suc, ◌+◌, ◌<◌, ◌≤◌, Bool, true, false, ◌||◌, cond, max, List, [], ◌∷◌, ◌++◌, length, get_or, refl, sym, ap, ◌∙◌, arith, nat_tests}
-use Rattle.std.specs.Prelude.{Result, Ok, Err, nat_lt}
+use Rattle.std.proofs.Common.{◌≡◌, ℕ, zero, suc, ◌<◌, ◌≤◌, Bool, true, false, ◌||◌, cond, List, [], ◌∷◌, ◌++◌, length, get_or, refl, sym, subst, arith}
+use Rattle.std.proofs.lemmas.Bool.Decides.{nat_tests}
+use Rattle.std.specs.Prelude.{◌≢◌, Option, Some, None, Result, Ok, Err, IfErr, IfSome, IsErr, nat_lt}
+use Rattle.base.specs.Answers.{Gives}
 use Rattle.base.specs.declared.limits.TheConstants.{MAX_TREE_HEIGHT, MAX_TREE_SIZE}
 use Rattle.path_tree.specs.Lists.{is_too_large, within_limits}
-use Rattle.path_tree.specs.Plain.{Plain, dict, list, tree_size, tree_height, items_size, items_height, fields_size, fields_height}
+use Rattle.path_tree.specs.Plain.{Plain, dict, list, tree_size, tree_height, items_size, items_height}
 use Rattle.path_tree.specs.declared.refused.Refused.{Refused}
-use Rattle.path_tree.specs.declared.refused.Refused.TheVariants.{TooLarge}
+use Rattle.path_tree.specs.declared.refused.Refused.TheVariants.{TypeClash, Overflow, ZeroDivisor, BadArgument, BadPattern, BadIndex, TooLarge, Memory}
+use Rattle.path_tree.specs.Refusals.{refusal}
 use Rattle.serde_json.proofs.Views.{Entry}
 use Rattle.serde_json.specs.View.{view, items_view, members_view}
 use Rattle.serde_json.specs.declared.value.Value.{Value}
@@ -28,6 +31,47 @@ pub large_inside : (t u : Plain) (e : Refused) → IsWithin t u → within_limit
 large_inside t u e within h =
     over_limits t u e (is_too_large t) (is_too_large u)
     (passes MAX_TREE_SIZE MAX_TREE_HEIGHT (tree_size t) (tree_size u) (tree_height t) (tree_height u) within.size within.height) h
+
+abbrev pub IsTold : Refused → Plain → Type 0
+IsTold e t = IfSome (refusal e) (λ f. within_limits t ≡ Err f)
+
+told : (e : Refused) (t : Plain) → IsTold e t → e ≢ Memory → within_limits t ≡ Err e
+told TypeClash t h some = h
+told Overflow t h some = h
+told ZeroDivisor t h some = h
+told BadArgument t h some = h
+told BadPattern t h some = h
+told BadIndex t h some = h
+told TooLarge t h some = h
+told Memory t h some = absurd (some refl)
+
+some_weaker : (o : Option Refused) (P Q : Refused → Type 0) → ((f : Refused) → P f → Q f) → IfSome o P → IfSome o Q
+some_weaker None P Q f h = tt
+some_weaker (Some x) P Q f h = f x h
+
+-- a part that is refused, of a call that goes on in lists
+pub part_refused : {A : Type 0} (r : Result A Refused) (e : Refused) (t u : Plain) → IsWithin t u → IfErr r (λ x. x ≡ e) → IsTold e t →
+    IfErr r (λ x. x ≢ Memory → within_limits u ≡ Err x)
+part_refused (Ok a) e t u within same h = tt
+part_refused (Err x) e t u within same h = λ some.
+    let Q : Refused → Type 0 = λ y. IsTold y t in
+    large_inside t u x within (told x t (subst Q (sym same) h) some)
+
+-- and of one that gives the whole
+pub whole_refused : (r : Result Plain Refused) (e : Refused) (t u : Plain) → IsWithin t u → IsErr r → IfErr r (λ x. x ≡ e) → IsTold e t →
+    Gives (λ (v : Plain). v) refusal r (within_limits u)
+whole_refused (Ok a) e t u within is same h = absurd cc
+whole_refused (Err x) e t u within is same h =
+    let Q : Refused → Type 0 = λ y. IsTold y t in
+    some_weaker (refusal x) (λ f. within_limits t ≡ Err f) (λ f. within_limits u ≡ Err f) (λ f. large_inside t u f within) (subst Q (sym same) h)
+
+kept_in : (t x : Plain) (large : Bool) → cond large (Err TooLarge) (Ok t) ≡ Ok x → x ≡ t
+kept_in t x true h = absurd (let no : Err TooLarge ≡ Ok x = h in cc)
+kept_in t x false h = cc
+
+-- what is within the limits is given as it is
+pub kept_is : (t x : Plain) → within_limits t ≡ Ok x → x ≡ t
+kept_is t x h = kept_in t x (is_too_large t) h
 
 item_size : (vs : List Value) (i : ℕ) (d : Value) → i < length vs → tree_size (tree_of (view (get_or vs i d))) ≤ items_size (items_trees (items_view vs))
 item_size [] i d h = absurd (omega (arith, h))

@@ -1,6 +1,6 @@
 -- The trees of lists and objects, and a dict with a field more.
-use Rattle.std.proofs.Common.{◌≡◌, ◌≢◌, ℕ, Bool, true, false, ◌||◌, cond, List, [], ◌∷◌, ◌++◌, map, Option, Some, None, Ordering, Less, Equal, Greater, string_bytes, string_cmp, refl, sym, ap, ◌∙◌}
-use Rattle.std.specs.Prelude.{Result, Ok, Err, nat_lt}
+use Rattle.std.proofs.Common.{◌≡◌, ℕ, Bool, true, false, ◌||◌, cond, List, [], ◌∷◌, ◌++◌, map, Option, Some, None, Ordering, Less, Equal, Greater, string_bytes, string_cmp, refl, sym, ap, ◌∙◌}
+use Rattle.std.specs.Prelude.{Ok, Err, nat_lt}
 use Rattle.std.specs.List.{list_any}
 use Rattle.std.specs.List.Sorted.{IsStrictlySortedBy}
 use Rattle.std.specs.Map.{keys_of}
@@ -10,15 +10,14 @@ use Rattle.std.specs.Cmp.Lexicographic.{slice_cmp}
 use Rattle.base.specs.declared.limits.TheConstants.{MAX_TREE_HEIGHT, MAX_TREE_SIZE}
 use Rattle.path_tree.specs.Find.{find_field, kind_of}
 use Rattle.path_tree.specs.Lists.{is_null, list_of, within_limits}
-use Rattle.path_tree.specs.Plain.{Plain, dict, list, text, long, boolean, undef, null, Fields, no_fields, field, tree_size, tree_height}
+use Rattle.path_tree.specs.Plain.{Plain, dict, list, text, long, boolean, undef, null, Fields, tree_size, tree_height}
 use Rattle.path_tree.specs.Put.{over, put, put_field, walk, within_height, within_size}
 use Rattle.path_tree.specs.View.{items_of}
 use Rattle.path_tree.specs.declared.kind.Kind.TheVariants as kind
 use Rattle.path_tree.specs.declared.path.Term.TheVariants as term
 use Rattle.path_tree.specs.declared.path.PutError.{PutError}
 use Rattle.path_tree.specs.declared.path.PutError.TheVariants as put_error
-use Rattle.path_tree.specs.declared.refused.Refused.{Refused}
-use Rattle.path_tree.specs.declared.refused.Refused.TheVariants.{TooLarge}
+use Rattle.path_tree.specs.declared.refused.Refused.TheVariants.{BadArgument, TooLarge}
 use Rattle.serde_json.proofs.Views.{Entry, put_last}
 use Rattle.serde_json.specs.Data.{Data, Members, no_members, member, number, string, array, object}
 use Rattle.serde_json.specs.Data as js
@@ -48,7 +47,7 @@ items_are (v ∷ vs) = rw (items_are vs) refl
 -- the list of the trees of values
 pub listed : (vs : List Value) → list_of (map (λ v. tree_of (view v)) vs) ≡ within_limits (list (items_trees (items_view vs)))
 listed vs =
-    ap (λ b. cond b _ (within_limits (list (items_of (map (λ v. tree_of (view v)) vs))))) (no_null vs)
+    ap (λ b. cond b (Err BadArgument) (within_limits (list (items_of (map (λ v. tree_of (view v)) vs))))) (no_null vs)
     ∙ ap (λ ts. within_limits (list ts)) (items_are vs)
 
 by_order : (o : Ordering) (a b c : Members) → members_trees (match_ordering o a b c) ≡ match_ordering o (members_trees a) (members_trees b) (members_trees c)

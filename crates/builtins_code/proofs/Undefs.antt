@@ -1,6 +1,7 @@
 -- Where an undef is in a tree.
-use Rattle.std.proofs.Common.{◌≡◌, ℕ, ◌+◌, ◌≤◌, Bool, true, false, ◌||◌, List, [], ◌∷◌, drop, length, Some, None, refl, sym, ap, ◌∙◌, subst, arith}
+use Rattle.std.proofs.Common.{◌≡◌, ℕ, zero, suc, ◌+◌, true, false, ◌||◌, List, [], ◌∷◌, drop, Some, refl, sym, ap, ◌∙◌, subst, arith}
 use Rattle.std.specs.List.{list_any, slice_get}
+use Rattle.std.proofs.lemmas.Option.{same_Some}
 use Rattle.call_values.specs.Children.{children, values_in}
 use Rattle.call_values.proofs.Kids.{child_get}
 use Rattle.path_tree.specs.Find.{child_at, kind_of}
@@ -53,3 +54,15 @@ of_kind null = refl
 -- what a tree of a kind holds
 pub holds_by_kind : (t : Plain) (k : Kind) → k ≡ kind_of t → by_kind k t
 holds_by_kind t k is = let P : Kind → Type 0 = λ q. by_kind q t in subst P (sym is) (of_kind t)
+
+-- the child at i holds one
+pub undef_found : (t c : Plain) (i : ℕ) → Some c ≡ child_at i t → true ≡ holds_undef c →
+    list_any holds_undef (drop i (children t)) ≡ list_any holds_undef (children t) → true ≡ list_any holds_undef (children t)
+undef_found t c i e holds all =
+    ap (λ b. b || list_any holds_undef (drop (i + 1) (children t))) holds ∙ sym (undef_step t c i e) ∙ all
+
+-- it holds none
+pub undef_passed : (t c : Plain) (i : ℕ) → Some c ≡ child_at i t → false ≡ holds_undef c →
+    list_any holds_undef (drop i (children t)) ≡ list_any holds_undef (children t) → list_any holds_undef (drop (i + 1) (children t)) ≡ list_any holds_undef (children t)
+undef_passed t c i e holds all =
+    ap (λ b. b || list_any holds_undef (drop (i + 1) (children t))) holds ∙ sym (undef_step t c i e) ∙ all
