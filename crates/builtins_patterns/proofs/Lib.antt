@@ -3,3 +3,5 @@ pub mod Alike
 pub mod Captured
 pub mod Compiled
 pub mod Given
+pub mod Templating
+pub mod Rewriting

@@ -3,3 +3,4 @@ pub mod Pattern
 pub mod Calls
 -- What is taken from the iterators of the crate regex.
 pub mod Pieces
+pub mod Parts

@@ -71,7 +71,7 @@ fn texts(alloc: Global, captures: &Captures<'_, '_>) -> Result<Vec<Tree>, AllocE
 }
 
 // What a group matched, or nothing.
-fn group<'h>(captures: &Captures<'_, 'h>, n: usize) -> &'h str
+pub(crate) fn group<'h>(captures: &Captures<'_, 'h>, n: usize) -> &'h str
     ensures { result.now ≡ bytes_of (captures_haystack captures.now) (captures_span captures.now n) }
 {
     match captures.get(n) {

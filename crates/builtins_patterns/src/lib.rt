@@ -2,7 +2,8 @@
 //! and `replace`. A pattern and a template of a replacement are what the crate `regex` reads.
 //!
 //! In reading order: `pattern` (a text as a pattern), `patterns` (those that were compiled before),
-//! `matching` (whether it matches), `grouping` (what its groups match), `splitting`, `replacing`.
+//! `matching` (whether it matches), `grouping` (what its groups match), `splitting`, `template`
+//! (the parts of a replacement), `replacing`.
 #![tactic(auto)]
 
 mod grouping;
@@ -11,6 +12,7 @@ mod pattern;
 mod patterns;
 mod replacing;
 mod splitting;
+mod template;
 
 pub use grouping::matches;
 pub use matching::match_call;
