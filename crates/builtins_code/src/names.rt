@@ -1,0 +1,43 @@
+ghost use Rattle.std.specs.Prelude.{◌≡◌};
+ghost use Rattle.builtins_code.specs.Calls.{find_of};
+
+/// A built-in function of this crate.
+#[derive(Clone, Copy, Debug, PartialEq, Eq)]
+pub enum Call {
+    /// `match`: whether a pattern matches somewhere in a text.
+    Match,
+    /// `matches`: what the groups of the first match of a pattern matched.
+    Matches,
+    /// `split`: the texts between the matches of a pattern.
+    Split,
+    /// `replace`: a text with the matches of a pattern replaced.
+    Replace,
+    /// `base64_encode`: a text in base64.
+    Base64Encode,
+    /// `base64_decode`: the text of base64.
+    Base64Decode,
+    /// `json_encode`: a value as JSON.
+    JsonEncode,
+    /// `json_decode`: the value of a JSON text.
+    JsonDecode,
+    /// `digest`: the digest of a text by an algorithm.
+    Digest,
+}
+
+/// The function of a name. `None` exactly where the name is none of this crate's.
+pub fn find(name: &str) -> Option<Call>
+    ensures { result ≡ find_of name.now }
+{
+    match name {
+        "match" => Some(Call::Match),
+        "matches" => Some(Call::Matches),
+        "split" => Some(Call::Split),
+        "replace" => Some(Call::Replace),
+        "base64_encode" => Some(Call::Base64Encode),
+        "base64_decode" => Some(Call::Base64Decode),
+        "json_encode" => Some(Call::JsonEncode),
+        "json_decode" => Some(Call::JsonDecode),
+        "digest" => Some(Call::Digest),
+        _ => None,
+    }
+}

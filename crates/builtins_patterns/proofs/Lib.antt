@@ -1,0 +1,7 @@
+pub mod Examples
+pub mod Alike
+pub mod Captured
+pub mod Compiled
+pub mod Given
+pub mod Templating
+pub mod Rewriting
