@@ -20,6 +20,3 @@ pub use pattern::MAX_PATTERN_BYTES;
 pub use patterns::Patterns;
 pub use replacing::replace;
 pub use splitting::split;
-
-#[cfg(test)]
-mod tests;
