@@ -1,7 +1,8 @@
 -- The functions by their names, and what each gives of its arguments.
-use Rattle.std.specs.Prelude.{ℕ, List, [], ◌∷◌, Option, Some, None, Result, codes, bytes_eq, if◌then◌else◌}
+use Rattle.std.specs.Prelude.{ℕ, List, [], ◌∷◌, Option, Result, codes}
 use Rattle.path_tree.specs.Plain.{Plain}
 use Rattle.path_tree.specs.declared.refused.Refused.{Refused}
+use Rattle.call_values.specs.Names.{found_in}
 use Rattle.builtins_patterns.specs.Calls.{match_of, matches_of, replace_of, split_of}
 use Rattle.builtins_code.specs.Base64Texts.{base64_decode_of, base64_encode_of}
 use Rattle.builtins_code.specs.Digests.{digest_of}
@@ -15,11 +16,6 @@ names =
     ∷ (codes "replace", Replace) ∷ (codes "base64_encode", Base64Encode)
     ∷ (codes "base64_decode", Base64Decode) ∷ (codes "json_encode", JsonEncode)
     ∷ (codes "json_decode", JsonDecode) ∷ (codes "digest", Digest) ∷ []
-
-abbrev pub found_in : List (List ℕ × Call) → List ℕ → Option Call
-found_in [] name = None
-found_in (entry ∷ entries) name =
-    if bytes_eq name entry.0 then Some entry.1 else found_in entries name
 
 -- the function of a name
 abbrev pub find_of : List ℕ → Option Call

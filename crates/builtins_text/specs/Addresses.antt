@@ -9,6 +9,7 @@ use Rattle.path_tree.specs.Lists.{list_of}
 use Rattle.path_tree.specs.Plain.{Plain, text, long}
 use Rattle.path_tree.specs.Values.{text_value}
 use Rattle.path_tree.specs.declared.refused.Refused.{Refused}
+use Rattle.call_values.specs.Positions.{number}
 use Rattle.path_tree.specs.declared.refused.Refused.TheVariants.{BadArgument}
 
 -- decimal digits without a leading zero
@@ -43,9 +44,6 @@ address_of bytes = octets_joined (slice_split (λ c. c == dot) bytes)
 -- the mask of a length from 0 to 32: so many ones and then zeros
 abbrev pub mask_of : List ℕ → Option ℕ
 mask_of digits = option_map (λ n. 2 ^ 32 - 2 ^ (32 - n)) (number_to 32 digits)
-
-abbrev pub number : ℕ → Plain
-number n = long (pos n)
 
 abbrev pub one_number : Option ℕ → Result Plain Refused
 one_number n = given BadArgument n (λ n. list_of (number n ∷ []))

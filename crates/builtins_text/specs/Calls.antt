@@ -1,7 +1,8 @@
 -- The functions by their names.
-use Rattle.std.specs.Prelude.{ℕ, List, [], ◌∷◌, Option, Some, None, Result, codes, bytes_eq, if◌then◌else◌}
+use Rattle.std.specs.Prelude.{ℕ, List, [], ◌∷◌, Option, Result, codes}
 use Rattle.path_tree.specs.Plain.{Plain}
 use Rattle.path_tree.specs.declared.refused.Refused.{Refused}
+use Rattle.call_values.specs.Names.{found_in}
 use Rattle.builtins_text.specs.Texts.{escape_of, to_lowercase_of, substr_of, to_boolean_of, to_string_of, unescape_of, to_uppercase_of}
 use Rattle.builtins_text.specs.Numbers.{to_long_of}
 use Rattle.builtins_text.specs.Joins.{join_of}
@@ -18,11 +19,6 @@ names =
     ∷ (codes "to_lowercase", ToLowercase) ∷ (codes "to_uppercase", ToUppercase)
     ∷ (codes "substr", Substr) ∷ (codes "join", Join) ∷ (codes "format", Format)
     ∷ (codes "ip4_to_long", Ip4ToLong) ∷ (codes "long_to_ip4", LongToIp4) ∷ []
-
-abbrev pub found_in : List (List ℕ × Call) → List ℕ → Option Call
-found_in [] name = None
-found_in (entry ∷ entries) name =
-    if bytes_eq name entry.0 then Some entry.1 else found_in entries name
 
 -- the function of a name
 abbrev pub find_of : List ℕ → Option Call

@@ -3,3 +3,5 @@ pub mod Counted
 pub mod Positions
 pub mod Drafts
 pub mod Children
+-- How the crates above say which functions they have.
+pub mod Names

@@ -1,0 +1,5 @@
+pub mod Builds
+pub mod Examples
+pub mod Finds
+pub mod Spliced
+pub mod Twice
