@@ -9,6 +9,9 @@ use Rattle.call_values.specs.Drafts.{drafted}
 use Rattle.builtins_patterns.specs.declared.template.Part.{Part}
 use Rattle.builtins_patterns.specs.declared.template.Part.TheVariants.{Text, Group, Nothing}
 
+abbrev pub dollar_sign : ℕ
+dollar_sign = 36
+
 -- what a part writes, where the groups matched these texts
 abbrev pub part_text : (ℕ → List ℕ) → Part → List ℕ
 part_text groups (Text t) = t.now

@@ -2,7 +2,8 @@ ghost use Rattle.std.specs.Prelude.{◌≡◌, ◌<◌, ◌≤◌, ◌++◌, ◌
 ghost use Rattle.std.specs.List.{prefix_len};
 ghost use Rattle.regex.specs.Strings.{regex_names};
 ghost use Rattle.regex.specs.Templates.{group_called, is_name_byte, name_at, text_or_nothing, written_after};
-ghost use Rattle.builtins_patterns.specs.Parts.{part_text, written};
+ghost use Rattle.base.specs.Characters.{open_brace};
+ghost use Rattle.builtins_patterns.specs.Parts.{dollar_sign, part_text, written};
 
 use regex::Regex;
 use std::alloc::{AllocError, Global};
@@ -43,7 +44,7 @@ pub(crate) fn parts<'t>(
 fn reference<'t>(pattern: &Regex, after: &'t str) -> (Part<'t>, &'t str)
     ensures value { (groups : ℕ → List ℕ) → part_text groups result.0
         ++ written_after (regex_names pattern.now) groups result.1.now 0
-        ≡ written_after (regex_names pattern.now) groups (36 ∷ after.now) 0 }
+        ≡ written_after (regex_names pattern.now) groups (dollar_sign ∷ after.now) 0 }
     ensures shorter { length result.1.now ≤ length after.now }
     ensures utf8 { IsUtf8 result.1.now }
 {
@@ -85,7 +86,7 @@ fn name_at(after: &str) -> Option<(&str, &str)>
 
 // The longest name at the front of a text that does not begin with a brace.
 fn bare_name(after: &str) -> Option<(&str, &str)>
-    requires { (slice_index after.now 0 == 123) ≡ false }
+    requires { (slice_index after.now 0 == open_brace) ≡ false }
     ensures { MatchOption result (name_at after.now ≡ None)
         (λ found. (n : ℕ) × (name_at after.now ≡ Some (found.0.now, n))
         × (found.1.now ≡ drop n after.now) × IsUtf8 found.1.now) }

@@ -4,7 +4,6 @@ use Rattle.builtins_patterns.proofs.pattern.compiled.Goals as goal
 
 pub returns-in-Ok-clause-ok : goal.returns-in-Ok-clause-ok
 returns-in-Ok-clause-ok c =
-    let made = c.new.ensures in
     compiled_is c.args.source.now c.in-Ok.pattern c.if-source-gt-MAX_PATTERN_BYTES.false c.in-Ok.ensures.source c.in-Ok.ensures.config c.in-Ok.ensures.read
 
 pub returns-in-Err-Syntax-clause-err : goal.returns-in-Err-Syntax-clause-err
