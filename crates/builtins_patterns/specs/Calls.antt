@@ -17,7 +17,8 @@ use Rattle.builtins_patterns.specs.Pattern.{Pattern, pattern_of}
 -- match(t, p): whether the pattern p matches somewhere in t
 abbrev pub match_of : List Plain → Result Plain Refused
 match_of (text t ∷ text p ∷ []) =
-    given BadPattern (pattern_of p) (λ pattern. Ok (boolean (is_some (find_str pattern.meaning t 0))))
+    given BadPattern (pattern_of p)
+    (λ pattern. Ok (boolean (is_some (find_str pattern.meaning t 0))))
 match_of _ = Err BadArgument
 
 -- what each of the first n groups of a match matched, the whole first; the empty text for a group

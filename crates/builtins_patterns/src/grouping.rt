@@ -72,7 +72,8 @@ fn texts(alloc: Global, captures: &Captures<'_, '_>) -> Result<Vec<Tree>, AllocE
 
 // What a group matched, or nothing.
 pub(crate) fn group<'h>(captures: &Captures<'_, 'h>, n: usize) -> &'h str
-    ensures { result.now ≡ bytes_of (captures_haystack captures.now) (captures_span captures.now n) }
+    ensures { result.now
+        ≡ bytes_of (captures_haystack captures.now) (captures_span captures.now n) }
 {
     match captures.get(n) {
         Some(found) => found.as_str(),

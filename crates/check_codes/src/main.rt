@@ -1,8 +1,8 @@
-//! Calls the built-in functions on patterns, base64, JSON and digests as the lines of its input say,
-//! and prints what each gives.
+//! Calls the built-in functions on patterns, base64, JSON and digests as the lines of its input
+//! say, and prints what each gives.
 //!
-//! A line is the name of a function and its arguments, with a `~` in front of each. An argument is a
-//! whole number, `true`, `false`, `undef`, `null`, a text behind `"`, or the value of a JSON text
+//! A line is the name of a function and its arguments, with a `~` in front of each. An argument is
+//! a whole number, `true`, `false`, `undef`, `null`, a text behind `"`, or the value of a JSON text
 //! behind `:`. A value is printed as JSON, a refusal by its name. A line that begins with `#` is a
 //! remark. The expected output is written by hand, from RFC 1321, RFC 4648, RFC 8259, FIPS 180-4
 //! and the rules.
