@@ -42,7 +42,8 @@ use Rattle.dml_meaning.specs.Run.{Env, Run}
 use Rattle.dml_meaning.specs.Around.{Around, Called, in_call, in_create, in_include, in_template, in_statement, found, with_local, without_local, found_function}
 use Rattle.dml_meaning.specs.Indexes.{at_index, changed, deleted}
 use Rattle.dml_meaning.specs.Words.{automatic_of, own_of, value_call_of}
-use Rattle.dml_meaning.specs.Values.{has_null, is_nothing, is_container, limited, list_of, extended, passes_option, value_called}
+use Rattle.path_tree.specs.Lists.{list_of}
+use Rattle.dml_meaning.specs.Values.{has_null, is_nothing, is_container, extended, passes_option, value_called}
 use Rattle.dml_meaning.specs.Lookups.{Looked, NoObject, Nothing, There, Present, look, looked_up, on_bytes, structure_named}
 
 -- why a reference stands as an argument: to be read, to be deleted by a call at a place, to be
@@ -520,7 +521,7 @@ extend_self a p s v =
     cond (is_nothing v) (fail code.BadArgument p) (cond a.fixed (fail code.SelfChange p) (do
       e ← now
       ts ← as_list p e.self v
-      t ← or_refuse p (limited (list (extended s ts v)))
+      t ← or_refuse p (extended s ts v)
       _ ← become (record e { self = t })
       give t))
 
@@ -587,7 +588,7 @@ copy_extended go a p s l v = do
   t ← go.opens a l
   u ← go.opens a v
   ts ← as_list p t u
-  or_refuse p (limited (list (extended s ts u)))
+  or_refuse p (extended s ts u)
 
 -- SELF may be changed here, or the name is another one
 abbrev pub may_extend : Around → Place → List ℕ → Run (Unit {0})
@@ -599,7 +600,7 @@ reference_extended go a p s l (Refer q x is) v = do
   u ← go.opens a v
   ts ← as_list p (unwrap_or r.value undef) u
   _ ← may_extend a p x
-  t ← or_refuse p (limited (list (extended s ts u)))
+  t ← or_refuse p (extended s ts u)
   _ ← change p x r.keys t
   give t
 

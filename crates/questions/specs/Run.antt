@@ -1,6 +1,6 @@
 -- How a piece of a program runs: it is told answers, begins with a state and a meter, and comes to
 -- an outcome.
-use Rattle.std.specs.Prelude.{ℕ, ◌-◌, List, [], Option, Some, None, Bool, true, false, nat_eq}
+use Rattle.std.specs.Prelude.{ℕ, ◌-◌, List, Option, Some, None, Bool, true, false, nat_eq}
 use Rattle.path_tree.specs.Plain.{Plain}
 use Rattle.pan_ast.specs.declared.place.Place.{Place}
 use Rattle.questions.specs.declared.key.Key.{Key}
@@ -8,6 +8,7 @@ use Rattle.pan_ast.specs.declared.fault.Fault.{Fault}
 use Rattle.pan_ast.specs.declared.fault.Code.{Code}
 use Rattle.pan_ast.specs.declared.fault.Code.TheVariants.{WorkSpent}
 use Rattle.pan_ast.specs.Detail.{fault_with}
+pub use Rattle.pan_ast.specs.Detail.{fault_at}
 use Rattle.questions.specs.Contents.{Content, Answers, with_key}
 
 -- the work left, and the keys that were asked, each once, in order
@@ -41,9 +42,6 @@ abbrev pub ◌>>=◌ : {S X Y : Type 0} → Run S X → (X → Run S Y) → Run 
 
 abbrev pub give : {S X : Type 0} → X → Run S X
 give x o s m = Done x s m
-
-abbrev pub fault_at : Code → Place → Fault
-fault_at c p = record { code = c; place = p; detail = [] }
 
 abbrev pub fail_with : {S X : Type 0} → Fault → Run S X
 fail_with f o s m = Failed f m

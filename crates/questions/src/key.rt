@@ -11,7 +11,8 @@ pub enum Key {
     Under { object: Name, terms: Seq<Term> },
 }
 
-fn is_same_term(a: &Term, b: &Term) -> bool
+/// Whether two terms are one.
+pub fn is_same_term(a: &Term, b: &Term) -> bool
     ensures { result ≡ term_eq a.now b.now }
 {
     match (a, b) {
