@@ -1,0 +1,35 @@
+-- How a refusal ends a run.
+use Rattle.std.proofs.Common.{◌≡◌, ap, sym, Result, Err, IfSome}
+use Rattle.path_tree.specs.Plain.{Plain}
+use Rattle.path_tree.specs.Refusals.{refusal}
+use Rattle.path_tree.specs.declared.refused.Refused.{Refused}
+use Rattle.path_tree.specs.declared.refused.Refused.TheVariants as refused
+use Rattle.pan_ast.specs.declared.fault.Fault.{Fault}
+use Rattle.pan_ast.specs.declared.place.Place.{Place}
+use Rattle.questions.specs.Contents.{Answers}
+use Rattle.questions.specs.Run.{Meter, Failed, fault_at}
+use Rattle.dml_meaning.specs.Run.{Env}
+use Rattle.dml_meaning.specs.Meaning.{code_of, or_refuse}
+use Rattle.dml_eval.specs.declared.stop.Exit.{Exit}
+use Rattle.dml_eval.specs.declared.stop.Exit.TheVariants as exit
+use Rattle.dml_eval.specs.Exits.{Ends, IsFault, IsRefused}
+
+pub fault_ends : (X : Type 0) (x : Exit) (f : Fault) (e : Env) (m : Meter) → IsFault x f → Ends {Y = X} x e m (Failed f m)
+fault_ends X exit.Memory f e m h = tt
+fault_ends X (exit.Fault g) f e m h = ap (λ z. Failed z m) (sym h)
+fault_ends X (exit.Need q) f e m h = absurd h
+fault_ends X (exit.Return t) f e m h = absurd h
+
+refuses : (e : Refused) (x : Exit) (p : Place) (r : Result Plain Refused) (o : Answers) (v : Env) (m : Meter) → IsFault x (fault_at (code_of e) p) → r ≡ Err e → Ends {Y = Plain} x v m (or_refuse p r o v m)
+refuses e x p r o v m h k = rw k (fault_ends Plain x (fault_at (code_of e) p) v m h)
+
+-- a refusal of what makes a value ends as the definition does
+pub refused_comes : (e : Refused) (x : Exit) (p : Place) (r : Result Plain Refused) (o : Answers) (v : Env) (m : Meter) → IsRefused e x p → IfSome (refusal e) (λ f. r ≡ Err f) → Ends {Y = Plain} x v m (or_refuse p r o v m)
+refused_comes refused.Memory x p r o v m h k = rw h tt
+refused_comes refused.TypeClash x p r o v m h k = refuses refused.TypeClash x p r o v m h k
+refused_comes refused.Overflow x p r o v m h k = refuses refused.Overflow x p r o v m h k
+refused_comes refused.ZeroDivisor x p r o v m h k = refuses refused.ZeroDivisor x p r o v m h k
+refused_comes refused.BadArgument x p r o v m h k = refuses refused.BadArgument x p r o v m h k
+refused_comes refused.BadPattern x p r o v m h k = refuses refused.BadPattern x p r o v m h k
+refused_comes refused.BadIndex x p r o v m h k = refuses refused.BadIndex x p r o v m h k
+refused_comes refused.TooLarge x p r o v m h k = refuses refused.TooLarge x p r o v m h k

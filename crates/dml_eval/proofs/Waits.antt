@@ -1,0 +1,83 @@
+-- What waits, when one more does, and how much is left to do.
+use Rattle.std.proofs.Common.{◌≡◌, ◌∙◌, ap, sym, refl, ◌+◌, ◌≤◌, List, [], ◌∷◌, ◌++◌, map, length, arith}
+use Rattle.std.specs.declared.vec.Vec.{Vec}
+use Rattle.std.specs.declared.boxed.Box.{Box}
+use Rattle.std.specs.declared.alloc.Global.{Global}
+use Rattle.path_tree.specs.Plain.{Plain}
+use Rattle.pan_ast.specs.declared.place.Place.{Place}
+use Rattle.pan_ast.specs.declared.fault.Fault.{Fault}
+use Rattle.pan_ast.specs.declared.syntax.Node.{Node as RNode}
+use Rattle.pan_ast.specs.declared.syntax.Step.{Step as RStep}
+use Rattle.pan_ast.specs.declared.syntax.Form.TheVariants as form
+use Rattle.pan_ast.specs.Syntax.{Node, Step, AtIndex, AtBinary, AtAnd, AtOr, stepped, steps_on}
+use Rattle.pan_ast.specs.Seen.{node_seen, step_seen}
+use Rattle.pan_ast.proofs.Forms.{seen_spine}
+use Rattle.questions.specs.declared.key.Key.{Key}
+use Rattle.questions.specs.Contents.{Answers}
+use Rattle.questions.specs.Run.{Meter, Outcome, Done, Returned, Failed, Asks, then}
+use Rattle.dml_meaning.specs.Run.{Env}
+use Rattle.dml_meaning.specs.Around.{Around}
+use Rattle.dml_meaning.specs.Meaning.{Means}
+use Rattle.dml_eval.specs.declared.stop.Exit.{Exit}
+use Rattle.dml_eval.specs.declared.stop.Exit.TheVariants as exit
+use Rattle.dml_eval.specs.declared.chains.Waiting.{Waiting}
+use Rattle.dml_eval.specs.Exits.{Ends}
+use Rattle.dml_eval.specs.Waits.{resume, resumed, node_weight, step_weight, steps_weight, waiting_weight, waits_weight}
+
+-- one more that waits is the first to go on
+pub resumed_more : (go : Means) (a : Around) (answers : Answers) (ws : List Waiting) (w : Waiting) (o : Outcome Env Plain) → resumed go a answers (ws ++ w ∷ []) o ≡ resumed go a answers ws (then o (λ t. resume go a w t answers))
+unfolding resumed
+resumed_more go a answers [] w o = refl
+resumed_more go a answers (v ∷ ws) w o = ap (λ n. then n (λ t. resume go a v t answers)) (resumed_more go a answers ws w o)
+
+-- an early end ends all that wait
+resumed_failed : (go : Means) (a : Around) (answers : Answers) (ws : List Waiting) (f : Fault) (m : Meter) → resumed go a answers ws (Failed f m) ≡ Failed f m
+unfolding resumed
+resumed_failed go a answers [] f m = refl
+resumed_failed go a answers (w ∷ ws) f m = ap (λ n. then n (λ t. resume go a w t answers)) (resumed_failed go a answers ws f m)
+
+resumed_asks : (go : Means) (a : Around) (answers : Answers) (ws : List Waiting) (k : Key) (m : Meter) → resumed go a answers ws (Asks k m) ≡ Asks k m
+unfolding resumed
+resumed_asks go a answers [] k m = refl
+resumed_asks go a answers (w ∷ ws) k m = ap (λ n. then n (λ t. resume go a w t answers)) (resumed_asks go a answers ws k m)
+
+resumed_returned : (go : Means) (a : Around) (answers : Answers) (ws : List Waiting) (t : Plain) (e : Env) (m : Meter) → resumed go a answers ws (Returned t e m) ≡ Returned t e m
+unfolding resumed
+resumed_returned go a answers [] t e m = refl
+resumed_returned go a answers (w ∷ ws) t e m = ap (λ n. then n (λ u. resume go a w u answers)) (resumed_returned go a answers ws t e m)
+
+pub resumed_ends : (go : Means) (a : Around) (answers : Answers) (ws : List Waiting) (x : Exit) (e : Env) (m : Meter) (o p : Outcome Env Plain) → Ends x e m o → resumed go a answers ws o ≡ p → Ends x e m p
+resumed_ends go a answers ws exit.Memory e m o p h k = tt
+resumed_ends go a answers ws (exit.Fault f) e m o p h k = sym k ∙ ap (resumed go a answers ws) h ∙ resumed_failed go a answers ws f.value m
+resumed_ends go a answers ws (exit.Need q) e m o p h k = sym k ∙ ap (resumed go a answers ws) h ∙ resumed_asks go a answers ws _ m
+resumed_ends go a answers ws (exit.Return t) e m o p h k = sym k ∙ ap (resumed go a answers ws) h ∙ resumed_returned go a answers ws t e m
+
+pub weight_more : (ws : List Waiting) (w : Waiting) → waits_weight (ws ++ w ∷ []) ≡ waits_weight ws + waiting_weight w
+weight_more [] w = omega arith
+weight_more (v ∷ ws) w = let h = weight_more ws w in omega (arith, h)
+
+-- nothing waits
+pub resumed_none : (go : Means) (a : Around) (answers : Answers) (ws : List Waiting) (o p : Outcome Env Plain) → length ws ≡ 0 → o ≡ p → resumed go a answers ws o ≡ p
+unfolding resumed
+resumed_none go a answers [] o p h is = is
+resumed_none go a answers (w ∷ ws) o p h is = absurd (omega arith)
+
+pub ruleset waits = (resumed_more, resumed_ends, weight_more)
+
+weight_stepped : (s : Step) (p : Place) (x : Node) → 1 + node_weight x + step_weight s ≤ node_weight (stepped p x s)
+weight_stepped (AtIndex i) p x = omega arith
+weight_stepped (AtBinary op y) p x = omega arith
+weight_stepped (AtAnd y) p x = omega arith
+weight_stepped (AtOr y) p x = omega arith
+
+weight_steps : (ss : List Step) (p : Place) (x : Node) → node_weight x + steps_weight ss ≤ node_weight (steps_on p x ss)
+weight_steps [] p x = omega arith
+weight_steps (s ∷ ss) p x = let h = weight_steps ss p (stepped p x s) in let k = weight_stepped s p x in omega (arith, h, k)
+
+-- a chain in memory
+pub weight_spine : (n : RNode) (x : Box RNode Global) (s : Box RStep Global) (ss : Vec RStep Global) → n.form ≡ form.Spine x s ss → 1 + node_weight (node_seen x.value) + step_weight (step_seen s.value) + steps_weight (map step_seen ss.items) ≤ node_weight (node_seen n)
+weight_spine n x s ss is =
+    let k = weight_stepped (step_seen s.value) n.place (node_seen x.value) in
+    let l = weight_steps (map step_seen ss.items) n.place (stepped n.place (node_seen x.value) (step_seen s.value)) in
+    let e = ap node_weight (seen_spine n x s ss is) in
+    omega (arith, k, l, e)

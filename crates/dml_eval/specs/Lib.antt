@@ -1,0 +1,5 @@
+pub mod Seen
+pub mod Exits
+pub mod Answers
+pub mod Changes
+pub mod Waits

@@ -1,0 +1,110 @@
+-- Chains whose operands are chains: what is next, what waits for its value, and what is left to do.
+use Rattle.std.specs.Prelude.{◌≡◌, ℕ, ◌+◌, List, [], ◌∷◌, map, Result, Ok, Err}
+use Rattle.path_tree.specs.Plain.{Plain}
+use Rattle.pan_ast.specs.declared.place.Place.{Place}
+use Rattle.pan_ast.specs.Syntax.{Node, Step, Index, Binary, And, Or, AtIndex, AtBinary, AtAnd, AtOr}
+use Rattle.pan_ast.specs.Seen.{node_seen, step_seen}
+use Rattle.questions.specs.declared.key.Key.{Key}
+use Rattle.questions.specs.Contents.{Answers}
+use Rattle.questions.specs.Run.{Outcome, then, ◌>>=◌, give}
+use Rattle.dml_meaning.specs.Run.{Env, Run}
+use Rattle.dml_meaning.specs.Around.{Around}
+use Rattle.dml_meaning.specs.Meaning.{Means, spine_run, step_run, steps_run, apply_binary, apply_boolean}
+use Rattle.dml_eval.specs.declared.stop.Exit.{Exit}
+use Rattle.dml_eval.specs.declared.frame.Live.{Live}
+use Rattle.dml_eval.specs.declared.nodes.Operand.{Operand}
+use Rattle.dml_eval.specs.declared.nodes.Operand.TheVariants as operand
+use Rattle.dml_eval.specs.declared.chains.Chain.{Chain}
+use Rattle.dml_eval.specs.declared.chains.Role.{Role}
+use Rattle.dml_eval.specs.declared.chains.Role.TheVariants as role
+use Rattle.dml_eval.specs.declared.chains.Waiting.{Waiting}
+use Rattle.dml_eval.specs.declared.chains.Turn.{Turn}
+use Rattle.dml_eval.specs.declared.chains.Turn.TheVariants as turn
+use Rattle.dml_eval.specs.Seen.{env, meter}
+use Rattle.dml_eval.specs.Exits.{Ends}
+
+-- What each means.
+
+abbrev pub chain_run : Means → Around → Chain → Run Plain
+chain_run go a c = spine_run go a c.place.now (node_seen c.first.now) (step_seen c.step.now
+    ∷ map step_seen c.rest.now)
+
+abbrev pub operand_run : Means → Around → Operand → Run Plain
+operand_run go a (operand.Value t) = give t
+operand_run go a (operand.Chain c) = chain_run go a c
+
+-- a run, and then the steps to its right
+abbrev pub with_steps : Means → Around → Place → List Step → Run Plain → Run Plain
+with_steps go a p ss r = r >>= steps_run go a p ss
+
+-- the value of an operand, in its role
+abbrev pub in_role : Means → Around → Place → Role → Plain → Run Plain
+in_role go a p (role.Left s) t = step_run go a p t (step_seen s.now)
+in_role go a p (role.Right op s) t = apply_binary p op s t
+in_role go a p role.Deciding t = apply_boolean p t
+
+-- a chain that waits, once the value is there
+abbrev pub resume : Means → Around → Waiting → Plain → Run Plain
+resume go a w t =
+    with_steps go a w.place.now (map step_seen w.rest.now) (in_role go a w.place.now w.role t)
+
+abbrev pub turn_run : Means → Around → Turn → Run Plain
+turn_run go a (turn.Steps t p ss) = steps_run go a p.now (map step_seen ss.now) t
+turn_run go a (turn.Inner c w) = chain_run go a c >>= resume go a w
+
+-- all that wait, the outermost first
+unfoldable pub resumed : Means → Around → Answers → List Waiting → Outcome Env Plain
+    → Outcome Env Plain
+resumed go a answers [] o = o
+resumed go a answers (w ∷ ws) o =
+    then (resumed go a answers ws o) (λ t. resume go a w t answers)
+
+-- a run goes on as what a function left, or ends as it did
+abbrev pub Leads : {X : Type 0} → (X → Run Plain) → Result X Exit → Answers → Live → List Key
+    → Live → List Key → Run Plain → Type 0
+Leads left (Ok x) answers before old after new run =
+    run answers (env before) (meter before old) ≡ left x answers (env after) (meter after new)
+Leads left (Err x) answers before old after new run =
+    Ends x (env after) (meter after new) (run answers (env before) (meter before old))
+
+-- How many turns are left at most.
+
+abbrev pub node_weight : Node → ℕ
+node_weight (Index p x i) = 2 + node_weight x
+node_weight (Binary p op x y) = 3 + node_weight x + node_weight y
+node_weight (And p x y) = 3 + node_weight x + node_weight y
+node_weight (Or p x y) = 3 + node_weight x + node_weight y
+node_weight _ = 0
+
+abbrev pub step_weight : Step → ℕ
+step_weight (AtIndex i) = 1
+step_weight (AtBinary op y) = 2 + node_weight y
+step_weight (AtAnd y) = 2 + node_weight y
+step_weight (AtOr y) = 2 + node_weight y
+
+abbrev pub steps_weight : List Step → ℕ
+steps_weight [] = 0
+steps_weight (s ∷ ss) = step_weight s + steps_weight ss
+
+abbrev pub chain_weight : Chain → ℕ
+chain_weight c = 1 + node_weight (node_seen c.first.now) + step_weight (step_seen c.step.now)
+    + steps_weight (map step_seen c.rest.now)
+
+abbrev pub operand_weight : Operand → ℕ
+operand_weight (operand.Value t) = 0
+operand_weight (operand.Chain c) = chain_weight c
+
+abbrev pub role_weight : Role → ℕ
+role_weight (role.Left s) = step_weight (step_seen s.now)
+role_weight _ = 1
+
+abbrev pub waiting_weight : Waiting → ℕ
+waiting_weight w = role_weight w.role + steps_weight (map step_seen w.rest.now)
+
+abbrev pub turn_weight : Turn → ℕ
+turn_weight (turn.Steps t p ss) = steps_weight (map step_seen ss.now)
+turn_weight (turn.Inner c w) = chain_weight c + waiting_weight w
+
+abbrev pub waits_weight : List Waiting → ℕ
+waits_weight [] = 0
+waits_weight (w ∷ ws) = waiting_weight w + waits_weight ws
