@@ -1,5 +1,5 @@
 -- Names among values, an entry at a time.
-use Rattle.std.proofs.Common.{◌≡◌, ◌∙◌, ap, sym, ℕ, zero, suc, ◌+◌, ◌<◌, List, [], ◌∷◌, map, length, drop, get_or, Some, ◌^◌, bytes_eq, if◌then◌else◌, arith}
+use Rattle.std.proofs.Common.{◌≡◌, ◌∙◌, ap, sym, ℕ, ◌+◌, ◌<◌, List, ◌∷◌, map, length, drop, get_or, Some, bytes_eq, if◌then◌else◌}
 use Rattle.std.proofs.lemmas.List.{drop_more}
 use Rattle.pan_ast.specs.Seen.{item_seen}
 use Rattle.dml_meaning.specs.Around.{found_function}

@@ -1,11 +1,11 @@
 -- Values by kind, by index, and by the size of their lists.
-use Rattle.std.proofs.Common.{◌≡◌, ◌≢◌, ◌∙◌, ap, sym, refl, ℕ, zero, suc, ◌+◌, ◌<◌, ◌≤◌, List, [], ◌∷◌, ◌++◌, length, drop, get_or, true, false, Result, Err, pos, unwrap_or, Option, Some, None, IfSome, option_and_then, arith}
+use Rattle.std.proofs.Common.{◌≡◌, ◌≢◌, ◌∙◌, ap, sym, refl, ℕ, zero, suc, ◌+◌, ◌<◌, List, [], ◌∷◌, ◌++◌, length, drop, get_or, true, false, Result, Err, pos, unwrap_or, Option, Some, None, IfSome, option_and_then, arith}
 use Rattle.std.proofs.lemmas.List.{drop_more}
-use Rattle.path_tree.specs.Plain.{Plain, dict, list, text, long, boolean, undef, null, Items, no_items, item, Fields, no_fields, field, tree_size, items_size, fields_size}
+use Rattle.path_tree.specs.Plain.{Plain, dict, list, text, long, boolean, undef, null, Fields, no_fields, field}
 use Rattle.path_tree.specs.Refusals.{put_refusal}
 use Rattle.path_tree.proofs.Counts.{few_children}
-use Rattle.path_tree.proofs.Growing.{get_one, get_push}
-use Rattle.path_tree.specs.Find.{child, child_count, item_count, field_count, field_key_at, key_at, get, text_of, long_of, boolean_of}
+use Rattle.path_tree.proofs.Growing.{get_push}
+use Rattle.path_tree.specs.Find.{child, child_count, field_count, field_key_at, key_at, get, text_of, long_of, boolean_of}
 use Rattle.path_tree.specs.declared.path.Term.{Term}
 use Rattle.path_tree.specs.declared.path.PutError.{PutError}
 use Rattle.path_tree.specs.declared.path.PutError.TheVariants as put_error

@@ -14,7 +14,7 @@ use Rattle.pan_ast.specs.Seen.{node_seen, step_seen}
 use Rattle.pan_ast.proofs.Forms.{seen_spine}
 use Rattle.questions.specs.declared.key.Key.{Key}
 use Rattle.questions.specs.Contents.{Answers}
-use Rattle.questions.specs.Run.{Meter, Outcome, Done, Returned, Failed, Asks, then}
+use Rattle.questions.specs.Run.{Meter, Outcome, Returned, Failed, Asks, then}
 use Rattle.dml_meaning.specs.Run.{Env}
 use Rattle.dml_meaning.specs.Around.{Around}
 use Rattle.dml_meaning.specs.Meaning.{Means}
