@@ -18,7 +18,7 @@ use Rattle.publication.specs.Troubles.{published}
 use Rattle.publication.specs.declared.want.Want.{Want}
 use Rattle.scans.specs.Scans.{scanned_of}
 use Rattle.pan_top.specs.Rounds.{scanned_session}
-use Rattle.pan_top.specs.Session.{Session, Finished, WritesEarly, Says, Comes, TakesEarly, IsPassed, session_of}
+use Rattle.pan_top.specs.Session.{Session, Finished, WritesEarly, Says, Comes, TakesEarly, session_of}
 use Rattle.pan_top.proofs.Building.{session_is}
 
 -- nothing is a first part of every text

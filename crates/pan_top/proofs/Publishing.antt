@@ -1,5 +1,5 @@
 -- What a session has done to the shelf.
-use Rattle.std.proofs.Common.{◌≡◌, ℕ, Bool, true, false, List, [], ◌∷◌, ◌++◌, Option, Some, None, is_some, IfSome, if◌then◌else◌, ◌⊎◌, inl, inr, refl, sym, ap, ◌∙◌, subst}
+use Rattle.std.proofs.Common.{◌≡◌, ℕ, true, false, List, ◌++◌, Option, Some, None, is_some, IfSome, inl, inr, refl, sym, ap, ◌∙◌, subst}
 use Rattle.std.specs.Prelude.{flat_map, Result, Ok, Err, OnOk, OnErr}
 use Rattle.std.specs.List.Sorted.{IsSorted}
 use Rattle.std.specs.Cmp.Lexicographic.{slice_cmp}
@@ -18,10 +18,10 @@ use Rattle.pan_top.specs.Commands.{is_command}
 use Rattle.pan_top.specs.Ends.{status_of}
 use Rattle.scans.specs.Scans.{scanned_of}
 use Rattle.publication.specs.Listings.{Lists}
-use Rattle.publication.specs.Changing.{removal, putting, planned, is_next, stand, Made, Begun, AreListed, Tells}
+use Rattle.publication.specs.Changing.{removal, planned, stand, Made, Begun, AreListed, Tells}
 use Rattle.pan_top.specs.Rounds.{MadeOver, BegunOver, IsSessions, Concludes, scanned_session}
 use Rattle.pan_top.specs.Session.{IsInOrder, Publishes, PublishesPart, session_of}
-use Rattle.publication.proofs.Planning.{puts_same, done_none, begun_none, begun_all, on_err}
+use Rattle.publication.proofs.Planning.{puts_same, begun_none, begun_all, on_err}
 use Rattle.pan_top.proofs.Building.{session_is}
 
 -- nothing was done

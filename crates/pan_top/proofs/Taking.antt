@@ -1,10 +1,10 @@
 -- The pictures that are still to come, by the end of a run.
-use Rattle.std.proofs.Common.{◌≡◌, List, Option, IfErr, OnErr, ◌⊎◌, inl, inr, sym, ◌∙◌, subst}
+use Rattle.std.proofs.Common.{◌≡◌, List, Option, IfErr, ◌⊎◌, inl, inr, subst}
 use Rattle.std.specs.Prelude.{Result, Ok, Err}
 use Rattle.outside.specs.declared.source.MemFile.{MemFile}
 use Rattle.pan_top.specs.declared.status.End.{End}
 use Rattle.pan_top.specs.declared.status.End.TheVariants as E
-use Rattle.pan_top.specs.Ends.{IsEndOf, IsRoundEnd, OfSource, OfShelf, OfName, OfSink}
+use Rattle.pan_top.specs.Ends.{IsEndOf, IsRoundEnd, OfSource, OfShelf, OfSink}
 use Rattle.pan_top.specs.Session.{TakesEarly, IsPassed}
 
 abbrev Coming : Type 0

@@ -1,5 +1,5 @@
 -- What the objects of a picture come to.
-use Rattle.std.specs.Prelude.{ℕ, ◌-◌, Bool, true, false, List, [], ◌∷◌, ◌++◌, Option, Some, None, is_some, if◌then◌else◌, nat_eq, codes, map, fold, length, take, ◌&&◌}
+use Rattle.std.specs.Prelude.{ℕ, ◌-◌, Bool, List, [], Option, Some, None, is_some, if◌then◌else◌, nat_eq, codes, map, fold, length, take, ◌&&◌}
 use Rattle.std.specs.List.{ends_with}
 use Rattle.std.specs.BTreeMap.{insert_entry}
 use Rattle.std.specs.Cmp.Lexicographic.{slice_cmp}

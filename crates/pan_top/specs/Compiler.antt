@@ -1,10 +1,10 @@
 -- The engine of today: a take compiles every object of its picture, and no turn is left.
-use Rattle.std.specs.Prelude.{ℕ, Bool, true, false, List, [], Option, Some, Result, Ok, Err, if◌then◌else◌, nat_lt, count_by, map, codes}
+use Rattle.std.specs.Prelude.{ℕ, Bool, true, false, List, [], Some, Result, Ok, Err, if◌then◌else◌, nat_lt, count_by, map, codes}
 use Rattle.std.specs.List.{list_any}
 use Rattle.std.specs.Str.{bytes_eq}
 use Rattle.base.specs.declared.limits.TheConstants.{MAX_OBJECTS}
 use Rattle.load_path.specs.declared.picture.PictureFile.{PictureFile}
-use Rattle.session.specs.Machines.{Machine, Refusal, TooManyObjects, Turned}
+use Rattle.session.specs.Machines.{Machine, Refusal, TooManyObjects}
 use Rattle.session.specs.declared.Answer.{Answer}
 use Rattle.pan_top.specs.Answers.{answers_of, is_object_file}
 

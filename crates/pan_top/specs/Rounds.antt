@@ -18,7 +18,7 @@ use Rattle.pan_top.specs.Ends.{status_of}
 use Rattle.pan_top.specs.Session.{Session, line_alone}
 use Rattle.pan_top.specs.declared.status.End.{End}
 use Rattle.pan_top.specs.declared.status.Status.{Status}
-use Rattle.pan_top.specs.declared.status.Status.TheVariants.{Clean, SomeFaults, Usage, SourceFault, ShelfFault, OutFault, Memory, NumbersSpent, TooMuch}
+use Rattle.pan_top.specs.declared.status.Status.TheVariants.{Clean, SomeFaults, Usage, OutFault, Memory, TooMuch}
 
 abbrev pub report_of : List Answer → List ℕ
 report_of answers = report answers (map name_of answers)

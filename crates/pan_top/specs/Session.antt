@@ -1,5 +1,5 @@
 -- The session of a call, by the words and the pictures that the source has to give, and how a call ends.
-use Rattle.std.specs.Prelude.{◌≡◌, ◌≤◌, ℕ, Bool, true, false, List, [], Option, Some, None, if◌then◌else◌, codes, option_map, ◌⊎◌}
+use Rattle.std.specs.Prelude.{◌≡◌, ◌≤◌, ℕ, List, [], Option, Some, None, if◌then◌else◌, codes, option_map, ◌⊎◌}
 use Rattle.outside.specs.Cells.{Cell, AreSame}
 use Rattle.outside.specs.Contents.{Appends, AppendsPart}
 use Rattle.outside.specs.Pictures.{later_pictures}

@@ -1,10 +1,10 @@
-use Rattle.std.proofs.Common.{ℕ, List, [], Some, ◌≡◌, IfErr, OnErr, refl, ap, subst, ◌∙◌, rules}
+use Rattle.std.proofs.Common.{[], Some, IfErr, refl, subst, ◌∙◌, rules}
 use Rattle.std.proofs.lemmas.Result.{IfErr-weaker}
 use Rattle.publication.specs.Stands.{Stands, untouched}
 use Rattle.publication.specs.Troubles.{published}
 use Rattle.publication.specs.Wants.{wants_of}
 use Rattle.publication.proofs.Planning.{on_err}
-use Rattle.pan_top.specs.Ends.{IsEndOf, OfName, Stopped}
+use Rattle.pan_top.specs.Ends.{IsEndOf, OfName}
 use Rattle.pan_top.specs.Rounds.{report_of, wants_among, MadeOver, BegunOver}
 use Rattle.pan_top.proofs.Ending.{quiet, unwritten, done_stopped, on_ok}
 use Rattle.pan_top.proofs.Publishing.{over_none, over_all}
