@@ -1,6 +1,7 @@
 ghost use Rattle.std.specs.Prelude.{◌≡◌, ◌≤◌, ◌++◌, IfOk, OnOk, string_bytes};
 ghost use Rattle.demo_pictures.specs.Demo.{next_number, port_of, numbered, gateway_text, machine_text, machine_name, with_text, fixed_picture, demo_picture};
 
+use base::limits::MAX_FILE_BYTES;
 use base::{Bytes, Text};
 use itoa::Buffer;
 use load_path::{Content, Picture};
@@ -30,7 +31,8 @@ fn port_of(x: u64) -> u64
 
 /// A number between two texts.
 fn push(text: &mut String, before: &str, number: u64, after: &str) -> Result<(), AllocError>
-    ensures { OnOk result (string_bytes text.new ≡ string_bytes text.old ++ numbered before.now number after.now) }
+    ensures { OnOk result
+        (string_bytes text.new ≡ string_bytes text.old ++ numbered before.now number after.now) }
 {
     let mut buffer = Buffer::new();
     text.push_str(before)?;
@@ -81,7 +83,7 @@ fn add(alloc: Global, picture: &mut Picture, name: &str, text: &str) -> Result<(
     if picture.find(name).is_some() {
         return Ok(());
     }
-    if text.len() > 1_000_000 {
+    if text.len() > MAX_FILE_BYTES {
         return Err(AllocError);
     }
     let content = Content::Bytes(Bytes::from_slice(alloc, text.as_bytes())?);

@@ -1,10 +1,7 @@
-pub mod Wording
-pub mod Wholes
-pub mod Shelving
-pub mod Planning
+pub mod Building
 pub mod Publishing
-pub mod Scanning
 pub mod Naming
 pub mod Wanting
 pub mod Ending
 pub mod Reading
+pub mod Taking

@@ -1,5 +1,5 @@
 -- What a session has done to the shelf.
-use Rattle.std.proofs.Common.{◌≡◌, ℕ, Bool, true, false, List, [], ◌∷◌, ◌++◌, Option, Some, None, is_some, IfSome, if◌then◌else◌, ◌⊎◌, inl, inr, refl, sym, ap, ◌∙◌, subst}
+use Rattle.std.proofs.Common.{◌≡◌, ℕ, true, false, List, ◌++◌, Option, Some, None, is_some, IfSome, inl, inr, refl, sym, ap, ◌∙◌, subst}
 use Rattle.std.specs.Prelude.{flat_map, Result, Ok, Err, OnOk, OnErr}
 use Rattle.std.specs.List.Sorted.{IsSorted}
 use Rattle.std.specs.Cmp.Lexicographic.{slice_cmp}
@@ -9,18 +9,20 @@ use Rattle.outside.specs.Cells.{Cell, AreSame}
 use Rattle.outside.specs.declared.shelf.Change.{Change}
 use Rattle.outside.specs.declared.source.MemFile.{MemFile}
 use Rattle.outside.specs.Pictures.{next_picture}
-use Rattle.pan_top.specs.declared.publish.Want.{Want}
+use Rattle.publication.specs.declared.want.Want.{Want}
 use Rattle.pan_top.specs.declared.status.End.{End}
 use Rattle.pan_top.specs.declared.status.End.TheVariants as E
 use Rattle.pan_top.specs.declared.status.Status.{Status}
-use Rattle.pan_top.specs.declared.status.Status.TheVariants.{Clean, SomeFaults, Usage, SourceFault, ShelfFault, OutFault, Memory, TooMuch}
+use Rattle.pan_top.specs.declared.status.Status.TheVariants.{Clean, SomeFaults, Usage, SourceFault, ShelfFault, OutFault, Memory, NumbersSpent, TooMuch}
 use Rattle.pan_top.specs.Commands.{is_command}
 use Rattle.pan_top.specs.Ends.{status_of}
-use Rattle.pan_top.specs.Scans.{scanned_of}
-use Rattle.pan_top.specs.Shelves.{Lists}
-use Rattle.pan_top.specs.Changing.{removal, putting, planned, is_next, stand, Made, Begun, MadeOver, BegunOver, AreListed, Publishes, PublishesPart, Tells}
-use Rattle.pan_top.specs.Session.{IsSessions, IsInOrder, Concludes, session_of, scanned_session}
-use Rattle.pan_top.proofs.Planning.{puts_same, done_none, begun_none, begun_all, on_err}
+use Rattle.scans.specs.Scans.{scanned_of}
+use Rattle.publication.specs.Listings.{Lists}
+use Rattle.publication.specs.Changing.{removal, planned, stand, Made, Begun, AreListed, Tells}
+use Rattle.pan_top.specs.Rounds.{MadeOver, BegunOver, IsSessions, Concludes, scanned_session}
+use Rattle.pan_top.specs.Session.{IsInOrder, Publishes, PublishesPart, session_of}
+use Rattle.publication.proofs.Planning.{puts_same, begun_none, begun_all, on_err}
+use Rattle.pan_top.proofs.Building.{session_is}
 
 -- nothing was done
 pub over_none : (ws : Option (List Want)) (names : List (List ℕ)) (old new : List ℕ → Cell) (before now : Option (List Change)) → AreSame old new → now ≡ before → BegunOver ws names old new before now
@@ -64,27 +66,27 @@ part_by (Some ws) names old mid new before between now same kept listed begun = 
 tells_from : (old mid : List ℕ → Cell) → AreSame old mid → Tells old → Tells mid
 tells_from old mid same told n = ap is_some (same n) ∙ told n
 
-publishes_at : (told now : Option (List (List MemFile))) (words : List (List ℕ)) (names : List (List ℕ)) (old mid new : List ℕ → Cell) (before between last : Option (List Change)) → now ≡ told → is_command words ≡ true → AreSame old mid → between ≡ before → AreListed names mid → IfSome now (λ ps. MadeOver (scanned_session (scanned_of (next_picture ps))).wants names mid new between last) → IfSome told (λ ps. Publishes (session_of words (next_picture ps)).wants old new before last)
+publishes_at : (told now : Option (List (List MemFile))) (words : List (List ℕ)) (names : List (List ℕ)) (old mid new : List ℕ → Cell) (before between last : Option (List Change)) → now ≡ told → is_command words ≡ true → AreSame old mid → between ≡ before → AreListed names mid → IfSome now (λ ps. MadeOver (scanned_session (scanned_of (next_picture ps))).wants names mid new between last) → IfSome told (λ ps. Publishes (session_of words ps).wants old new before last)
 publishes_at None None words names old mid new before between last is command same kept listed made = tt
 publishes_at None (Some qs) words names old mid new before between last is command same kept listed made = tt
 publishes_at (Some ps) None words names old mid new before between last is command same kept listed made = cc
 publishes_at (Some ps) (Some qs) words names old mid new before between last is command same kept listed made =
     let pictures : qs ≡ ps = cc in
-    rw command (publishes_by (scanned_session (scanned_of (next_picture ps))).wants names old mid new before between last same kept listed (rw pictures at made))
+    subst (λ s. Publishes s.wants old new before last) (sym (session_is words ps command)) (publishes_by (scanned_session (scanned_of (next_picture ps))).wants names old mid new before between last same kept listed (rw pictures at made))
 
-part_at : (told now : Option (List (List MemFile))) (words : List (List ℕ)) (names : List (List ℕ)) (old mid new : List ℕ → Cell) (before between last : Option (List Change)) → now ≡ told → is_command words ≡ true → AreSame old mid → between ≡ before → AreListed names mid → IfSome now (λ ps. BegunOver (scanned_session (scanned_of (next_picture ps))).wants names mid new between last) → IfSome told (λ ps. PublishesPart (session_of words (next_picture ps)).wants old new before last)
+part_at : (told now : Option (List (List MemFile))) (words : List (List ℕ)) (names : List (List ℕ)) (old mid new : List ℕ → Cell) (before between last : Option (List Change)) → now ≡ told → is_command words ≡ true → AreSame old mid → between ≡ before → AreListed names mid → IfSome now (λ ps. BegunOver (scanned_session (scanned_of (next_picture ps))).wants names mid new between last) → IfSome told (λ ps. PublishesPart (session_of words ps).wants old new before last)
 part_at None None words names old mid new before between last is command same kept listed begun = tt
 part_at None (Some qs) words names old mid new before between last is command same kept listed begun = tt
 part_at (Some ps) None words names old mid new before between last is command same kept listed begun = cc
 part_at (Some ps) (Some qs) words names old mid new before between last is command same kept listed begun =
     let pictures : qs ≡ ps = cc in
-    rw command (part_by (scanned_session (scanned_of (next_picture ps))).wants names old mid new before between last same kept listed (rw pictures at begun))
+    subst (λ s. PublishesPart s.wants old new before last) (sym (session_is words ps command)) (part_by (scanned_session (scanned_of (next_picture ps))).wants names old mid new before between last same kept listed (rw pictures at begun))
 
-pub publishes_result : (told now : Option (List (List MemFile))) (words : List (List ℕ)) (names : List (List ℕ)) (old mid new : List ℕ → Cell) (before between last : Option (List Change)) (r : Result Status End) → now ≡ told → is_command words ≡ true → AreSame old mid → between ≡ before → AreListed names mid → OnOk r (Tells mid → IfSome now (λ ps. MadeOver (scanned_session (scanned_of (next_picture ps))).wants names mid new between last)) → OnOk r (Tells old → IfSome told (λ ps. Publishes (session_of words (next_picture ps)).wants old new before last))
+pub publishes_result : (told now : Option (List (List MemFile))) (words : List (List ℕ)) (names : List (List ℕ)) (old mid new : List ℕ → Cell) (before between last : Option (List Change)) (r : Result Status End) → now ≡ told → is_command words ≡ true → AreSame old mid → between ≡ before → AreListed names mid → OnOk r (Tells mid → IfSome now (λ ps. MadeOver (scanned_session (scanned_of (next_picture ps))).wants names mid new between last)) → OnOk r (Tells old → IfSome told (λ ps. Publishes (session_of words ps).wants old new before last))
 publishes_result told now words names old mid new before between last (Ok status) is command same kept listed made = λ tells. publishes_at told now words names old mid new before between last is command same kept listed (made (tells_from old mid same tells))
 publishes_result told now words names old mid new before between last (Err e) is command same kept listed made = tt
 
-pub part_result : (told now : Option (List (List MemFile))) (words : List (List ℕ)) (names : List (List ℕ)) (old mid new : List ℕ → Cell) (before between last : Option (List Change)) (r : Result Status End) → now ≡ told → is_command words ≡ true → AreSame old mid → between ≡ before → AreListed names mid → OnErr r (Tells mid → IfSome now (λ ps. BegunOver (scanned_session (scanned_of (next_picture ps))).wants names mid new between last)) → OnErr r (Tells old → IfSome told (λ ps. PublishesPart (session_of words (next_picture ps)).wants old new before last))
+pub part_result : (told now : Option (List (List MemFile))) (words : List (List ℕ)) (names : List (List ℕ)) (old mid new : List ℕ → Cell) (before between last : Option (List Change)) (r : Result Status End) → now ≡ told → is_command words ≡ true → AreSame old mid → between ≡ before → AreListed names mid → OnErr r (Tells mid → IfSome now (λ ps. BegunOver (scanned_session (scanned_of (next_picture ps))).wants names mid new between last)) → OnErr r (Tells old → IfSome told (λ ps. PublishesPart (session_of words ps).wants old new before last))
 part_result told now words names old mid new before between last (Ok status) is command same kept listed begun = tt
 part_result told now words names old mid new before between last (Err e) is command same kept listed begun = λ tells. part_at told now words names old mid new before between last is command same kept listed (begun (tells_from old mid same tells))
 
@@ -93,11 +95,11 @@ part_none : (ws : Option (List Want)) (old new : List ℕ → Cell) (before now 
 part_none None old new before now same kept = (kept, same)
 part_none (Some ws) old new before now same kept = inl (kept, same)
 
-part_none_at : (told : Option (List (List MemFile))) (words : List (List ℕ)) (old new : List ℕ → Cell) (before now : Option (List Change)) → AreSame old new → now ≡ before → IfSome told (λ ps. PublishesPart (session_of words (next_picture ps)).wants old new before now)
+part_none_at : (told : Option (List (List MemFile))) (words : List (List ℕ)) (old new : List ℕ → Cell) (before now : Option (List Change)) → AreSame old new → now ≡ before → IfSome told (λ ps. PublishesPart (session_of words ps).wants old new before now)
 part_none_at None words old new before now same kept = tt
-part_none_at (Some ps) words old new before now same kept = part_none (session_of words (next_picture ps)).wants old new before now same kept
+part_none_at (Some ps) words old new before now same kept = part_none (session_of words ps).wants old new before now same kept
 
-pub untouched_result : {T : Type 0} (told : Option (List (List MemFile))) (words : List (List ℕ)) (old new : List ℕ → Cell) (before now : Option (List Change)) (r : Result T End) → AreSame old new → now ≡ before → OnErr r (Tells old → IfSome told (λ ps. PublishesPart (session_of words (next_picture ps)).wants old new before now))
+pub untouched_result : {T : Type 0} (told : Option (List (List MemFile))) (words : List (List ℕ)) (old new : List ℕ → Cell) (before now : Option (List Change)) (r : Result T End) → AreSame old new → now ≡ before → OnErr r (Tells old → IfSome told (λ ps. PublishesPart (session_of words ps).wants old new before now))
 untouched_result told words old new before now r same kept = on_err r (λ tells. part_none_at told words old new before now same kept)
 
 pub over_none_at : (told : Option (List (List MemFile))) (names : List (List ℕ)) (old new : List ℕ → Cell) (before now : Option (List Change)) → AreSame old new → now ≡ before → IfSome told (λ ps. BegunOver (scanned_session (scanned_of (next_picture ps))).wants names old new before now)
@@ -105,52 +107,43 @@ over_none_at None names old new before now same kept = tt
 over_none_at (Some ps) names old new before now same kept = over_none (scanned_session (scanned_of (next_picture ps))).wants names old new before now same kept
 
 -- by the status
-own_end : (e : End) → IsSessions (status_of e) → ⊥
-own_end E.Source own = own
-own_end E.Shelf own = own
-own_end (E.Publishing m) own = own
-own_end E.Out own = own
-own_end E.Memory own = own
+ended : (e : End) (ws : Option (List Want)) (old new : List ℕ → Cell) (before now : Option (List Change)) → PublishesPart ws old new before now → IsInOrder (status_of e) ws old new before now
+ended E.Source ws old new before now part = part
+ended E.Shelf ws old new before now part = part
+ended (E.Publishing m) ws old new before now part = part
+ended E.Out ws old new before now part = part
+ended E.Memory ws old new before now part = part
 
-concluded : (e : End) (status : Status) → Concludes e status → IsSessions status → ⊥
-concluded e status (inl is) own = own_end e (subst IsSessions is own)
-concluded e status (inr (inl is)) own = subst IsSessions is own
-concluded e status (inr (inr is)) own = subst IsSessions is own
-
-early_by : (status : Status) (ws : Option (List Want)) (old new : List ℕ → Cell) (before now : Option (List Change)) → (IsSessions status → ⊥) → PublishesPart ws old new before now → IsInOrder status ws old new before now
-early_by Clean ws old new before now early part = absurd (early tt)
-early_by SomeFaults ws old new before now early part = absurd (early tt)
-early_by TooMuch ws old new before now early part = absurd (early tt)
-early_by Usage ws old new before now early part = absurd (early tt)
-early_by SourceFault ws old new before now early part = part
-early_by ShelfFault ws old new before now early part = part
-early_by OutFault ws old new before now early part = part
-early_by Memory ws old new before now early part = part
+early_by : (e : End) (status : Status) (ws : Option (List Want)) (old new : List ℕ → Cell) (before now : Option (List Change)) → Concludes e status → PublishesPart ws old new before now → IsInOrder status ws old new before now
+early_by e status ws old new before now (inl is) part = subst (λ s. IsInOrder s ws old new before now) (sym is) (ended e ws old new before now part)
+early_by e status ws old new before now (inr (inl is)) part = subst (λ s. IsInOrder s ws old new before now) (sym is) part
+early_by e status ws old new before now (inr (inr is)) part = subst (λ s. IsInOrder s ws old new before now) (sym is) part
 
 own_by : (status : Status) (ws : Option (List Want)) (old new : List ℕ → Cell) (before now : Option (List Change)) → IsSessions status → Publishes ws old new before now → IsInOrder status ws old new before now
 own_by Clean ws old new before now own all = all
 own_by SomeFaults ws old new before now own all = all
 own_by TooMuch ws old new before now own all = all
 own_by Usage ws old new before now own all = all
+own_by NumbersSpent ws old new before now own all = absurd own
 own_by SourceFault ws old new before now own all = absurd own
 own_by ShelfFault ws old new before now own all = absurd own
 own_by OutFault ws old new before now own all = absurd own
 own_by Memory ws old new before now own all = absurd own
 
-pub in_order_early : (told : Option (List (List MemFile))) (words : List (List ℕ)) (e : End) (status : Status) (old new : List ℕ → Cell) (before now : Option (List Change)) → Concludes e status → IfSome told (λ ps. PublishesPart (session_of words (next_picture ps)).wants old new before now) → IfSome told (λ ps. IsInOrder status (session_of words (next_picture ps)).wants old new before now)
+pub in_order_early : (told : Option (List (List MemFile))) (words : List (List ℕ)) (e : End) (status : Status) (old new : List ℕ → Cell) (before now : Option (List Change)) → Concludes e status → IfSome told (λ ps. PublishesPart (session_of words ps).wants old new before now) → IfSome told (λ ps. IsInOrder status (session_of words ps).wants old new before now)
 in_order_early None words e status old new before now how part = tt
-in_order_early (Some ps) words e status old new before now how part = early_by status (session_of words (next_picture ps)).wants old new before now (concluded e status how) part
+in_order_early (Some ps) words e status old new before now how part = early_by e status (session_of words ps).wants old new before now how part
 
-pub in_order_own : (told : Option (List (List MemFile))) (words : List (List ℕ)) (status : Status) (old new : List ℕ → Cell) (before now : Option (List Change)) → IsSessions status → IfSome told (λ ps. Publishes (session_of words (next_picture ps)).wants old new before now) → IfSome told (λ ps. IsInOrder status (session_of words (next_picture ps)).wants old new before now)
+pub in_order_own : (told : Option (List (List MemFile))) (words : List (List ℕ)) (status : Status) (old new : List ℕ → Cell) (before now : Option (List Change)) → IsSessions status → IfSome told (λ ps. Publishes (session_of words ps).wants old new before now) → IfSome told (λ ps. IsInOrder status (session_of words ps).wants old new before now)
 in_order_own None words status old new before now own all = tt
-in_order_own (Some ps) words status old new before now own all = own_by status (session_of words (next_picture ps)).wants old new before now own all
+in_order_own (Some ps) words status old new before now own all = own_by status (session_of words ps).wants old new before now own all
 
 -- the words are no command
-usage_none : (told : Option (List (List MemFile))) (words : List (List ℕ)) (old : List ℕ → Cell) (before : Option (List Change)) → is_command words ≡ false → IfSome told (λ ps. Publishes (session_of words (next_picture ps)).wants old old before before)
+usage_none : (told : Option (List (List MemFile))) (words : List (List ℕ)) (old : List ℕ → Cell) (before : Option (List Change)) → is_command words ≡ false → IfSome told (λ ps. Publishes (session_of words ps).wants old old before before)
 usage_none None words old before other = tt
 usage_none (Some ps) words old before other = rw other (refl, λ n. refl)
 
-pub usage_result : (told : Option (List (List MemFile))) (words : List (List ℕ)) (old : List ℕ → Cell) (before : Option (List Change)) (r : Result Status End) → is_command words ≡ false → OnOk r (Tells old → IfSome told (λ ps. Publishes (session_of words (next_picture ps)).wants old old before before))
+pub usage_result : (told : Option (List (List MemFile))) (words : List (List ℕ)) (old : List ℕ → Cell) (before : Option (List Change)) (r : Result Status End) → is_command words ≡ false → OnOk r (Tells old → IfSome told (λ ps. Publishes (session_of words ps).wants old old before before))
 usage_result told words old before (Ok status) other = λ tells. usage_none told words old before other
 usage_result told words old before (Err e) other = tt
 

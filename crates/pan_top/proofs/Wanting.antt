@@ -12,11 +12,15 @@ use Rattle.std.proofs.lemmas.Map.Text.{is_eq-slice_cmp}
 use Rattle.std.proofs.lemmas.Slice.Eq.{bytes_eq-Decides}
 use Rattle.std.proofs.lemmas.List.{append_cancel_right, length-append}
 use Rattle.load_path.specs.declared.picture.PictureFile.{PictureFile}
-use Rattle.pan_top.specs.declared.publish.Want.{Want}
-use Rattle.pan_top.specs.declared.compile.Outcome.{Outcome}
-use Rattle.pan_top.specs.declared.compile.Outcome.TheVariants.{Profile, Fault}
-use Rattle.pan_top.specs.Answers.{Object, object_of, with_object, with_outcome, answer_of, answers_of, wants_of, wants_with}
-use Rattle.pan_top.specs.Shelves.{is_own, wanted, proper}
+use Rattle.publication.specs.OwnNames.{is_own}
+use Rattle.publication.specs.Wants.{wanted, proper, wants_of}
+use Rattle.publication.specs.declared.profile.Profile as published
+use Rattle.session.specs.Sessions.{profile_of, profiles_of}
+use Rattle.session.specs.declared.Outcome.{Outcome}
+use Rattle.session.specs.declared.Outcome.TheVariants.{Profile, Fault}
+use Rattle.pan_top.specs.Answers.{Object, object_of, with_object, with_outcome, answer_of, answers_of}
+use Rattle.pan_top.specs.Objects.{dependencies_of}
+use Rattle.pan_top.specs.Rounds.{wants_among}
 
 -- the outcomes stand in byte order of names
 abbrev IsAbove : List ℕ → List (List ℕ × Outcome) → Type 0
@@ -107,25 +111,25 @@ other_name a b s other = differ_by (a ++ s) (b ++ s) (bytes_eq (a ++ s) (b ++ s)
 below_other : (n m : List ℕ) → slice_cmp nat_cmp n m ≡ Less → bytes_eq m n ≡ false
 below_other n m below = differ_by m n (bytes_eq m n) (λ same. sym ((bytes_eq-Decides n m).1 (sym same)) ∙ sym (is_eq-slice_cmp n m) ∙ ap is_eq below) refl
 
-past : (o : Outcome) (name m : List ℕ) (rest : List Want) → bytes_eq (name ++ codes ".json") m ≡ false → bytes_eq (name ++ codes ".dep") m ≡ false → wanted rest m ≡ None → wanted (wants_with name o rest) m ≡ None
-past (Profile json dep) name m rest x y h = rw (x, y) h
-past (Fault fault) name m rest x y h = h
+past : (o : Outcome) (name deps m : List ℕ) (rest : List published.Profile) → bytes_eq (name ++ codes ".json") m ≡ false → bytes_eq (name ++ codes ".dep") m ≡ false → wanted (wants_of rest) m ≡ None → wanted (wants_of (profile_of name deps o rest)) m ≡ None
+past (Profile json) name deps m rest x y h = rw (x, y) h
+past (Fault line) name deps m rest x y h = h
 
-no_json : (es : List (List ℕ × Outcome)) (n : List ℕ) → IsAbove n es → wanted (wants_of (map answer_of es)) (n ++ codes ".json") ≡ None
+no_json : (es : List (List ℕ × Outcome)) (n : List ℕ) → IsAbove n es → wanted (wants_among (map answer_of es)) (n ++ codes ".json") ≡ None
 no_json [] n above = refl
-no_json (e ∷ es) n above = past e.1 e.0 (n ++ codes ".json") (wants_of (map answer_of es)) (other_name e.0 n (codes ".json") (below_other n e.0 above.0)) (dep_json e.0 n) (no_json es n above.1)
+no_json (e ∷ es) n above = past e.1 e.0 (dependencies_of e.0) (n ++ codes ".json") (profiles_of (map answer_of es)) (other_name e.0 n (codes ".json") (below_other n e.0 above.0)) (dep_json e.0 n) (no_json es n above.1)
 
-no_dep : (es : List (List ℕ × Outcome)) (n : List ℕ) → IsAbove n es → wanted (wants_of (map answer_of es)) (n ++ codes ".dep") ≡ None
+no_dep : (es : List (List ℕ × Outcome)) (n : List ℕ) → IsAbove n es → wanted (wants_among (map answer_of es)) (n ++ codes ".dep") ≡ None
 no_dep [] n above = refl
-no_dep (e ∷ es) n above = past e.1 e.0 (n ++ codes ".dep") (wants_of (map answer_of es)) (json_dep e.0 n) (other_name e.0 n (codes ".dep") (below_other n e.0 above.0)) (no_dep es n above.1)
+no_dep (e ∷ es) n above = past e.1 e.0 (dependencies_of e.0) (n ++ codes ".dep") (profiles_of (map answer_of es)) (json_dep e.0 n) (other_name e.0 n (codes ".dep") (below_other n e.0 above.0)) (no_dep es n above.1)
 
-one_more : (o : Outcome) (name : List ℕ) (rest : List Want) → wanted rest (name ++ codes ".json") ≡ None → wanted rest (name ++ codes ".dep") ≡ None → proper rest ≡ true → proper (wants_with name o rest) ≡ true
-one_more (Profile json dep) name rest x y ok = rw (own_json name, dep_json name name, x, own_dep name, y, ok) refl
-one_more (Fault fault) name rest x y ok = ok
+one_more : (o : Outcome) (name deps : List ℕ) (rest : List published.Profile) → wanted (wants_of rest) (name ++ codes ".json") ≡ None → wanted (wants_of rest) (name ++ codes ".dep") ≡ None → proper (wants_of rest) ≡ true → proper (wants_of (profile_of name deps o rest)) ≡ true
+one_more (Profile json) name deps rest x y ok = rw (own_json name, dep_json name name, x, own_dep name, y, ok) refl
+one_more (Fault line) name deps rest x y ok = ok
 
-wants_proper : (es : List (List ℕ × Outcome)) → IsRising es → proper (wants_of (map answer_of es)) ≡ true
+wants_proper : (es : List (List ℕ × Outcome)) → IsRising es → proper (wants_among (map answer_of es)) ≡ true
 wants_proper [] rising = refl
-wants_proper (e ∷ es) rising = one_more e.1 e.0 (wants_of (map answer_of es)) (no_json es e.0 rising.0) (no_dep es e.0 rising.0) (wants_proper es rising.1)
+wants_proper (e ∷ es) rising = one_more e.1 e.0 (dependencies_of e.0) (profiles_of (map answer_of es)) (no_json es e.0 rising.0) (no_dep es e.0 rising.0) (wants_proper es rising.1)
 
-pub answers_proper : (files : List PictureFile) → proper (wants_of (answers_of files)) ≡ true
+pub answers_proper : (files : List PictureFile) → proper (wants_among (answers_of files)) ≡ true
 answers_proper files = wants_proper (fold with_outcome [] files) (rising_fold files [] tt)

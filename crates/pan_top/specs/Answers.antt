@@ -1,5 +1,5 @@
--- What the objects of a picture come to, and what they want on the shelf.
-use Rattle.std.specs.Prelude.{ℕ, ◌-◌, Bool, true, false, List, [], ◌∷◌, ◌++◌, Option, Some, None, is_some, if◌then◌else◌, nat_eq, codes, map, fold, length, take, ◌&&◌}
+-- What the objects of a picture come to.
+use Rattle.std.specs.Prelude.{ℕ, ◌-◌, Bool, List, [], Option, Some, None, is_some, if◌then◌else◌, nat_eq, codes, map, fold, length, take, ◌&&◌}
 use Rattle.std.specs.List.{ends_with}
 use Rattle.std.specs.BTreeMap.{insert_entry}
 use Rattle.std.specs.Cmp.Lexicographic.{slice_cmp}
@@ -7,13 +7,11 @@ use Rattle.std.specs.Ordering.{nat_cmp}
 use Rattle.load_path.specs.declared.picture.PictureFile.{PictureFile}
 use Rattle.load_path.specs.declared.picture.Content.{Content}
 use Rattle.load_path.specs.declared.picture.Content.TheVariants as content
-use Rattle.pan_top.specs.declared.answers.Answer.{Answer}
-use Rattle.pan_top.specs.declared.compile.Outcome.{Outcome}
-use Rattle.pan_top.specs.declared.compile.Outcome.TheVariants.{Profile, Fault}
-use Rattle.pan_top.specs.declared.publish.Want.{Want}
+use Rattle.session.specs.declared.Answer.{Answer}
+use Rattle.session.specs.declared.Outcome.{Outcome}
 use Rattle.path_tree.specs.Grammar.{is_name}
 use Rattle.pan_lexer.specs.Objects.{is_object}
-use Rattle.pan_top.specs.Objects.{outcome_of}
+use Rattle.pan_top.specs.Objects.{outcome_of, dependencies_of}
 
 -- an object: its name, and the text of its template
 pub record Object : Type 0 where
@@ -27,7 +25,8 @@ stem_of n = if ends_with nat_eq n (codes ".pan") then Some (take (length n - 4) 
 abbrev pub object_with : Option (List ℕ) → Content → Option Object
 object_with None c = None
 object_with (Some n) content.TooLong = None
-object_with (Some n) (content.Bytes text) = if is_name n && is_object text then Some (record { name = n; text = text }) else None
+object_with (Some n) (content.Bytes text) =
+    if is_name n && is_object text then Some (record { name = n; text = text }) else None
 
 -- The object that a file is the template of: NAME of `NAME.pan`, where NAME is a template name and the text
 -- begins as an object template.
@@ -46,23 +45,8 @@ abbrev pub with_outcome : List (List ℕ × Outcome) → PictureFile → List (L
 with_outcome outcomes f = with_object (object_of f) outcomes
 
 abbrev pub answer_of : List ℕ × Outcome → Answer
-answer_of e = record { name = e.0; outcome = e.1 }
+answer_of e = record { name = e.0; outcome = e.1; deps = dependencies_of e.0 }
 
 -- the answers of a picture's objects, in byte order of names
 abbrev pub answers_of : List PictureFile → List Answer
 answers_of files = map answer_of (fold with_outcome [] files)
-
--- the names that profiles want, in the order in which they are put: of each object NAME.json and then NAME.dep
-abbrev pub wants_with : List ℕ → Outcome → List Want → List Want
-wants_with name (Profile json dep) rest = record { name = name ++ codes ".json"; bytes = json } ∷ record { name = name ++ codes ".dep"; bytes = dep } ∷ rest
-wants_with name (Fault fault) rest = rest
-
-abbrev pub wants_of : List Answer → List Want
-wants_of [] = []
-wants_of (a ∷ answers) = wants_with a.name a.outcome (wants_of answers)
-
-abbrev pub is_fault : Answer → Bool
-is_fault a = outcome_is_fault a.outcome where
-  outcome_is_fault : Outcome → Bool
-  outcome_is_fault (Profile json dep) = false
-  outcome_is_fault (Fault fault) = true

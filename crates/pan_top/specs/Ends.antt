@@ -1,6 +1,10 @@
 -- Ends that come before the session's own.
-use Rattle.std.specs.Prelude.{◌≡◌, ◌≤◌, ℕ, List, Bool, true, ◌++◌, ◌||◌, bytes_eq, codes, Result, IfErr, OnOk, Option, Some, None, IfSome, ◌⊎◌}
+use Rattle.std.specs.Prelude.{◌≡◌, ◌≤◌, ℕ, List, ◌++◌, bytes_eq, codes, Result, IfErr, OnOk, Option, Some, None, IfSome, ◌⊎◌}
 use Rattle.outside.specs.Causes.{Rose}
+use Rattle.outside.specs.Cells.{Cell, AreSame}
+use Rattle.publication.specs.Leavings.{Leaves}
+use Rattle.publication.specs.OwnNames.{is_file_of}
+use Rattle.publication.specs.Stands.{Stand, Stands}
 use Rattle.pan_top.specs.declared.status.End.{End}
 use Rattle.pan_top.specs.declared.status.End.TheVariants as E
 use Rattle.pan_top.specs.declared.status.Status.{Status}
@@ -14,6 +18,7 @@ exit_code_of S.SourceFault = 3
 exit_code_of S.ShelfFault = 4
 exit_code_of S.OutFault = 7
 exit_code_of S.Memory = 8
+exit_code_of S.NumbersSpent = 9
 exit_code_of S.TooMuch = 11
 
 abbrev pub status_of : End → Status
@@ -30,18 +35,6 @@ line_of E.Shelf = codes "shelf fault\n"
 line_of (E.Publishing m) = codes "shelf fault " ++ m ++ codes "\n"
 line_of E.Out = codes ""
 line_of E.Memory = codes ""
-
--- the two files of an object
-abbrev pub is_file_of : List ℕ → List ℕ → Bool
-is_file_of m n = bytes_eq n (m ++ codes ".json") || bytes_eq n (m ++ codes ".dep")
-
--- an end of a call on this name of the shelf
-abbrev pub IsEndAt : List ℕ → End → Type 0
-IsEndAt n E.Source = ⊥
-IsEndAt n E.Shelf = ⊥
-IsEndAt n (E.Publishing m) = is_file_of m n ≡ true
-IsEndAt n E.Out = ⊥
-IsEndAt n E.Memory = Unit
 
 -- Whose call can end so. Want of memory is anyone's.
 pub data Caller : Type 0 where
@@ -70,3 +63,13 @@ pub record Caused {T : Type 0} (status : Status) (before now : ℕ) (result : Re
   pub later : before ≤ now
   pub rose : IfErr result (λ e. status_of e ≡ status → Rose before now)
   pub done : OnOk result (now ≡ before)
+
+-- What stands on the shelf after an end. Before a publication it is as it was; where a name's call failed, the
+-- files of that object are open; where the text could not be written, the publication was done; where memory
+-- was wanting, one name is open.
+abbrev pub Stopped : End → (List ℕ → Stand) → (List ℕ → Cell) → (List ℕ → Cell) → Type 0
+Stopped E.Source shelf old new = AreSame old new
+Stopped E.Shelf shelf old new = AreSame old new
+Stopped (E.Publishing m) shelf old new = Leaves (is_file_of m) shelf old new
+Stopped E.Out shelf old new = Stands shelf old new
+Stopped E.Memory shelf old new = (m : List ℕ) × Leaves (bytes_eq m) shelf old new

@@ -1,10 +1,9 @@
 pub mod Ends
 pub mod Commands
-pub mod Shelves
-pub mod Changing
-pub mod Scans
+pub mod Statements
 pub mod Objects
 pub mod Answers
-pub mod Reports
+pub mod Compiler
 pub mod Session
-pub mod Statements
+-- What inner contracts use.
+pub mod Rounds

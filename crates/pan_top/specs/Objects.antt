@@ -5,6 +5,7 @@ use Rattle.pan_ast.specs.Detail.{first_chars}
 use Rattle.pan_ast.specs.declared.place.Place.{Place}
 use Rattle.pan_ast.specs.declared.fault.Fault.{Fault}
 use Rattle.pan_ast.specs.declared.fault.Code.TheVariants as code
+use Rattle.pan_ast.specs.Printed.{line_of}
 use Rattle.pan_ast.specs.Templates.{Template}
 use Rattle.path_tree.specs.Plain.{Plain, dict, no_fields}
 use Rattle.path_tree.specs.Plain as plain
@@ -15,8 +16,8 @@ use Rattle.json_profile.specs.Json.{profile_of}
 use Rattle.pan_top.specs.declared.statements.Assignment.{Assignment}
 use Rattle.pan_top.specs.declared.statements.Literal.{Literal}
 use Rattle.pan_top.specs.declared.statements.Literal.TheVariants as literal
-use Rattle.pan_top.specs.declared.compile.Outcome.{Outcome}
-use Rattle.pan_top.specs.declared.compile.Outcome.TheVariants as outcome
+use Rattle.session.specs.declared.Outcome.{Outcome}
+use Rattle.session.specs.declared.Outcome.TheVariants as outcome
 use Rattle.pan_ast.specs.declared.failure.Failure.{Failure}
 use Rattle.pan_ast.specs.declared.failure.Failure.TheVariants as failures
 use Rattle.pan_template.specs.TemplateOf.{template_of}
@@ -24,7 +25,8 @@ use Rattle.pan_top.specs.Statements.{Read, assignments}
 
 -- a text over 1,000,000 bytes is too large for a tree
 abbrev pub literal_tree : Literal → Result Plain PutError
-literal_tree (literal.Text text) = if nat_lt MAX_TEXT_BYTES (length text) then Err refusal.TooLarge else Ok (plain.text text)
+literal_tree (literal.Text text) =
+    if nat_lt MAX_TEXT_BYTES (length text) then Err refusal.TooLarge else Ok (plain.text text)
 literal_tree (literal.Long z) = Ok (plain.long z)
 literal_tree (literal.Boolean b) = Ok (plain.boolean b)
 
@@ -97,12 +99,13 @@ tree_of name text = tree_of_parsed name (template_of (file_of name) text)
 abbrev pub dependencies_of : List ℕ → List ℕ
 dependencies_of name = codes "template " ++ file_of name ++ codes "\n"
 
-abbrev pub outcome_with : List ℕ → Result Plain Fault → Outcome
-outcome_with name (Ok tree) = outcome.Profile (profile_of tree) (dependencies_of name)
-outcome_with name (Err fault) = outcome.Fault fault
+-- its profile, or the printed fault
+abbrev pub outcome_with : Result Plain Fault → Outcome
+outcome_with (Ok tree) = outcome.Profile (profile_of tree)
+outcome_with (Err fault) = outcome.Fault (line_of fault)
 
 abbrev pub outcome_of : List ℕ → List ℕ → Outcome
-outcome_of name text = outcome_with name (tree_of name text)
+outcome_of name text = outcome_with (tree_of name text)
 
 -- an error other than want of memory is the fault
 abbrev pub IsFault : {A : Type 0} → Result A Fault → Failure → Type 0

@@ -1,24 +1,20 @@
 ghost use Rattle.std.specs.Prelude.{◌≡◌, ◌≤◌, ◌++◌, [], true, length, IfSome, IfOk, OnOk, map, count_by, option_map};
 ghost use Rattle.load_path.specs.Pictures.{has_short_content, are_short};
 ghost use Rattle.pan_top.specs.Objects.{file_of};
-ghost use Rattle.pan_top.specs.Answers.{Object, object_of, is_object_file, with_outcome, answer_of, answers_of, wants_with, wants_of, is_fault};
+ghost use Rattle.pan_top.specs.Answers.{Object, object_of, is_object_file, with_outcome, answer_of, answers_of};
+ghost use Rattle.pan_top.specs.Compiler.{name_of};
+ghost use Rattle.session.specs.Sessions.{profile_of, profiles_of};
 ghost use Rattle.base.specs.declared.limits.TheConstants.{MAX_FILE_BYTES};
 
-use crate::compile::{Outcome, compile};
-use crate::publish::Want;
+use crate::compile::{compile, dependencies_of};
 use base::Text;
 use load_path::{Content, PictureFile};
 use pan_lexer::is_object;
 use path_tree::is_name;
+use publication::Profile;
+use session::{Answer, Outcome};
 use std::alloc::{AllocError, Global};
 use std::collections::BTreeMap;
-
-/// What stands under an object's name.
-#[derive(Drop)]
-pub struct Answer {
-    pub name: Text,
-    pub outcome: Outcome,
-}
 
 /// An object of a picture: its name, and the text of its template.
 #[derive(Clone, Copy)]
@@ -29,9 +25,11 @@ struct Object<'a> {
 
 /// The object that a file is the template of.
 fn object_in(file: &PictureFile) -> Option<Object<'_>>
-    ensures object { option_map (λ o. record { name = o.name.now; text = o.text.now }) result ≡ object_of file.now }
+    ensures object { option_map (λ o. record { name = o.name.now; text = o.text.now }) result ≡
+        object_of file.now }
     ensures named { IfSome result (λ o. file.now.name ≡ file_of o.name.now) }
-    ensures short { has_short_content file.now.content ≡ true → IfSome result (λ o. length o.text.now ≤ MAX_FILE_BYTES) }
+    ensures short { has_short_content file.now.content ≡ true → IfSome result
+        (λ o. length o.text.now ≤ MAX_FILE_BYTES) }
 {
     let Some(name) = file.name.as_str().strip_suffix(".pan") else {
         return None;
@@ -83,7 +81,12 @@ fn in_order(alloc: Global, outcomes: BTreeMap<Text, Outcome>) -> Result<Vec<Answ
 {
     let mut made = Vec::with_capacity(alloc, outcomes.len())?;
     for (name, outcome) in outcomes {
-        made.push(Answer { name, outcome })?;
+        let deps = dependencies_of(alloc, name.as_str())?;
+        made.push(Answer {
+            name,
+            outcome,
+            deps,
+        })?;
     }
     Ok(made)
 }
@@ -100,47 +103,45 @@ pub fn answers(alloc: Global, files: &[PictureFile]) -> Result<Vec<Answer>, Allo
     in_order(alloc, outcomes)
 }
 
-/// What the profile of an object wants on the shelf.
-fn want(alloc: Global, made: &mut Vec<Want>, answer: Answer) -> Result<(), AllocError>
-    ensures { OnOk result (made.new.items ≡ made.old.items ++ wants_with answer.name answer.outcome []) }
+/// The profile of an answer, where it has one.
+fn add_profile(made: &mut Vec<Profile>, answer: Answer) -> Result<(), AllocError>
+    ensures { OnOk result
+        (made.new.items ≡ made.old.items ++ profile_of answer.name answer.deps answer.outcome []) }
 {
-    let Answer { name, outcome } = answer;
+    let Answer {
+        name,
+        outcome,
+        deps,
+    } = answer;
     match outcome {
-        Outcome::Profile(json, dep) => {
-            made.push(Want {
-                name: Text::joined(alloc, name.as_str(), ".json")?,
-                bytes: json,
-            })?;
-            made.push(Want {
-                name: Text::joined(alloc, name.as_str(), ".dep")?,
-                bytes: dep,
-            })?;
-        }
-        Outcome::Fault(_fault) => {}
+        Outcome::Profile(json) => made.push(Profile {
+            name,
+            json,
+            dep: deps,
+        })?,
+        Outcome::Fault(_line) => {}
     }
     Ok(())
 }
 
-/// What the profiles among the answers want on the shelf.
-pub fn wants(alloc: Global, answers: Vec<Answer>) -> Result<Vec<Want>, AllocError>
-    ensures { IfOk result (λ made. made.items ≡ wants_of answers.items) }
+/// The profiles among the answers.
+pub fn profiles(alloc: Global, answers: Vec<Answer>) -> Result<Vec<Profile>, AllocError>
+    ensures { IfOk result (λ made. made.items ≡ profiles_of answers.items) }
 {
     let mut made = Vec::new(alloc);
     for answer in answers {
-        want(alloc, &mut made, answer)?;
+        add_profile(&mut made, answer)?;
     }
     Ok(made)
 }
 
-fn is_fault(answer: &Answer) -> bool
-    ensures { result ≡ is_fault answer.now }
+/// The names of the objects, each of which was run.
+pub fn names(alloc: Global, answers: &[Answer]) -> Result<Vec<Text>, AllocError>
+    ensures { IfOk result (λ made. made.items ≡ map name_of answers.now) }
 {
-    matches!(answer.outcome, Outcome::Fault(_))
-}
-
-/// How many answers are faults.
-pub fn count_faults(answers: &[Answer]) -> usize
-    ensures { result ≡ count_by is_fault answers.now }
-{
-    answers.iter().filter(|answer| is_fault(answer)).count()
+    let mut made = Vec::with_capacity(alloc, answers.len())?;
+    for answer in answers {
+        made.push(answer.name.share()?)?;
+    }
+    Ok(made)
 }

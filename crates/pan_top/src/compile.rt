@@ -1,4 +1,4 @@
-ghost use Rattle.std.specs.Prelude.{◌≡◌, ◌≢◌, ◌≤◌, ◌++◌, [], ◌∷◌, List, IfOk, IfErr, OnOk, Ok, Err, codes, length, map};
+ghost use Rattle.std.specs.Prelude.{◌≡◌, ◌≢◌, ◌≤◌, ◌++◌, [], ◌∷◌, List, IfOk, IfErr, OnOk, Ok, Err, length, map};
 ghost use Rattle.base.specs.declared.limits.TheConstants.{MAX_FILE_BYTES};
 ghost use Rattle.pan_ast.specs.TemplatesSeen.{statement_seen, template_seen};
 ghost use Rattle.path_tree.specs.Plain.{Plain};
@@ -10,19 +10,12 @@ ghost use Rattle.pan_top.specs.Objects.{literal_tree, fault_of, put_at, assigned
 use crate::statements::{Assignment, Literal, Unbuilt, assignments, built};
 use base::{Bytes, Text};
 use json_profile::profile_text;
-use pan_ast::{Code, Failure, Fault, Place, Statement, Template};
+use pan_ast::{Code, Failure, Fault, Place, Statement, Template, fault_line};
 use pan_lexer::lex;
 use pan_parser::parse;
 use path_tree::{PutError, Refused, Tree};
+use session::Outcome;
 use std::alloc::{AllocError, Global};
-
-/// What compiling an object gives.
-#[derive(Drop)]
-pub enum Outcome {
-    /// The bytes of its profile, and of its dependency file.
-    Profile(Bytes, Bytes),
-    Fault(Fault),
-}
 
 /// The tree of a literal. A text may be too large for one.
 fn literal_tree(literal: &Literal) -> Result<Tree, PutError>
@@ -75,8 +68,10 @@ fn assign(alloc: Global, tree: &mut Tree, assignment: &Assignment) -> Result<(),
 }
 
 fn put(alloc: Global, tree: &mut Tree, assignment: &Assignment) -> Result<(), PutError>
-    ensures ok { OnOk result (put_at assignment.now tree.old (literal_tree assignment.now.value) ≡ Ok tree.new) }
-    ensures err { IfErr result (λ e. e ≢ PutError.Memory → put_at assignment.now tree.old (literal_tree assignment.now.value) ≡ Err e) }
+    ensures ok { OnOk result (put_at assignment.now tree.old (literal_tree assignment.now.value) ≡
+        Ok tree.new) }
+    ensures err { IfErr result (λ e. e ≢ PutError.Memory → put_at assignment.now tree.old
+        (literal_tree assignment.now.value) ≡ Err e) }
 {
     let value = literal_tree(&assignment.value)?;
     tree.put(alloc, assignment.terms.as_slice(), value)
@@ -84,7 +79,8 @@ fn put(alloc: Global, tree: &mut Tree, assignment: &Assignment) -> Result<(), Pu
 
 /// The fault of a construct that is not built.
 fn not_built(alloc: Global, unbuilt: Unbuilt) -> Failure
-    ensures { (read : Read (List Assignment)) (tree : Plain) → IsRefused read unbuilt → IsFault (tree_of_read read tree) result }
+    ensures { (read : Read (List Assignment)) (tree : Plain) → IsRefused read unbuilt → IsFault
+        (tree_of_read read tree) result }
 {
     match unbuilt {
         Unbuilt::At(place) => match Fault::at(alloc, Code::NotSupported, place) {
@@ -103,8 +99,11 @@ fn assign_first(
     statement: &Statement,
     later: &[Statement],
 ) -> Result<(), Failure>
-    ensures ok { OnOk result (tree_of_read (assignments (statement_seen statement.now ∷ map statement_seen later.now)) tree.old ≡ tree_of_read (assignments (map statement_seen later.now)) tree.new) }
-    ensures err { IfErr result (IsFault (tree_of_read (assignments (statement_seen statement.now ∷ map statement_seen later.now)) tree.old)) }
+    ensures ok { OnOk result (tree_of_read (assignments
+        (statement_seen statement.now ∷ map statement_seen later.now)) tree.old ≡ tree_of_read
+        (assignments (map statement_seen later.now)) tree.new) }
+    ensures err { IfErr result (IsFault (tree_of_read (assignments
+        (statement_seen statement.now ∷ map statement_seen later.now)) tree.old)) }
 {
     let assignment = match built(alloc, statement) {
         Ok(assignment) => assignment,
@@ -121,8 +120,10 @@ fn assign_first(
 
 /// The tree after statements in order.
 fn tree_of_statements(alloc: Global, statements: &[Statement]) -> Result<Tree, Failure>
-    ensures ok { IfOk result (λ t. tree_of_read (assignments (map statement_seen statements.now)) (plain.dict plain.no_fields) ≡ Ok t) }
-    ensures err { IfErr result (IsFault (tree_of_read (assignments (map statement_seen statements.now)) (plain.dict plain.no_fields))) }
+    ensures ok { IfOk result (λ t. tree_of_read (assignments (map statement_seen statements.now))
+        (plain.dict plain.no_fields) ≡ Ok t) }
+    ensures err { IfErr result (IsFault (tree_of_read (assignments
+        (map statement_seen statements.now)) (plain.dict plain.no_fields))) }
 {
     let mut tree = Tree::empty_dict(alloc)?;
     let mut rest = statements;
@@ -174,14 +175,14 @@ fn tree_of(alloc: Global, name: &str, file: &Text, text: &[u8]) -> Result<Tree, 
     tree_of_template(alloc, name, &template)
 }
 
-/// The lines of an object's dependency file.
-fn dependencies_of(alloc: Global, file: &str) -> Result<Bytes, AllocError>
-    ensures { IfOk result (λ lines. lines ≡ codes "template " ++ file.now ++ codes "\n") }
+/// The lines of the dependency file of the object of this name.
+pub fn dependencies_of(alloc: Global, name: &str) -> Result<Bytes, AllocError>
+    ensures { IfOk result (λ lines. lines ≡ dependencies_of name.now) }
 {
-    let room = file.len().saturating_add(10);
-    let mut lines = Vec::with_capacity(alloc, room)?;
+    let mut lines = Vec::with_capacity(alloc, name.len().saturating_add(14))?;
     lines.extend_from_slice(b"template ")?;
-    lines.extend_from_slice(file.as_bytes())?;
+    lines.extend_from_slice(name.as_bytes())?;
+    lines.extend_from_slice(b".pan")?;
     lines.push(b'\n')?;
     Bytes::from_vec(lines)
 }
@@ -193,11 +194,10 @@ pub fn compile(alloc: Global, file: &Text, name: &str, text: &[u8]) -> Result<Ou
     ensures { IfOk result (λ o. o ≡ outcome_of name.now text.now) }
 {
     match tree_of(alloc, name, file, text) {
-        Ok(tree) => {
-            let profile = Bytes::from_vec(profile_text(alloc, &tree)?)?;
-            Ok(Outcome::Profile(profile, dependencies_of(alloc, file.as_str())?))
-        }
-        Err(Failure::Fault(fault)) => Ok(Outcome::Fault(fault)),
+        Ok(tree) => Ok(Outcome::Profile(Bytes::from_vec(profile_text(alloc, &tree)?)?)),
+        Err(Failure::Fault(fault)) => Ok(Outcome::Fault(Bytes::from_vec(fault_line(
+            alloc, &fault,
+        )?)?)),
         Err(Failure::Memory) => Err(AllocError),
     }
 }

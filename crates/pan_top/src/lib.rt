@@ -1,18 +1,15 @@
 //! The top call of the compiler, for `build`: it reads the words, scans the source, compiles each object,
 //! publishes the profiles and writes the report.
 //!
-//! In reading order: `status` (how a run ends), `words` (the command), `scan` (a source's picture), `statements`
-//! (what a template's statements assign), `compile` (an object's profile or fault), `answers` (those of
-//! all objects, and what they want on the shelf), `publish` (the shelf), `report` (the text), `run` (the
-//! session and `pan`).
+//! In reading order: `status` (how a run ends), `words` (the command), `statements` (what a template's statements
+//! assign), `compile` (an object's profile or fault), `answers` (those of all objects, and their profiles), `devices`
+//! (the calls on what lies outside), `run` (the session and `pan`).
 #![tactic(auto)]
 
 mod answers;
 mod compile;
-mod publish;
-mod report;
+mod devices;
 mod run;
-mod scan;
 mod statements;
 mod status;
 mod words;

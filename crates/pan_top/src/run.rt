@@ -1,71 +1,27 @@
-ghost use Rattle.std.specs.Prelude.{◌≡◌, ◌≤◌, ◌⊎◌, ℕ, List, IfOk, IfErr, OnOk, OnErr, IfSome, Option, Some, None, true, false, codes, option_map, nat_eq, if◌then◌else◌};
+ghost use Rattle.std.specs.Prelude.{◌≡◌, ◌≤◌, ◌⊎◌, ℕ, List, IfOk, IfErr, OnOk, OnErr, IfSome, Option, Some, None, is_some, true, false, codes};
 ghost use Rattle.outside.specs.Causes.{Rose};
 ghost use Rattle.outside.specs.Contents.{Appends, AppendsPart};
-ghost use Rattle.outside.specs.Pictures.{next_picture, later_pictures};
-ghost use Rattle.load_path.specs.Pictures.{is_rising};
+ghost use Rattle.outside.specs.Pictures.{next_picture};
+ghost use Rattle.publication.specs.Changing.{Tells};
+ghost use Rattle.publication.specs.Listings.{Lists};
+ghost use Rattle.publication.specs.Wants.{proper};
+ghost use Rattle.scans.specs.Scans.{scanned_of};
 ghost use Rattle.pan_top.specs.Commands.{is_command, source_in, out_in};
-ghost use Rattle.pan_top.specs.Scans.{scanned_of};
-ghost use Rattle.pan_top.specs.Shelves.{Stopped, Lists, proper};
-ghost use Rattle.pan_top.specs.Session.{Session, line_alone, build_of, round_of, scanned_session, session_of, Finished, WritesEarly, Says, Comes, Concludes, IsSessions, IsBuilds, IsUsage, IsUsageEnd, Completes, Takes, IsOpened, IsPerhapsOpened, IsCounted, IsInOrder};
-ghost use Rattle.pan_top.specs.Answers.{wants_of};
-ghost use Rattle.pan_top.specs.Changing.{Tells, MadeOver, BegunOver, Publishes, PublishesPart};
-ghost use Rattle.pan_top.specs.Reports.{report_of};
-ghost use Rattle.pan_top.specs.Ends.{IsEndOf, Caused, OfSink, OfShelf, OfSource, IsRoundEnd, status_of, line_of};
+ghost use Rattle.pan_top.specs.Ends.{IsEndOf, Caused, OfSink, IsRoundEnd, Stopped, status_of, line_of};
+ghost use Rattle.pan_top.specs.Rounds.{report_of, wants_among, build_status, build_of, round_of, scanned_session, MadeOver, BegunOver, IsSessions, IsBuilds, IsUsage, Concludes};
+ghost use Rattle.pan_top.specs.Session.{Session, session_of, Finished, WritesEarly, Says, Comes, IsUsageEnd, Completes, Takes, TakesEarly, IsPassed, IsOpened, IsPerhapsOpened, IsCounted, IsInOrder, Publishes, PublishesPart};
 ghost use Rattle.pan_top.specs.declared.status.Status.{Status};
 
-use crate::answers::{Answer, answers, count_faults, count_objects, wants};
-use crate::publish::{listed, publish};
-use crate::report::report;
-use crate::scan::scan;
+use crate::answers::{answers, count_objects, names, profiles};
+use crate::devices::{list_shelf, next_scan, open_shelf, open_source, publish, write};
 use crate::status::{End, Status};
 use crate::words::command;
 use base::Text;
 use base::limits::MAX_OBJECTS;
 use load_path::Picture;
-use outside::{Shelf, Sink, Source, StoreError};
+use outside::{Shelf, Sink, Source};
+use session::{Answer, count_faults, report};
 use std::alloc::{AllocError, Global};
-
-fn write<O: Sink>(out: &mut O, text: &[u8]) -> Result<(), End>
-    ensures ok { OnOk result (Appends (O.held out.old) text.now (O.held out.new)) }
-    ensures err { OnErr result (AppendsPart (O.held out.old) text.now (O.held out.new)) }
-    ensures kind { IfErr result (IsEndOf OfSink) }
-    ensures cause { Caused Status.OutFault (O.fault_count out.old) (O.fault_count out.new) result }
-{
-    match out.write(text) {
-        Ok(()) => Ok(()),
-        Err(StoreError::Failed) => Err(End::Out),
-        Err(StoreError::Memory) => Err(End::Memory),
-    }
-}
-
-fn open_source<S: Source>(source: &mut S, root: &str) -> Result<(), End>
-    ensures opened { OnOk result (S.opened source.new ≡ Some root.now) }
-    ensures refused { OnErr result (S.opened source.new ≡ S.opened source.old) }
-    ensures coming { S.coming source.new ≡ S.coming source.old }
-    ensures kind { IfErr result (IsEndOf OfSource) }
-    ensures cause { Caused Status.SourceFault (S.fault_count source.old) (S.fault_count source.new) result }
-{
-    match source.open_root(root) {
-        Ok(()) => Ok(()),
-        Err(StoreError::Failed) => Err(End::Source),
-        Err(StoreError::Memory) => Err(End::Memory),
-    }
-}
-
-fn open_shelf<H: Shelf>(shelf: &mut H, root: &str) -> Result<(), End>
-    ensures opened { OnOk result (H.opened shelf.new ≡ Some root.now) }
-    ensures refused { OnErr result (H.opened shelf.new ≡ H.opened shelf.old) }
-    ensures same { (n : List ℕ) → H.cell shelf.new n ≡ H.cell shelf.old n }
-    ensures changes { H.changes shelf.new ≡ H.changes shelf.old }
-    ensures kind { IfErr result (IsEndOf OfShelf) }
-    ensures cause { Caused Status.ShelfFault (H.fault_count shelf.old) (H.fault_count shelf.new) result }
-{
-    match shelf.open_root(root) {
-        Ok(()) => Ok(()),
-        Err(StoreError::Failed) => Err(End::Shelf),
-        Err(StoreError::Memory) => Err(End::Memory),
-    }
-}
 
 /// A session that ends with a line.
 fn end_with_line<O: Sink>(out: &mut O, line: &[u8], status: Status) -> Result<Status, End>
@@ -80,12 +36,12 @@ fn end_with_line<O: Sink>(out: &mut O, line: &[u8], status: Status) -> Result<St
 }
 
 fn build_status(faults: usize) -> Status
-    ensures { result ≡ (if nat_eq faults 0 then Status.Clean else Status.SomeFaults) }
+    ensures { result ≡ build_status faults }
 {
-    if faults == 0 {
-        return Status::Clean;
+    if faults > 0 {
+        return Status::SomeFaults;
     }
-    Status::SomeFaults
+    Status::Clean
 }
 
 /// Publishes the profiles among the answers, and then writes the report.
@@ -96,23 +52,33 @@ fn build<H: Shelf, O: Sink>(
     shelf: &mut H,
     out: &mut O,
 ) -> Result<Status, End>
-    requires proper { proper (wants_of answers.items) ≡ true }
+    requires proper { proper (wants_among answers.items) ≡ true }
     requires listed { Lists listed.now (H.cell shelf.old) }
-    ensures ok { IfOk result (λ status. Finished (build_of answers.items) status (O.held out.old) (O.held out.new) (H.cell shelf.old) (H.cell shelf.new)) }
+    ensures ok { IfOk result (λ status. Finished (build_of answers.items) status (O.held out.old)
+        (O.held out.new) (H.cell shelf.old) (H.cell shelf.new)) }
     ensures own { IfOk result IsBuilds }
-    ensures text { IfErr result (λ e. WritesEarly (report_of answers.items) e (O.held out.old) (O.held out.new)) }
-    ensures shelf { IfErr result (λ e. Stopped e (build_of answers.items).shelf (H.cell shelf.old) (H.cell shelf.new)) }
-    ensures made { OnOk result (Tells (H.cell shelf.old) → MadeOver (build_of answers.items).wants listed.now (H.cell shelf.old) (H.cell shelf.new) (H.changes shelf.old) (H.changes shelf.new)) }
-    ensures begun { OnErr result (Tells (H.cell shelf.old) → BegunOver (build_of answers.items).wants listed.now (H.cell shelf.old) (H.cell shelf.new) (H.changes shelf.old) (H.changes shelf.new)) }
+    ensures text { IfErr result (λ e. WritesEarly (report_of answers.items) e (O.held out.old)
+        (O.held out.new)) }
+    ensures shelf { IfErr result (λ e. Stopped e (build_of answers.items).shelf (H.cell shelf.old)
+        (H.cell shelf.new)) }
+    ensures made { OnOk result (Tells (H.cell shelf.old) → MadeOver (build_of answers.items).wants
+        listed.now (H.cell shelf.old) (H.cell shelf.new) (H.changes shelf.old)
+        (H.changes shelf.new)) }
+    ensures begun { OnErr result (Tells (H.cell shelf.old) → BegunOver
+        (build_of answers.items).wants listed.now (H.cell shelf.old) (H.cell shelf.new)
+        (H.changes shelf.old) (H.changes shelf.new)) }
     ensures kind { IfErr result IsRoundEnd }
     ensures opened { H.opened shelf.new ≡ H.opened shelf.old }
-    ensures shelf_cause { Caused Status.ShelfFault (H.fault_count shelf.old) (H.fault_count shelf.new) result }
-    ensures out_cause { Caused Status.OutFault (O.fault_count out.old) (O.fault_count out.new) result }
+    ensures shelf_cause { Caused Status.ShelfFault (H.fault_count shelf.old)
+        (H.fault_count shelf.new) result }
+    ensures out_cause { Caused Status.OutFault (O.fault_count out.old) (O.fault_count out.new)
+        result }
 {
-    let text = report(alloc, &answers)?;
+    let runs = names(alloc, &answers)?;
+    let text = report(alloc, &answers, &runs)?;
     let status = build_status(count_faults(&answers));
-    let wants = wants(alloc, answers)?;
-    publish(alloc, shelf, listed, &wants)?;
+    let profiles = profiles(alloc, answers)?;
+    publish(alloc, shelf, listed, &profiles)?;
     end_with_line(out, &text, status)
 }
 
@@ -125,16 +91,25 @@ fn round<H: Shelf, O: Sink>(
     out: &mut O,
 ) -> Result<Status, End>
     requires { Lists listed.now (H.cell shelf.old) }
-    ensures ok { IfOk result (λ status. Finished (round_of picture.now) status (O.held out.old) (O.held out.new) (H.cell shelf.old) (H.cell shelf.new)) }
+    ensures ok { IfOk result (λ status. Finished (round_of picture.now) status (O.held out.old)
+        (O.held out.new) (H.cell shelf.old) (H.cell shelf.new)) }
     ensures own { IfOk result IsBuilds }
-    ensures text { IfErr result (λ e. WritesEarly (round_of picture.now).text e (O.held out.old) (O.held out.new)) }
-    ensures shelf { IfErr result (λ e. Stopped e (round_of picture.now).shelf (H.cell shelf.old) (H.cell shelf.new)) }
-    ensures made { OnOk result (Tells (H.cell shelf.old) → MadeOver (round_of picture.now).wants listed.now (H.cell shelf.old) (H.cell shelf.new) (H.changes shelf.old) (H.changes shelf.new)) }
-    ensures begun { OnErr result (Tells (H.cell shelf.old) → BegunOver (round_of picture.now).wants listed.now (H.cell shelf.old) (H.cell shelf.new) (H.changes shelf.old) (H.changes shelf.new)) }
+    ensures text { IfErr result (λ e. WritesEarly (round_of picture.now).text e (O.held out.old)
+        (O.held out.new)) }
+    ensures shelf { IfErr result (λ e. Stopped e (round_of picture.now).shelf (H.cell shelf.old)
+        (H.cell shelf.new)) }
+    ensures made { OnOk result (Tells (H.cell shelf.old) → MadeOver (round_of picture.now).wants
+        listed.now (H.cell shelf.old) (H.cell shelf.new) (H.changes shelf.old)
+        (H.changes shelf.new)) }
+    ensures begun { OnErr result (Tells (H.cell shelf.old) → BegunOver (round_of picture.now).wants
+        listed.now (H.cell shelf.old) (H.cell shelf.new) (H.changes shelf.old)
+        (H.changes shelf.new)) }
     ensures kind { IfErr result IsRoundEnd }
     ensures opened { H.opened shelf.new ≡ H.opened shelf.old }
-    ensures shelf_cause { Caused Status.ShelfFault (H.fault_count shelf.old) (H.fault_count shelf.new) result }
-    ensures out_cause { Caused Status.OutFault (O.fault_count out.old) (O.fault_count out.new) result }
+    ensures shelf_cause { Caused Status.ShelfFault (H.fault_count shelf.old)
+        (H.fault_count shelf.new) result }
+    ensures out_cause { Caused Status.OutFault (O.fault_count out.old) (O.fault_count out.new)
+        result }
 {
     if count_objects(picture.files()) > MAX_OBJECTS {
         return end_with_line(out, b"too much\n", Status::TooMuch);
@@ -152,21 +127,37 @@ fn scan_and_build<S: Source, H: Shelf, O: Sink>(
     out: &mut O,
 ) -> Result<Status, End>
     requires { Lists listed.now (H.cell shelf.old) }
-    ensures ok { IfOk result (λ status. IfSome (S.coming source.old) (λ ps. Finished (scanned_session (scanned_of (next_picture ps))) status (O.held out.old) (O.held out.new) (H.cell shelf.old) (H.cell shelf.new))) }
+    ensures ok { IfOk result (λ status. IfSome (S.coming source.old)
+        (λ ps. Finished (scanned_session (scanned_of (next_picture ps))) status (O.held out.old)
+        (O.held out.new) (H.cell shelf.old) (H.cell shelf.new))) }
     ensures own { IfOk result IsBuilds }
-    ensures text { IfErr result (λ e. IfSome (S.coming source.old) (λ ps. WritesEarly (scanned_session (scanned_of (next_picture ps))).text e (O.held out.old) (O.held out.new))) }
-    ensures shelf { IfErr result (λ e. IfSome (S.coming source.old) (λ ps. Stopped e (scanned_session (scanned_of (next_picture ps))).shelf (H.cell shelf.old) (H.cell shelf.new))) }
-    ensures made { OnOk result (Tells (H.cell shelf.old) → IfSome (S.coming source.old) (λ ps. MadeOver (scanned_session (scanned_of (next_picture ps))).wants listed.now (H.cell shelf.old) (H.cell shelf.new) (H.changes shelf.old) (H.changes shelf.new))) }
-    ensures begun { OnErr result (Tells (H.cell shelf.old) → IfSome (S.coming source.old) (λ ps. BegunOver (scanned_session (scanned_of (next_picture ps))).wants listed.now (H.cell shelf.old) (H.cell shelf.new) (H.changes shelf.old) (H.changes shelf.new))) }
-    ensures taken { OnOk result (S.coming source.new ≡ option_map later_pictures (S.coming source.old)) }
-    ensures perhaps { (S.coming source.new ≡ S.coming source.old) ⊎ (S.coming source.new ≡ option_map later_pictures (S.coming source.old)) }
+    ensures text { IfErr result (λ e. IfSome (S.coming source.old)
+        (λ ps. WritesEarly (scanned_session (scanned_of (next_picture ps))).text e (O.held out.old)
+        (O.held out.new))) }
+    ensures shelf { IfErr result (λ e. IfSome (S.coming source.old)
+        (λ ps. Stopped e (scanned_session (scanned_of (next_picture ps))).shelf (H.cell shelf.old)
+        (H.cell shelf.new))) }
+    ensures made { OnOk result (Tells (H.cell shelf.old) → IfSome (S.coming source.old)
+        (λ ps. MadeOver (scanned_session (scanned_of (next_picture ps))).wants listed.now
+        (H.cell shelf.old) (H.cell shelf.new) (H.changes shelf.old) (H.changes shelf.new))) }
+    ensures begun { OnErr result (Tells (H.cell shelf.old) → IfSome (S.coming source.old)
+        (λ ps. BegunOver (scanned_session (scanned_of (next_picture ps))).wants listed.now
+        (H.cell shelf.old) (H.cell shelf.new) (H.changes shelf.old) (H.changes shelf.new))) }
+    ensures taken { OnOk result (IsPassed (S.coming source.old) (S.coming source.new)) }
+    ensures perhaps { (S.coming source.new ≡ S.coming source.old) ⊎
+        (IsPassed (S.coming source.old) (S.coming source.new)) }
+    ensures pictures { IfErr result
+        (λ e. TakesEarly e (S.coming source.old) (S.coming source.new)) }
     ensures source_opened { S.opened source.new ≡ S.opened source.old }
     ensures shelf_opened { H.opened shelf.new ≡ H.opened shelf.old }
-    ensures source_cause { Caused Status.SourceFault (S.fault_count source.old) (S.fault_count source.new) result }
-    ensures shelf_cause { Caused Status.ShelfFault (H.fault_count shelf.old) (H.fault_count shelf.new) result }
-    ensures out_cause { Caused Status.OutFault (O.fault_count out.old) (O.fault_count out.new) result }
+    ensures source_cause { Caused Status.SourceFault (S.fault_count source.old)
+        (S.fault_count source.new) result }
+    ensures shelf_cause { Caused Status.ShelfFault (H.fault_count shelf.old)
+        (H.fault_count shelf.new) result }
+    ensures out_cause { Caused Status.OutFault (O.fault_count out.old) (O.fault_count out.new)
+        result }
 {
-    let Some(picture) = scan(alloc, source)? else {
+    let Some(picture) = next_scan(alloc, source)? else {
         return end_with_line(out, b"too much\n", Status::TooMuch);
     };
     round(alloc, &picture, listed, shelf, out)
@@ -180,30 +171,48 @@ fn run<S: Source, H: Shelf, O: Sink>(
     shelf: &mut H,
     out: &mut O,
 ) -> Result<Status, End>
-    ensures ok { IfOk result (λ status. IfSome (S.coming source.old) (λ ps. Finished (session_of words.now (next_picture ps)) status (O.held out.old) (O.held out.new) (H.cell shelf.old) (H.cell shelf.new))) }
+    ensures ok { IfOk result (λ status. IfSome (S.coming source.old)
+        (λ ps. Finished (session_of words.now ps) status (O.held out.old) (O.held out.new)
+        (H.cell shelf.old) (H.cell shelf.new))) }
     ensures own { IfOk result IsSessions }
-    ensures text { IfErr result (λ e. IfSome (S.coming source.old) (λ ps. WritesEarly (session_of words.now (next_picture ps)).text e (O.held out.old) (O.held out.new))) }
-    ensures shelf { IfErr result (λ e. IfSome (S.coming source.old) (λ ps. Stopped e (session_of words.now (next_picture ps)).shelf (H.cell shelf.old) (H.cell shelf.new))) }
-    ensures made { OnOk result (Tells (H.cell shelf.old) → IfSome (S.coming source.old) (λ ps. Publishes (session_of words.now (next_picture ps)).wants (H.cell shelf.old) (H.cell shelf.new) (H.changes shelf.old) (H.changes shelf.new))) }
-    ensures begun { OnErr result (Tells (H.cell shelf.old) → IfSome (S.coming source.old) (λ ps. PublishesPart (session_of words.now (next_picture ps)).wants (H.cell shelf.old) (H.cell shelf.new) (H.changes shelf.old) (H.changes shelf.new))) }
+    ensures text { IfErr result (λ e. IfSome (S.coming source.old)
+        (λ ps. WritesEarly (session_of words.now ps).text e (O.held out.old) (O.held out.new))) }
+    ensures shelf { IfErr result (λ e. IfSome (S.coming source.old)
+        (λ ps. Stopped e (session_of words.now ps).shelf (H.cell shelf.old) (H.cell shelf.new))) }
+    ensures made { OnOk result (Tells (H.cell shelf.old) → IfSome (S.coming source.old)
+        (λ ps. Publishes (session_of words.now ps).wants (H.cell shelf.old) (H.cell shelf.new)
+        (H.changes shelf.old) (H.changes shelf.new))) }
+    ensures begun { OnErr result (Tells (H.cell shelf.old) → IfSome (S.coming source.old)
+        (λ ps. PublishesPart (session_of words.now ps).wants (H.cell shelf.old) (H.cell shelf.new)
+        (H.changes shelf.old) (H.changes shelf.new))) }
     ensures usage { IfOk result (λ status. IsUsage (is_command words.now) status) }
     ensures quiet { IfErr result (λ e. is_command words.now ≡ false → IsEndOf OfSink e) }
     ensures taken { IfOk result (λ status. Takes status (S.coming source.old) (S.coming source.new)) }
-    ensures perhaps { (S.coming source.new ≡ S.coming source.old) ⊎ (S.coming source.new ≡ option_map later_pictures (S.coming source.old)) }
-    ensures source_opened { IfOk result (λ status. IsOpened status (source_in words.now) (S.opened source.old) (S.opened source.new)) }
-    ensures shelf_opened { IfOk result (λ status. IsOpened status (out_in words.now) (H.opened shelf.old) (H.opened shelf.new)) }
-    ensures source_perhaps { IsPerhapsOpened (source_in words.now) (S.opened source.old) (S.opened source.new) }
-    ensures shelf_perhaps { IsPerhapsOpened (out_in words.now) (H.opened shelf.old) (H.opened shelf.new) }
-    ensures source_cause { Caused Status.SourceFault (S.fault_count source.old) (S.fault_count source.new) result }
-    ensures shelf_cause { Caused Status.ShelfFault (H.fault_count shelf.old) (H.fault_count shelf.new) result }
-    ensures out_cause { Caused Status.OutFault (O.fault_count out.old) (O.fault_count out.new) result }
+    ensures perhaps { (S.coming source.new ≡ S.coming source.old) ⊎
+        (IsPassed (S.coming source.old) (S.coming source.new)) }
+    ensures pictures { IfErr result
+        (λ e. TakesEarly e (S.coming source.old) (S.coming source.new)) }
+    ensures source_opened { IfOk result (λ status. IsOpened status (source_in words.now)
+        (S.opened source.old) (S.opened source.new)) }
+    ensures shelf_opened { IfOk result (λ status. IsOpened status (out_in words.now)
+        (H.opened shelf.old) (H.opened shelf.new)) }
+    ensures source_perhaps { IsPerhapsOpened (source_in words.now) (S.opened source.old)
+        (S.opened source.new) }
+    ensures shelf_perhaps { IsPerhapsOpened (out_in words.now) (H.opened shelf.old)
+        (H.opened shelf.new) }
+    ensures source_cause { Caused Status.SourceFault (S.fault_count source.old)
+        (S.fault_count source.new) result }
+    ensures shelf_cause { Caused Status.ShelfFault (H.fault_count shelf.old)
+        (H.fault_count shelf.new) result }
+    ensures out_cause { Caused Status.OutFault (O.fault_count out.old) (O.fault_count out.new)
+        result }
 {
-    let Some(folders) = command(words) else {
+    let Some(folders) = command(alloc, words)? else {
         return end_with_line(out, b"usage fault\n", Status::Usage);
     };
-    open_source(source, folders.source)?;
-    open_shelf(shelf, folders.out)?;
-    let listed = listed(alloc, shelf)?;
+    open_source(source, folders.source.as_str())?;
+    open_shelf(shelf, folders.out.as_str())?;
+    let listed = list_shelf(alloc, shelf)?;
     scan_and_build(alloc, source, &listed, shelf, out)
 }
 
@@ -228,9 +237,11 @@ fn line(alloc: Global, end: &End) -> Result<Vec<u8>, AllocError>
 /// Writes the line of an end, and gives the status.
 fn conclude<O: Sink>(alloc: Global, end: &End, out: &mut O) -> Status
     ensures status { Concludes end.now result }
-    ensures text { (text : List ℕ) (old : Option (List ℕ)) → WritesEarly text end.now old (O.held out.old) → Says text result end.now old (O.held out.new) }
+    ensures text { (text : List ℕ) (old : Option (List ℕ)) → WritesEarly text end.now old
+        (O.held out.old) → Says text result end.now old (O.held out.new) }
     ensures later { O.fault_count out.old ≤ O.fault_count out.new }
-    ensures cause { result ≡ Status.OutFault → (status_of end.now ≡ Status.OutFault) ⊎ Rose (O.fault_count out.old) (O.fault_count out.new) }
+    ensures cause { result ≡ Status.OutFault → (status_of end.now ≡ Status.OutFault) ⊎ Rose
+        (O.fault_count out.old) (O.fault_count out.new) }
 {
     match end {
         End::Out => return Status::OutFault,
@@ -258,20 +269,31 @@ pub fn pan<S: Source, H: Shelf, O: Sink>(
     shelf: &mut H,
     out: &mut O,
 ) -> Status
-    ensures session { IfSome (S.coming source.old) (λ ps. Comes (session_of words.now (next_picture ps)) result (O.held out.old) (O.held out.new) (H.cell shelf.old) (H.cell shelf.new)) }
-    ensures order { Tells (H.cell shelf.old) → IfSome (S.coming source.old) (λ ps. IsInOrder result (session_of words.now (next_picture ps)).wants (H.cell shelf.old) (H.cell shelf.new) (H.changes shelf.old) (H.changes shelf.new)) }
+    ensures session { IfSome (S.coming source.old) (λ ps. Comes (session_of words.now ps) result
+        (O.held out.old) (O.held out.new) (S.coming source.old) (S.coming source.new)
+        (H.cell shelf.old) (H.cell shelf.new)) }
+    ensures order { Tells (H.cell shelf.old) → IfSome (S.coming source.old)
+        (λ ps. IsInOrder result (session_of words.now ps).wants (H.cell shelf.old)
+        (H.cell shelf.new) (H.changes shelf.old) (H.changes shelf.new)) }
     ensures taken { Takes result (S.coming source.old) (S.coming source.new) }
-    ensures source_opened { IsOpened result (source_in words.now) (S.opened source.old) (S.opened source.new) }
-    ensures shelf_opened { IsOpened result (out_in words.now) (H.opened shelf.old) (H.opened shelf.new) }
+    ensures source_opened { IsOpened result (source_in words.now) (S.opened source.old)
+        (S.opened source.new) }
+    ensures shelf_opened { IsOpened result (out_in words.now) (H.opened shelf.old)
+        (H.opened shelf.new) }
     ensures source_counted { IsCounted result (S.fault_count source.old) (S.fault_count source.new) }
     ensures shelf_counted { IsCounted result (H.fault_count shelf.old) (H.fault_count shelf.new) }
     ensures out_counted { IsCounted result (O.fault_count out.old) (O.fault_count out.new) }
     ensures usage { result ≡ Status.Usage → is_command words.now ≡ false }
     ensures no_command { is_command words.now ≡ false → IsUsageEnd result }
-    ensures source_cause { result ≡ Status.SourceFault → Rose (S.fault_count source.old) (S.fault_count source.new) }
-    ensures shelf_cause { result ≡ Status.ShelfFault → Rose (H.fault_count shelf.old) (H.fault_count shelf.new) }
-    ensures out_cause { result ≡ Status.OutFault → Rose (O.fault_count out.old) (O.fault_count out.new) }
-    ensures complete { (Rose (S.fault_count source.old) (S.fault_count source.new) → ⊥) → (Rose (H.fault_count shelf.old) (H.fault_count shelf.new) → ⊥) → (Rose (O.fault_count out.old) (O.fault_count out.new) → ⊥) → Completes result }
+    ensures source_cause { result ≡ Status.SourceFault → Rose (S.fault_count source.old)
+        (S.fault_count source.new) }
+    ensures shelf_cause { result ≡ Status.ShelfFault → Rose (H.fault_count shelf.old)
+        (H.fault_count shelf.new) }
+    ensures out_cause { result ≡ Status.OutFault → Rose (O.fault_count out.old)
+        (O.fault_count out.new) }
+    ensures complete { (Rose (S.fault_count source.old) (S.fault_count source.new) → ⊥) →
+        (Rose (H.fault_count shelf.old) (H.fault_count shelf.new) → ⊥) →
+        (Rose (O.fault_count out.old) (O.fault_count out.new) → ⊥) → Completes result }
 {
     match run(alloc, words, source, shelf, out) {
         Ok(status) => status,

@@ -125,8 +125,10 @@ fn path_terms(alloc: Global, text: &Text) -> Result<Option<Seq<Term>>, AllocErro
 
 /// The assignment of an item to a path, in a statement that begins here.
 fn set_to(alloc: Global, place: &Place, path: &Text, item: &Item) -> Result<Assignment, Unbuilt>
-    ensures ok { IfOk result (λ a. set_to place.now path.now (path_terms path.now) (literal_in (item_seen item.now)) (item_place (item_seen item.now)) ≡ Ok a) }
-    ensures err { IfErr result (IsRefused (set_to place.now path.now (path_terms path.now) (literal_in (item_seen item.now)) (item_place (item_seen item.now)))) }
+    ensures ok { IfOk result (λ a. set_to place.now path.now (path_terms path.now)
+        (literal_in (item_seen item.now)) (item_place (item_seen item.now)) ≡ Ok a) }
+    ensures err { IfErr result (IsRefused (set_to place.now path.now (path_terms path.now)
+        (literal_in (item_seen item.now)) (item_place (item_seen item.now)))) }
 {
     let Some(terms) = path_terms(alloc, path)? else {
         return refused(place);
@@ -165,7 +167,8 @@ pub fn built(alloc: Global, statement: &Statement) -> Result<Assignment, Unbuilt
 
 /// What statements assign, in order, or the place of the first construct that is not built.
 pub fn assignments(alloc: Global, statements: &[Statement]) -> Result<Vec<Assignment>, Unbuilt>
-    ensures ok { IfOk result (λ made. assignments (map statement_seen statements.now) ≡ Ok made.items) }
+    ensures ok { IfOk result (λ made. assignments (map statement_seen statements.now) ≡ Ok
+        made.items) }
     ensures err { IfErr result (IsRefused (assignments (map statement_seen statements.now))) }
 {
     let mut made = Vec::with_capacity(alloc, statements.len())?;

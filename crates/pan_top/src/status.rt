@@ -22,6 +22,8 @@ pub enum Status {
     OutFault,
     /// Memory was wanting.
     Memory,
+    /// The engine's numbers are spent. The engine of today spends none, so no call ends so.
+    NumbersSpent,
     /// The source is past the limits of a scan.
     TooMuch,
 }
@@ -39,6 +41,7 @@ impl Status {
             Status::ShelfFault => 4,
             Status::OutFault => 7,
             Status::Memory => 8,
+            Status::NumbersSpent => 9,
             Status::TooMuch => 11,
         }
     }

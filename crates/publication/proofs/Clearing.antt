@@ -13,7 +13,8 @@ use Rattle.publication.specs.declared.trouble.Which.TheVariants.{Json, Dep}
 use Rattle.publication.specs.declared.trouble.Call.{Call}
 use Rattle.publication.specs.declared.trouble.Call.TheVariants.{Remove, Read, Put}
 use Rattle.publication.specs.OwnNames.{is_own}
-use Rattle.publication.specs.Wants.{Want, wanted, goes}
+use Rattle.publication.specs.declared.want.Want.{Want}
+use Rattle.publication.specs.Wants.{wanted, goes}
 use Rattle.publication.specs.Stands.{Meets, Has, Unspecified, untouched}
 use Rattle.publication.specs.Troubles.{called, keeps, unsettles, fits_removal, is_removal, published}
 use Rattle.publication.specs.Published.{AtMost, Clearing, Came, Sweeps, one_or_none}

@@ -14,7 +14,8 @@ use Rattle.publication.specs.declared.trouble.Call.TheVariants.{Remove, Read, Pu
 use Rattle.publication.specs.declared.publisher.Known.{Known}
 use Rattle.publication.specs.declared.publisher.Publisher.{Publisher}
 use Rattle.publication.specs.OwnNames.{is_own, json_name, dep_name}
-use Rattle.publication.specs.Wants.{Want, json_want, dep_want, wants_of, wanted, proper, goes}
+use Rattle.publication.specs.declared.want.Want.{Want}
+use Rattle.publication.specs.Wants.{json_want, dep_want, wants_of, wanted, proper, goes}
 use Rattle.publication.specs.Stands.{Meets, AtStart, untouched}
 use Rattle.publication.specs.Troubles.{called, keeps, unsettles, fits, fits_removal, fits_call, is_removal, name_of, published}
 use Rattle.publication.specs.Published.{AtMost, Clearing, Placing, Interrupted, Published, Partly, Knows, Covers, Allows, placed}

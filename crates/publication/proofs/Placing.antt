@@ -14,7 +14,8 @@ use Rattle.publication.specs.declared.trouble.Which.TheVariants.{Json, Dep}
 use Rattle.publication.specs.declared.trouble.Call.{Call}
 use Rattle.publication.specs.declared.trouble.Call.TheVariants.{Remove, Read, Put}
 use Rattle.publication.specs.OwnNames.{is_own, json_name, dep_name}
-use Rattle.publication.specs.Wants.{Want, json_want, dep_want, wants_of, wanted, proper}
+use Rattle.publication.specs.declared.want.Want.{Want}
+use Rattle.publication.specs.Wants.{json_want, dep_want, wants_of, wanted, proper}
 use Rattle.publication.specs.Stands.{Stand, Meets, AtStart, untouched}
 use Rattle.publication.specs.Troubles.{keeps, unsettles, fits, is_removal, published}
 use Rattle.publication.specs.Published.{AtMost, Placing, BringsProfile, placed, one_or_none}
@@ -82,10 +83,10 @@ module _ (ws : List Want) (p : Profile) (ps : List Profile) (ts : List Trouble) 
       let f : true ≡ false = sym some ∙ ap is_some none in cc
   later_by n false false ok some ej ed = (refl, refl)
 
-  beside : (n : List ℕ) → proper All ≡ true → is_some (wanted (wants_of ps) n) ≡ true → (bytes_eq (json_name p.name) n ≡ false) × (bytes_eq (dep_name p.name) n ≡ false)
+  pub beside : (n : List ℕ) → proper All ≡ true → is_some (wanted (wants_of ps) n) ≡ true → (bytes_eq (json_name p.name) n ≡ false) × (bytes_eq (dep_name p.name) n ≡ false)
   beside n ok some = later_by n (bytes_eq (json_name p.name) n) (bytes_eq (dep_name p.name) n) ok some refl refl
 
-  wanted_beside : (n : List ℕ) → bytes_eq (json_name p.name) n ≡ false → bytes_eq (dep_name p.name) n ≡ false → wanted All n ≡ wanted (wants_of ps) n
+  pub wanted_beside : (n : List ℕ) → bytes_eq (json_name p.name) n ≡ false → bytes_eq (dep_name p.name) n ≡ false → wanted All n ≡ wanted (wants_of ps) n
   wanted_beside n ej ed = rw (ej, ed) refl
 
   -- a file of this profile is wanted here, and by no later one

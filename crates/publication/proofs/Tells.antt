@@ -4,7 +4,7 @@ use Rattle.std.specs.Prelude.{bytes_eq}
 use Rattle.std.proofs.lemmas.Slice.Eq.{bytes_eq-Decides}
 use Rattle.outside.specs.Cells.{Cell, with_content}
 use Rattle.publication.specs.OwnNames.{is_own}
-use Rattle.publication.specs.Wants.{Want}
+use Rattle.publication.specs.declared.want.Want.{Want}
 use Rattle.publication.specs.declared.trouble.Trouble.{Trouble}
 use Rattle.publication.specs.Stands.{Stand, Meets, AtStart, Has, Unspecified, untouched}
 use Rattle.publication.specs.Troubles.{published}

@@ -1,8 +1,9 @@
 -- What a publication promises.
-use Rattle.std.specs.Prelude.{◌≡◌, ◌≤◌, ◌+◌, ◌-◌, ◌^◌, ◌⊎◌, ℕ, Bool, true, false, List, [], ◌∷◌, ◌++◌, Option, Some, None, IfSome, is_some, option_map, min, length, bytes_eq, not, ◌||◌, if◌then◌else◌}
+use Rattle.std.specs.Prelude.{◌≡◌, ◌≤◌, ◌+◌, ◌⊎◌, ℕ, Bool, true, false, List, [], ◌∷◌, ◌++◌, Option, Some, None, IfSome, is_some, option_map, length, bytes_eq, not, ◌||◌, if◌then◌else◌}
 use Rattle.std.specs.List.{list_all, list_any}
 use Rattle.std.specs.HashMap.{get}
 use Rattle.std.specs.HashSet.{HashSet, contains}
+use Rattle.base.specs.Integers.{saturated}
 use Rattle.outside.specs.Causes.{Rose}
 use Rattle.outside.specs.Cells.{Cell, Sets, AllBut}
 use Rattle.publication.specs.declared.trouble.Trouble.{Trouble}
@@ -14,13 +15,14 @@ use Rattle.publication.specs.declared.trouble.Which.{Which}
 use Rattle.publication.specs.declared.trouble.Call.{Call}
 use Rattle.publication.specs.declared.trouble.Call.TheVariants.{Remove, Read, Put}
 use Rattle.publication.specs.OwnNames.{is_own}
-use Rattle.publication.specs.Wants.{Want, wanted, wants_of, goes}
+use Rattle.publication.specs.declared.want.Want.{Want}
+use Rattle.publication.specs.Wants.{wanted, wants_of, goes}
 use Rattle.publication.specs.Stands.{Stand, Meets, Stands, untouched, AtStart, Has, Unspecified}
 use Rattle.publication.specs.Troubles.{called, fits, fits_removal, published, name_of, keeps, unsettles, is_removal}
 
 -- at most so many calls failed as the count rose
 abbrev pub AtMost : ℕ → ℕ → ℕ → Type 0
-AtMost failed before now = min (before + failed) (2 ^ 64 - 1) ≤ now
+AtMost failed before now = saturated (before + failed) ≤ now
 
 -- a publication was done, but for these troubles
 pub record Published (ws : List Want) (troubles : List Trouble) (before now : ℕ) (old new : List ℕ → Cell) : Type 0 where

@@ -7,7 +7,8 @@ use Rattle.publication.specs.declared.trouble.Which.TheVariants.{Json, Dep}
 use Rattle.publication.specs.declared.trouble.Call.{Call}
 use Rattle.publication.specs.declared.trouble.Call.TheVariants.{Remove, Read, Put}
 use Rattle.publication.specs.OwnNames.{is_own, json_name, dep_name}
-use Rattle.publication.specs.Wants.{Want, wanted, goes}
+use Rattle.publication.specs.declared.want.Want.{Want}
+use Rattle.publication.specs.Wants.{wanted, goes}
 use Rattle.publication.specs.Stands.{Stand, Has, Unspecified}
 
 abbrev pub name_of : Which → List ℕ → List ℕ

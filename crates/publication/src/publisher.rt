@@ -4,16 +4,24 @@ ghost use Rattle.std.specs.Prelude.{cond};
 ghost use Rattle.std.specs.HashMap.{get};
 ghost use Rattle.outside.specs.Causes.{HasCause};
 ghost use Rattle.outside.specs.Cells.{Cell, Sets, AllBut};
+ghost use Rattle.std.specs.Prelude.{is_some, option_map};
+ghost use Rattle.std.specs.List.Sorted.{IsSorted};
+ghost use Rattle.std.specs.Cmp.Lexicographic.{slice_cmp};
+ghost use Rattle.std.specs.Ordering.{nat_cmp};
+ghost use Rattle.publication.specs.Changing.{done, Tells};
+ghost use Rattle.publication.specs.Logs.{Logged, LogsPut, Removes, Writes, put_of, removed};
 ghost use Rattle.publication.specs.OwnNames.{is_own, json_name, dep_name};
 ghost use Rattle.publication.specs.Wants.{wants_of, proper, goes, wanted};
-ghost use Rattle.publication.specs.Published.{Knows, Came, Brings, BringsFile, BringsProfile, Partly, Placing, Clearing, Sweeps, Interrupted, Holding, one_or_none, Covers, Names, Published};
+ghost use Rattle.publication.specs.Published.{call_of, Knows, Came, Brings, BringsFile, BringsProfile, Partly, Placing, Clearing, Sweeps, Interrupted, Holding, one_or_none, Covers, Names, Published};
 ghost use Rattle.publication.specs.Listings.{Lists};
 ghost use Rattle.std.specs.HashSet.{contains};
 ghost use Rattle.std.specs.Prelude.{not, ◌&&◌, if◌then◌else◌};
 ghost use Rattle.publication.specs.Troubles.{name_of};
 ghost use Rattle.publication.specs.declared.publisher.Known.{Known};
 
+use crate::own_name::is_own;
 use crate::profile::Profile;
+use crate::reading::holds;
 use crate::trouble::{Call, Trouble, Which, not_removed};
 use base::{Bytes, Text};
 use outside::{Shelf, StoreError};
@@ -34,24 +42,6 @@ pub struct Publisher {
     own: HashMap<Text, Known>,
 }
 
-/// Whether the name holds the bytes. A longer file is known without reading it whole.
-fn holds<H: Shelf>(
-    shelf: &mut H,
-    name: &str,
-    bytes: &[u8],
-    held: &mut Vec<u8>,
-) -> Result<bool, StoreError>
-    ensures ok { IfOk result (λ same. same ≡ true → IfSome (H.cell shelf.old name.now) (λ content. content ≡ Some bytes.now)) }
-    ensures same { (n : List ℕ) → H.cell shelf.new n ≡ H.cell shelf.old n }
-    ensures cause { HasCause (H.fault_count shelf.old) (H.fault_count shelf.new) result }
-{
-    match shelf.read(name, bytes.len() + 1, held) {
-        Ok(true) => Ok(held.as_slice() == bytes),
-        Ok(false) => Ok(false),
-        Err(error) => Err(error),
-    }
-}
-
 /// The name gets the bytes, or gives the call that failed.
 fn bring_unread<H: Shelf>(
     shelf: &mut H,
@@ -62,6 +52,8 @@ fn bring_unread<H: Shelf>(
     ensures ok { IfOk result (λ failed. Brings name.now bytes.now failed (H.fault_count shelf.old) (H.fault_count shelf.new) (H.cell shelf.old) (H.cell shelf.new)) }
     ensures unsettles { OnErr result (AllBut (H.cell shelf.old) name.now (H.cell shelf.new)) }
     ensures later { H.fault_count shelf.old ≤ H.fault_count shelf.new }
+    ensures log { IfOk result (λ failed. IfSome (H.cell shelf.old name.now)
+        (LogsPut name.now bytes.now failed (H.changes shelf.old) (H.changes shelf.new))) }
 {
     match holds(shelf, name, bytes, held) {
         Ok(true) => return Ok(None),
@@ -81,6 +73,8 @@ fn remove_name<H: Shelf>(shelf: &mut H, name: &str) -> Result<bool, AllocError>
     ensures came { IfOk result (λ done. Came name.now None done (H.fault_count shelf.old) (H.fault_count shelf.new) (H.cell shelf.old) (H.cell shelf.new)) }
     ensures unsettles { OnErr result (AllBut (H.cell shelf.old) name.now (H.cell shelf.new)) }
     ensures later { H.fault_count shelf.old ≤ H.fault_count shelf.new }
+    ensures log { IfOk result
+        (λ gone. H.changes shelf.new ≡ done (H.changes shelf.old) (removed gone name.now)) }
 {
     match shelf.remove(name) {
         Ok(()) => Ok(true),
@@ -96,12 +90,6 @@ fn file_name(alloc: Global, object: &str, which: Which) -> Result<Text, AllocErr
         Which::Json => Text::joined(alloc, object, ".json"),
         Which::Dep => Text::joined(alloc, object, ".dep"),
     }
-}
-
-fn is_own(name: &str) -> bool
-    ensures { result ≡ is_own name.now }
-{
-    name.as_bytes().ends_with(b".json") || name.as_bytes().ends_with(b".dep")
 }
 
 fn add_name(
@@ -189,6 +177,8 @@ impl Publisher {
         ensures knows { OnOk result (Knows self.new (H.cell shelf.new)) }
         ensures unsettles { OnErr result (AllBut (H.cell shelf.old) name.now (H.cell shelf.new)) }
         ensures later { H.fault_count shelf.old ≤ H.fault_count shelf.new }
+        ensures log { IfOk result
+            (λ gone. H.changes shelf.new ≡ done (H.changes shelf.old) (removed gone name.now)) }
     {
         self.forget(name)?;
         let done = remove_name(shelf, name.as_str())?;
@@ -213,6 +203,8 @@ impl Publisher {
         ensures knows { OnOk result (Knows self.new (H.cell shelf.new)) }
         ensures unsettles { OnErr result (AllBut (H.cell shelf.old) name.now (H.cell shelf.new)) }
         ensures later { H.fault_count shelf.old ≤ H.fault_count shelf.new }
+        ensures log { IfOk result (λ failed. IfSome (H.cell shelf.old name.now)
+            (LogsPut name.now bytes.now failed (H.changes shelf.old) (H.changes shelf.new))) }
     {
         if self.is_known(name, bytes) {
             return Ok(None);
@@ -241,6 +233,9 @@ impl Publisher {
         ensures knows { OnOk result (Knows self.new (H.cell shelf.new)) }
         ensures unsettles { OnErr result (AllBut (H.cell shelf.old) (name_of which object.now) (H.cell shelf.new)) }
         ensures later { H.fault_count shelf.old ≤ H.fault_count shelf.new }
+        ensures log { IfOk result (λ trouble. IfSome (H.cell shelf.old (name_of which object.now))
+            (LogsPut (name_of which object.now) bytes.now (option_map call_of trouble)
+            (H.changes shelf.old) (H.changes shelf.new))) }
     {
         let name = file_name(alloc, object.as_str(), which)?;
         match self.bring(alloc, shelf, &name, bytes, held)? {
@@ -267,6 +262,8 @@ impl Publisher {
         ensures knows { OnOk result (Knows self.new (H.cell shelf.new)) }
         ensures err { OnErr result (Partly profile.now (H.cell shelf.old) (H.cell shelf.new)) }
         ensures later { H.fault_count shelf.old ≤ H.fault_count shelf.new }
+        ensures log { IfOk result (λ trouble. Tells (H.cell shelf.old) → H.changes shelf.new
+            ≡ done (H.changes shelf.old) (put_of (H.cell shelf.old) profile.now trouble)) }
     {
         let json = profile.json.as_slice();
         if let Some(trouble) = self.bring_file(
@@ -297,6 +294,8 @@ impl Publisher {
         ensures knows { OnOk result (Knows self.new (H.cell shelf.new)) }
         ensures err { OnErr result ((before : ℕ) (start : List ℕ → Cell) → let ws = wants_of profiles.now in Placing ws ws troubles.old.items before (H.fault_count shelf.old) start (H.cell shelf.old) → Interrupted ws before (H.fault_count shelf.new) start (H.cell shelf.new)) }
         ensures later { H.fault_count shelf.old ≤ H.fault_count shelf.new }
+        ensures log { OnOk result (Tells (H.cell shelf.old) → Writes (H.cell shelf.old) profiles.now
+            troubles.old.items troubles.new.items (H.changes shelf.old) (H.changes shelf.new)) }
     {
         let mut held = Vec::new(alloc);
         for profile in profiles {
@@ -320,6 +319,8 @@ impl Publisher {
         ensures knows { OnOk result (Knows self.new (H.cell shelf.new)) }
         ensures unsettles { OnErr result (AllBut (H.cell shelf.old) name.now (H.cell shelf.new)) }
         ensures later { H.fault_count shelf.old ≤ H.fault_count shelf.new }
+        ensures log { OnOk result (Removes (name.now ∷ []) troubles.old.items troubles.new.items
+            (H.changes shelf.old) (H.changes shelf.new)) }
     {
         let done = self.remove(shelf, name)?;
         if done {
@@ -344,6 +345,8 @@ impl Publisher {
         ensures knows { OnOk result (Knows self.new (H.cell shelf.new)) }
         ensures err { OnErr result ((before : ℕ) (start : List ℕ → Cell) → let ws = wants_of wants.now in Clearing ws names.now troubles.old.items before (H.fault_count shelf.old) start (H.cell shelf.old) → Interrupted ws before (H.fault_count shelf.new) start (H.cell shelf.new)) }
         ensures later { H.fault_count shelf.old ≤ H.fault_count shelf.new }
+        ensures log { OnOk result (Removes names.now troubles.old.items troubles.new.items
+            (H.changes shelf.old) (H.changes shelf.new)) }
     {
         for name in names {
             self.sweep(alloc, shelf, name, troubles)?;
@@ -355,6 +358,9 @@ impl Publisher {
     fn unwanted(&self, alloc: Global, profiles: &[Profile]) -> Result<Vec<Text>, AllocError>
         ensures going { IfOk result (λ gone. list_all (goes (wants_of profiles.now)) gone.items ≡ true) }
         ensures covers { IfOk result (λ gone. Covers gone.items (wants_of profiles.now) self.now) }
+        ensures known { IfOk result
+            (λ gone. (n : List ℕ) → list_any (λ m. bytes_eq m n) gone.items ≡ true → is_some (get bytes_eq self.now.own n) ≡ true) }
+        ensures sorted { IfOk result (λ gone. IsSorted (slice_cmp nat_cmp) gone.items) }
     {
         let names = wanted_names(alloc, profiles)?;
         let mut gone = Vec::new(alloc);
@@ -380,6 +386,8 @@ impl Publisher {
         ensures knows { OnOk result (Knows self.new (H.cell shelf.new)) }
         ensures err { OnErr result (Interrupted (wants_of profiles.now) (H.fault_count shelf.old) (H.fault_count shelf.new) (H.cell shelf.old) (H.cell shelf.new)) }
         ensures later { H.fault_count shelf.old ≤ H.fault_count shelf.new }
+        ensures log { IfOk result (λ troubles. Tells (H.cell shelf.old) → Logged self.old profiles.now
+            troubles.items (H.cell shelf.old) (H.changes shelf.old) (H.changes shelf.new)) }
     {
         let gone = self.unwanted(alloc, profiles)?;
         let mut troubles = Vec::new(alloc);

@@ -1,10 +1,14 @@
 //! What a session of lines is: what is written, what stands on the shelf, and how it ends.
 //!
-//! In reading order, of `specs/`: `Orders` (what a line says), `Machines` (the engine), `Texts` (what is written),
-//! `Sessions` (rounds, and what they lead to).
+//! In reading order: `limits`, `texts` (the text of a build); and of `specs/`: `Orders` (what a line says), `Machines` (the
+//! engine), `Texts` (what is written), `Sessions` (rounds, and what they lead to).
 #![tactic(auto)]
 
+pub mod limits;
+mod texts;
+
 use base::{Bytes, Text};
+pub use texts::{count_faults, report};
 
 /// What compiling an object gives.
 #[derive(Debug, Drop)]

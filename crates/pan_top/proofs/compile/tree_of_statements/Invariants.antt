@@ -1,4 +1,4 @@
-use Rattle.std.proofs.Common.{◌≡◌, ℕ, length, map}
+use Rattle.std.proofs.Common.{◌≡◌, length, map}
 use Rattle.pan_ast.specs.TemplatesSeen.{statement_seen}
 use Rattle.path_tree.specs.Plain.{dict, no_fields}
 use Rattle.pan_top.specs.Statements.{assignments}

@@ -4,7 +4,7 @@ use Rattle.pan_top.proofs.run.pan.Goals as goal
 
 pub returns-in-Err-clause-session : goal.returns-in-Err-clause-session
 returns-in-Err-clause-session g c =
-    comes (g.S.Source.coming c.args.source.now) c.args.words.now c.conclude.result c.in-Err.end (g.O.Sink.held c.args.out.now) (g.O.Sink.held c.run.new.out) _ _ _ c.in-Err.ensures.shelf c.in-Err.ensures.text c.conclude.ensures.text
+    comes (g.S.Source.coming c.args.source.now) c.args.words.now c.conclude.result c.in-Err.end (g.O.Sink.held c.args.out.now) (g.O.Sink.held c.run.new.out) _ _ _ _ _ c.in-Err.ensures.shelf c.in-Err.ensures.text c.in-Err.ensures.pictures c.conclude.ensures.text
 
 pub returns-in-Ok-clause-order : goal.returns-in-Ok-clause-order
 returns-in-Ok-clause-order g c = λ told. in_order_own (g.S.Source.coming c.args.source.now) c.args.words.now c.in-Ok.status (g.H.Shelf.cell c.args.shelf.now) (g.H.Shelf.cell c.run.new.shelf) _ _ c.in-Ok.ensures.own (c.in-Ok.ensures.made told)

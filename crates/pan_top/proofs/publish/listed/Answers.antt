@@ -1,5 +1,0 @@
-use Rattle.pan_top.proofs.Shelving.{lists_again}
-use Rattle.pan_top.proofs.publish.listed.Goals as goal
-
-pub returns-clause-ok : goal.returns-clause-ok
-returns-clause-ok g c = lists_again _ _ _ c.in_ok-sort.ensures.permutation c.in-Ok.ensures.ok

@@ -1,0 +1,271 @@
+ghost use Rattle.std.specs.Prelude.{◌≡◌, ◌∷◌, [], ℕ, List, flat_map, if◌then◌else◌, IfOk, OnOk, OnErr, IfErr, IfSome, Option, Some, None, true, false, bytes_eq};
+ghost use Rattle.std.specs.List.Sorted.{IsSorted};
+ghost use Rattle.std.specs.Cmp.Lexicographic.{slice_cmp};
+ghost use Rattle.std.specs.Ordering.{nat_cmp};
+ghost use Rattle.outside.specs.Causes.{HasCause};
+ghost use Rattle.outside.specs.Cells.{Sets, AllBut, AreSame};
+ghost use Rattle.outside.specs.declared.shelf.Change.TheVariants.{Put};
+ghost use Rattle.publication.specs.Changing.{holds, removal, putting, planned, done, Made, Begun, Makes, Begins, Tells};
+ghost use Rattle.publication.specs.Halves.{swept, cleared, placed, brought, LeftAs};
+ghost use Rattle.publication.specs.Leavings.{Left, IsEndAt, EndsBy};
+ghost use Rattle.publication.specs.Listings.{Lists};
+ghost use Rattle.publication.specs.OwnNames.{is_own};
+ghost use Rattle.publication.specs.Published.{Names};
+ghost use Rattle.publication.specs.Stands.{Stands, untouched};
+ghost use Rattle.publication.specs.Troubles.{published};
+ghost use Rattle.publication.specs.Wants.{goes, proper, wants_of};
+ghost use Rattle.publication.specs.declared.until_failure.PublishError.TheVariants.{Memory};
+ghost use Rattle.publication.specs.declared.want.Want.{Want};
+
+use crate::own_name::{is_own, object_of};
+use crate::profile::Profile;
+use crate::reading::holds;
+use crate::want::{Want, wants};
+use base::Text;
+use outside::{Shelf, StoreError};
+use std::alloc::{AllocError, AllocFailed, Global};
+use std::collections::HashSet;
+
+/// Why a publication ended that ends at its first failed call.
+#[derive(Debug, Drop)]
+pub enum PublishError {
+    /// A call on a file of this object failed.
+    Failed(Text),
+    /// Memory was wanting.
+    Memory,
+}
+
+impl From<AllocError> for PublishError {
+    ghost from_gives = { λ _ e. e ≡ Memory };
+
+    fn from(_e: AllocError) -> PublishError {
+        PublishError::Memory
+    }
+}
+
+impl<T: Drop> From<AllocFailed<T>> for PublishError {
+    ghost from_gives = { λ _ e. e ≡ Memory };
+
+    fn from(_e: AllocFailed<T>) -> PublishError {
+        PublishError::Memory
+    }
+}
+
+/// A call on the shelf for a name, as an end of the publication.
+fn ended(alloc: Global, error: StoreError, name: &str) -> PublishError
+    requires { is_own name.now ≡ true }
+    ensures memory { error ≡ StoreError.Memory → result ≡ PublishError.Memory }
+    ensures at { IsEndAt name.now result }
+{
+    match error {
+        StoreError::Memory => PublishError::Memory,
+        StoreError::Failed => match object_of(alloc, name) {
+            Ok(object) => PublishError::Failed(object),
+            Err(AllocError) => PublishError::Memory,
+        },
+    }
+}
+
+/// Whether the name holds the bytes.
+fn finds<H: Shelf>(
+    alloc: Global,
+    shelf: &mut H,
+    name: &str,
+    bytes: &[u8],
+    held: &mut Vec<u8>,
+) -> Result<bool, PublishError>
+    requires { is_own name.now ≡ true }
+    ensures ok { IfOk result
+        (λ same. same ≡ true → IfSome (H.cell shelf.old name.now) (λ content. content ≡ Some bytes.now)) }
+    ensures exact { IfOk result
+        (λ same. IfSome (H.cell shelf.old name.now) (λ content. same ≡ holds bytes.now (Some content))) }
+    ensures changes { H.changes shelf.new ≡ H.changes shelf.old }
+    ensures same { AreSame (H.cell shelf.old) (H.cell shelf.new) }
+    ensures opened { H.opened shelf.new ≡ H.opened shelf.old }
+    ensures at { IfErr result (IsEndAt name.now) }
+    ensures cause { EndsBy (H.fault_count shelf.old) (H.fault_count shelf.new) result }
+{
+    match holds(shelf, name, bytes, held) {
+        Ok(same) => Ok(same),
+        Err(error) => Err(ended(alloc, error, name)),
+    }
+}
+
+/// The name holds the bytes.
+fn bring<H: Shelf>(
+    alloc: Global,
+    shelf: &mut H,
+    name: &str,
+    bytes: &[u8],
+    held: &mut Vec<u8>,
+) -> Result<(), PublishError>
+    requires { is_own name.now ≡ true }
+    ensures ok { OnOk result (Sets (H.cell shelf.old) name.now (Some bytes.now) (H.cell shelf.new)) }
+    ensures err { OnErr result (AllBut (H.cell shelf.old) name.now (H.cell shelf.new)) }
+    ensures done { OnOk result (IfSome (H.cell shelf.old name.now) (λ content. H.changes shelf.new ≡ done (H.changes shelf.old) (if holds bytes.now (Some content) then [] else Put name.now ∷ []))) }
+    ensures undone { OnErr result (H.changes shelf.new ≡ H.changes shelf.old) }
+    ensures untouched { OnErr result (holds bytes.now (H.cell shelf.old name.now) ≡ true → AreSame (H.cell shelf.old) (H.cell shelf.new)) }
+    ensures opened { H.opened shelf.new ≡ H.opened shelf.old }
+    ensures at { IfErr result (IsEndAt name.now) }
+    ensures cause { EndsBy (H.fault_count shelf.old) (H.fault_count shelf.new) result }
+{
+    if finds(alloc, shelf, name, bytes, held)? {
+        return Ok(());
+    }
+    match shelf.put(name, bytes) {
+        Ok(()) => Ok(()),
+        Err(error) => Err(ended(alloc, error, name)),
+    }
+}
+
+/// The names that profiles want.
+fn wanted_names(alloc: Global, wants: &[Want]) -> Result<HashSet<Text>, AllocError>
+    ensures { IfOk result (λ names. Names names wants.now) }
+{
+    let mut names = HashSet::with_capacity(alloc, wants.len())?;
+    for want in wants {
+        names.insert(want.name.share()?)?;
+    }
+    Ok(names)
+}
+
+/// An own name that no profile wants goes.
+fn sweep<H: Shelf>(
+    alloc: Global,
+    shelf: &mut H,
+    name: &Text,
+    names: &HashSet<Text>,
+) -> Result<(), PublishError>
+    ensures ok { OnOk result ((wants : List Want) → Names names.now wants → (n : List ℕ) → H.cell shelf.new n ≡ swept name.now wants n (H.cell shelf.old n)) }
+    ensures err { OnErr result (AllBut (H.cell shelf.old) name.now (H.cell shelf.new)) }
+    ensures own { OnErr result (is_own name.now ≡ true) }
+    ensures going { OnErr result ((wants : List Want) → Names names.now wants → goes wants name.now ≡ true) }
+    ensures done { OnOk result ((wants : List Want) → Names names.now wants → H.changes shelf.new ≡ done (H.changes shelf.old) (removal wants name.now)) }
+    ensures undone { OnErr result (H.changes shelf.new ≡ H.changes shelf.old) }
+    ensures opened { H.opened shelf.new ≡ H.opened shelf.old }
+    ensures at { IfErr result (IsEndAt name.now) }
+    ensures cause { EndsBy (H.fault_count shelf.old) (H.fault_count shelf.new) result }
+{
+    if !is_own(name.as_str()) {
+        return Ok(());
+    }
+    if names.contains(name) {
+        return Ok(());
+    }
+    match shelf.remove(name.as_str()) {
+        Ok(()) => Ok(()),
+        Err(error) => Err(ended(alloc, error, name.as_str())),
+    }
+}
+
+/// The own names that no profile wants go, in the order of the list.
+fn clear<H: Shelf>(
+    alloc: Global,
+    shelf: &mut H,
+    listed: &[Text],
+    names: &HashSet<Text>,
+    wants: &[Want],
+) -> Result<(), PublishError>
+    requires { Names names.now wants.now }
+    ensures ok { OnOk result ((n : List ℕ) → H.cell shelf.new n ≡ cleared listed.now wants.now n (H.cell shelf.old n)) }
+    ensures err { IfErr result (λ e. LeftAs e (cleared listed.now wants.now) (H.cell shelf.old) (H.cell shelf.new)) }
+    ensures made { OnOk result (Made wants.now (flat_map (removal wants.now) listed.now) (H.cell shelf.old) (H.cell shelf.new) (H.changes shelf.old) (H.changes shelf.new)) }
+    ensures begun { OnErr result (Begun wants.now (flat_map (removal wants.now) listed.now) (H.cell shelf.old) (H.cell shelf.new) (H.changes shelf.old) (H.changes shelf.new)) }
+    ensures opened { H.opened shelf.new ≡ H.opened shelf.old }
+    ensures cause { EndsBy (H.fault_count shelf.old) (H.fault_count shelf.new) result }
+{
+    for name in listed {
+        sweep(alloc, shelf, name, names)?;
+    }
+    Ok(())
+}
+
+/// Each wanted name gets its bytes, in the order of the list.
+fn place<H: Shelf>(alloc: Global, shelf: &mut H, wants: &[Want]) -> Result<(), PublishError>
+    requires { proper wants.now ≡ true }
+    ensures ok { OnOk result ((n : List ℕ) → H.cell shelf.new n ≡ placed wants.now n (H.cell shelf.old n)) }
+    ensures err { IfErr result (λ e. LeftAs e (placed wants.now) (H.cell shelf.old) (H.cell shelf.new)) }
+    ensures made { OnOk result (Tells (H.cell shelf.old) → Made wants.now (flat_map (putting (H.cell shelf.old)) wants.now) (H.cell shelf.old) (H.cell shelf.new) (H.changes shelf.old) (H.changes shelf.new)) }
+    ensures begun { OnErr result (Tells (H.cell shelf.old) → Begun wants.now (flat_map (putting (H.cell shelf.old)) wants.now) (H.cell shelf.old) (H.cell shelf.new) (H.changes shelf.old) (H.changes shelf.new)) }
+    ensures opened { H.opened shelf.new ≡ H.opened shelf.old }
+    ensures cause { EndsBy (H.fault_count shelf.old) (H.fault_count shelf.new) result }
+{
+    let mut held = Vec::new(alloc);
+    for want in wants {
+        bring(
+            alloc,
+            shelf,
+            want.name.as_str(),
+            want.bytes.as_slice(),
+            &mut held,
+        )?;
+    }
+    Ok(())
+}
+
+/// All names of the shelf, in byte order.
+pub fn listed<H: Shelf>(alloc: Global, shelf: &mut H) -> Result<Vec<Text>, StoreError>
+    ensures ok { IfOk result (λ names. Lists names.items (H.cell shelf.old)) }
+    ensures sorted { IfOk result (λ names. IsSorted (slice_cmp nat_cmp) names.items) }
+    ensures changes { H.changes shelf.new ≡ H.changes shelf.old }
+    ensures same { AreSame (H.cell shelf.old) (H.cell shelf.new) }
+    ensures opened { H.opened shelf.new ≡ H.opened shelf.old }
+    ensures cause { HasCause (H.fault_count shelf.old) (H.fault_count shelf.new) result }
+{
+    let mut names = Vec::new(alloc);
+    match shelf.names(&mut names) {
+        Ok(()) => {}
+        Err(error) => return Err(error),
+    }
+    names.sort()?;
+    Ok(names)
+}
+
+/// Brings wanted names to a shelf on which these names are.
+fn bring_all<H: Shelf>(
+    alloc: Global,
+    shelf: &mut H,
+    listed: &[Text],
+    wants: &[Want],
+) -> Result<(), PublishError>
+    requires proper { proper wants.now ≡ true }
+    requires listed { Lists listed.now (H.cell shelf.old) }
+    ensures ok { OnOk result ((n : List ℕ) → H.cell shelf.new n ≡ brought wants.now n (H.cell shelf.old n)) }
+    ensures err { IfErr result (λ e. LeftAs e (brought wants.now) (H.cell shelf.old) (H.cell shelf.new)) }
+    ensures made { OnOk result (Tells (H.cell shelf.old) → Made wants.now (planned listed.now wants.now (H.cell shelf.old)) (H.cell shelf.old) (H.cell shelf.new) (H.changes shelf.old) (H.changes shelf.new)) }
+    ensures begun { OnErr result (Tells (H.cell shelf.old) → Begun wants.now (planned listed.now wants.now (H.cell shelf.old)) (H.cell shelf.old) (H.cell shelf.new) (H.changes shelf.old) (H.changes shelf.new)) }
+    ensures opened { H.opened shelf.new ≡ H.opened shelf.old }
+    ensures cause { EndsBy (H.fault_count shelf.old) (H.fault_count shelf.new) result }
+{
+    let names = wanted_names(alloc, wants)?;
+    clear(alloc, shelf, listed, &names, wants)?;
+    place(alloc, shelf, wants)
+}
+
+/// Publishes profiles on a shelf on which these names are: first each own name that no profile wants is removed, in
+/// the order of the list, and then each file of theirs is read, and put where its bytes differ. The first call that
+/// fails ends it.
+pub fn publish_until_failure<H: Shelf>(
+    alloc: Global,
+    shelf: &mut H,
+    listed: &[Text],
+    profiles: &[Profile],
+) -> Result<(), PublishError>
+    requires proper { proper (wants_of profiles.now) ≡ true }
+    requires listed { Lists listed.now (H.cell shelf.old) }
+    ensures ok { OnOk result
+        (Stands (published (wants_of profiles.now) [] untouched) (H.cell shelf.old) (H.cell shelf.new)) }
+    ensures err { IfErr result
+        (λ e. Left e (published (wants_of profiles.now) [] untouched) (H.cell shelf.old) (H.cell shelf.new)) }
+    ensures made { OnOk result (Tells (H.cell shelf.old) →
+        Makes (wants_of profiles.now) listed.now (H.cell shelf.old) (H.cell shelf.new)
+        (H.changes shelf.old) (H.changes shelf.new)) }
+    ensures begun { OnErr result (Tells (H.cell shelf.old) →
+        Begins (wants_of profiles.now) listed.now (H.cell shelf.old) (H.cell shelf.new)
+        (H.changes shelf.old) (H.changes shelf.new)) }
+    ensures opened { H.opened shelf.new ≡ H.opened shelf.old }
+    ensures cause { EndsBy (H.fault_count shelf.old) (H.fault_count shelf.new) result }
+{
+    let wants = wants(alloc, profiles)?;
+    bring_all(alloc, shelf, listed, &wants)
+}
