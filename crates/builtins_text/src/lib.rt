@@ -20,6 +20,3 @@ mod writing;
 pub use calling::call;
 pub use forms::MAX_WIDTH;
 pub use names::{Call, find};
-
-#[cfg(test)]
-mod tests;

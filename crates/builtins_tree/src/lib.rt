@@ -19,6 +19,3 @@ mod splicing;
 
 pub use calling::call;
 pub use names::{Call, find};
-
-#[cfg(test)]
-mod tests;

@@ -19,6 +19,3 @@ pub use children::{child_count, copied_children, push_children};
 pub use draft::Draft;
 pub use positions::position_in;
 pub use texts::{string_value, text_value};
-
-#[cfg(test)]
-mod tests;
