@@ -111,7 +111,8 @@ fn text_of(value: &Tree) -> &str
 /// Adds the texts, each behind the separator.
 fn push_rest(draft: &mut Draft, separator: &str, values: &[Tree]) -> Result<(), AllocError>
     ensures { OnOk result ((w : List ℕ) → draft.old ≡ drafted w
-        → draft.new ≡ drafted (w ++ flat_map (λ v. separator.now ++ text_or_nothing v) values.now)) }
+        → draft.new
+        ≡ drafted (w ++ flat_map (λ v. separator.now ++ text_or_nothing v) values.now)) }
 {
     for value in values {
         push_one(draft, separator, text_of(value))?;

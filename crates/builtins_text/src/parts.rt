@@ -45,7 +45,8 @@ fn part_of(alloc: Global, text: &Tree, start: &Tree, len: &Tree) -> Result<Tree,
 }
 
 fn part(alloc: Global, text: &str, start: i64, len: i64) -> Result<Tree, Refused>
-    ensures { Gives (λ t. t) refusal result (substr_of (plain.text text.now ∷ plain.long start ∷ plain.long len ∷ [])) }
+    ensures { Gives (λ t. t) refusal result
+        (substr_of (plain.text text.now ∷ plain.long start ∷ plain.long len ∷ [])) }
 {
     let all = char_count(text);
     let Some(start) = position_in(all, start) else {

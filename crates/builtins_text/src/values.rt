@@ -63,7 +63,8 @@ pub(crate) fn to_string(alloc: Global, args: &[Tree]) -> Result<Tree, Refused>
 
 /// A text as it is, a long in decimal, a boolean by its word.
 pub(crate) fn text_of_value<'a>(value: &'a Tree, buffer: &'a mut Buffer) -> Option<&'a str>
-    ensures { MatchOption result (text_of_value value.now ≡ None) (λ t. text_of_value value.now ≡ Some t.now) }
+    ensures { MatchOption result (text_of_value value.now ≡ None)
+        (λ t. text_of_value value.now ≡ Some t.now) }
 {
     if let Some(text) = value.as_text() {
         return Some(text);

@@ -32,7 +32,8 @@ pub(crate) fn written(alloc: Global, form: Form, value: &Tree) -> Result<String,
 }
 
 fn text_in(alloc: Global, form: Form, value: &Tree) -> Result<String, Refused>
-    ensures { Gives string_bytes refusal result (given BadArgument (text_by form.flag form value.now) Ok) }
+    ensures { Gives string_bytes refusal result
+        (given BadArgument (text_by form.flag form value.now) Ok) }
 {
     match form.flag {
         Flag::Zeros => Err(Refused::BadArgument),
@@ -67,7 +68,8 @@ fn sign_text(number: i64) -> &'static str
 }
 
 fn hexadecimal_in(alloc: Global, form: Form, number: i64) -> Result<String, Refused>
-    ensures { Gives string_bytes refusal result (given BadArgument (hexadecimal_in form number) Ok) }
+    ensures { Gives string_bytes refusal result
+        (given BadArgument (hexadecimal_in form number) Ok) }
 {
     if number < 0 {
         return Err(Refused::BadArgument);
@@ -153,7 +155,8 @@ fn behind(alloc: Global, text: &str, blanks: u64) -> Result<String, AllocError>
 /// Adds a character so many times.
 fn push_times(text: &mut String, character: char, count: u64) -> Result<(), AllocError>
     requires { character < 128 }
-    ensures { OnOk result (string_bytes text.new ≡ string_bytes text.old ++ replicate count character) }
+    ensures { OnOk result
+        (string_bytes text.new ≡ string_bytes text.old ++ replicate count character) }
 {
     for _ in 0..count {
         text.push(character)?;

@@ -3,7 +3,7 @@ use Rattle.std.proofs.Common.{◌≡◌, ℕ, zero, suc, ◌+◌, ◌<◌, ◌�
 use Rattle.std.specs.Prelude.{◌≢◌, not, nat_lt, is_some, IfSome, unwrap_or}
 use Rattle.std.specs.List.{fold, list_all}
 use Rattle.std.proofs.lemmas.List.{append-nil}
-use Rattle.std.proofs.lemmas.Bool.{cond-false, cond-true, ltb-true, lt-ltb}
+use Rattle.std.proofs.lemmas.Bool.{cond-true, ltb-true, lt-ltb}
 use Rattle.base.specs.declared.limits.TheConstants.{MAX_TREE_HEIGHT, MAX_TREE_SIZE}
 use Rattle.path_tree.specs.Children.{child_fields, fields_from}
 use Rattle.path_tree.specs.Find.{child_at, child_count, find_field, key_at, kind_of, text_of, value_at}

@@ -1,15 +1,15 @@
 -- What a search meets at a place of a tree or a text.
-use Rattle.std.proofs.Common.{◌≡◌, ℕ, zero, suc, ◌+◌, ◌<◌, ◌≤◌, ◌^◌, true, false, List, [], ◌∷◌, length, drop, Option, Some, None, Ok, Err, encode_utf8_all, refl, sym, ap, ◌∙◌, arith}
+use Rattle.std.proofs.Common.{◌≡◌, ℕ, zero, suc, ◌+◌, ◌<◌, ◌≤◌, ◌^◌, true, false, List, [], ◌∷◌, length, drop, Some, None, Err, encode_utf8_all, refl, sym, ap, ◌∙◌, arith}
 use Rattle.std.specs.Prelude.{if◌then◌else◌, nat_eq}
 use Rattle.std.specs.List.{slice_get, starts_with}
 use Rattle.std.specs.Str.{chars, IsUtf8}
 use Rattle.std.proofs.lemmas.Bool.{cond-false, cond-true}
 use Rattle.std.proofs.lemmas.Option.{same_Some}
 use Rattle.std.proofs.lemmas.Str.{encodes-chars, length-le-encodes}
-use Rattle.base.specs.declared.limits.TheConstants.{MAX_TEXT_BYTES, MAX_TREE_SIZE}
+use Rattle.base.specs.declared.limits.TheConstants.{MAX_TEXT_BYTES}
 use Rattle.path_tree.specs.Children.{child_fields, fields_from}
 use Rattle.path_tree.specs.Find.{child_at, child_count, field_count, item_count, key_at, kind_of}
-use Rattle.path_tree.specs.Plain.{Plain, dict, list, text, long, boolean, undef, null, Fields, no_fields, field, Items, no_items, item, IsTree, tree_size, tree_height, fields_size, items_size}
+use Rattle.path_tree.specs.Plain.{Plain, dict, list, text, long, boolean, undef, null, Fields, no_fields, field, Items, no_items, item, IsTree, tree_size, fields_size, items_size}
 use Rattle.path_tree.specs.Same.{same_tree}
 use Rattle.path_tree.specs.Values.{text_value}
 use Rattle.path_tree.specs.declared.kind.Kind.TheVariants as kind

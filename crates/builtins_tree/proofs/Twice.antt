@@ -1,6 +1,6 @@
 -- Keys that stand twice.
-use Rattle.std.proofs.Common.{◌≡◌, ◌+◌, ◌-◌, ◌<◌, ◌≤◌, ℕ, suc, zero, Bool, true, false, List, [], ◌∷◌, length, drop, ◌&&◌, ◌||◌, refl, sym, ap, ◌∙◌, arith}
-use Rattle.std.specs.Prelude.{not, bytes_eq, cond, slice_index_or}
+use Rattle.std.proofs.Common.{◌≡◌, ℕ, suc, zero, Bool, true, false, List, [], ◌∷◌, drop, ◌&&◌, ◌||◌, refl}
+use Rattle.std.specs.Prelude.{not, bytes_eq, cond}
 use Rattle.builtins_tree.specs.declared.pairs.Pair.{Pair}
 use Rattle.builtins_tree.specs.Merges.{are_distinct, is_among}
 

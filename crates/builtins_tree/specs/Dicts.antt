@@ -1,5 +1,5 @@
 -- The row of `dict`.
-use Rattle.std.specs.Prelude.{Bool, true, false, not, ◌&&◌, ℕ, List, [], ◌∷◌, Result, Err, is_some, unwrap_or, if◌then◌else◌}
+use Rattle.std.specs.Prelude.{Bool, true, false, not, ◌&&◌, List, [], ◌∷◌, Result, Err, is_some, unwrap_or, if◌then◌else◌}
 use Rattle.std.specs.List.{list_all}
 use Rattle.path_tree.specs.Find.{find_field, text_of}
 use Rattle.path_tree.specs.Grammar.{is_key}

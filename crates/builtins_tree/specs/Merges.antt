@@ -1,9 +1,9 @@
 -- The row of `merge`.
-use Rattle.std.specs.Prelude.{Bool, true, false, not, ◌&&◌, ℕ, List, [], ◌∷◌, Result, Err, bytes_eq, if◌then◌else◌}
+use Rattle.std.specs.Prelude.{Bool, true, not, ◌&&◌, ℕ, List, [], ◌∷◌, Result, Err, bytes_eq, if◌then◌else◌}
 use Rattle.std.specs.List.{flat_map, fold, list_all, list_any}
 use Rattle.path_tree.specs.Find.{kind_of}
 use Rattle.path_tree.specs.Lists.{list_of, within_limits}
-use Rattle.path_tree.specs.Plain.{Plain, dict, list, Fields, no_fields, field}
+use Rattle.path_tree.specs.Plain.{Plain, dict, Fields, no_fields, field}
 use Rattle.path_tree.specs.declared.refused.Refused.{Refused}
 use Rattle.path_tree.specs.declared.refused.Refused.TheVariants.{BadArgument}
 use Rattle.call_values.specs.Children.{children}

@@ -1,5 +1,5 @@
 -- The row of `splice`.
-use Rattle.std.specs.Prelude.{ℕ, ◌+◌, ◌-◌, ℤ, List, [], ◌∷◌, ◌++◌, take, drop, length, Option, Some, None, option_and_then, option_map, Result, Err, encode_utf8_all}
+use Rattle.std.specs.Prelude.{ℕ, ◌+◌, ◌-◌, ℤ, List, [], ◌∷◌, ◌++◌, take, drop, length, Option, option_and_then, option_map, Result, Err, encode_utf8_all}
 use Rattle.std.specs.Str.{chars}
 use Rattle.base.specs.Answers.{given}
 use Rattle.path_tree.specs.Lists.{items_in, list_of}

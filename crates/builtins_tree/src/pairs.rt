@@ -22,8 +22,8 @@ pub(crate) struct Pair {
 }
 
 /// The dict of pairs, in which a later pair replaces one before it with its key. The last is put
-/// first, so that each dict on the way is a part of the whole. `TooLarge` exactly where the whole is
-/// larger than `MAX_TREE_SIZE` or higher than `MAX_TREE_HEIGHT`.
+/// first, so that each dict on the way is a part of the whole. `TooLarge` exactly where the whole
+/// is larger than `MAX_TREE_SIZE` or higher than `MAX_TREE_HEIGHT`.
 pub(crate) fn dict_of_pairs(alloc: Global, pairs: &[Pair]) -> Result<Tree, Refused>
     requires { list_all has_value pairs.now ≡ true }
     ensures { Gives (λ t. t) refusal result (dict_of_pairs pairs.now) }

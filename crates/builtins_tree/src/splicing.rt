@@ -35,7 +35,8 @@ pub(crate) fn splice(alloc: Global, args: &[Tree]) -> Result<Tree, Refused>
 }
 
 fn cut(alloc: Global, x: &Tree, start: i64, count: i64) -> Result<Tree, Refused>
-    ensures { Gives (λ t. t) refusal result (splice_of (x.now ∷ plain.long start ∷ plain.long count ∷ [])) }
+    ensures { Gives (λ t. t) refusal result
+        (splice_of (x.now ∷ plain.long start ∷ plain.long count ∷ [])) }
 {
     if let Some(text) = x.as_text() {
         return cut_text(alloc, text, start, count);
@@ -57,7 +58,8 @@ fn cut_text(alloc: Global, text: &str, start: i64, count: i64) -> Result<Tree, R
 }
 
 fn changed(alloc: Global, x: &Tree, start: i64, count: i64, y: &Tree) -> Result<Tree, Refused>
-    ensures { Gives (λ t. t) refusal result (splice_of (x.now ∷ plain.long start ∷ plain.long count ∷ y.now ∷ [])) }
+    ensures { Gives (λ t. t) refusal result
+        (splice_of (x.now ∷ plain.long start ∷ plain.long count ∷ y.now ∷ [])) }
 {
     if let (Some(text), Some(other)) = (x.as_text(), y.as_text()) {
         return splice_text(alloc, text, start, count, other);
@@ -75,7 +77,8 @@ fn splice_list(
     count: i64,
     other: &Tree,
 ) -> Result<Tree, Refused>
-    ensures { Gives (λ t. t) refusal result (spliced_list (children list.now) start count (children other.now)) }
+    ensures { Gives (λ t. t) refusal result
+        (spliced_list (children list.now) start count (children other.now)) }
 {
     let Some(part) = part_in(child_count(list), start, count) else {
         return Err(Refused::BadIndex);
@@ -91,7 +94,8 @@ fn splice_text(
     count: i64,
     other: &str,
 ) -> Result<Tree, Refused>
-    ensures { Gives (λ t. t) refusal result (spliced_text (chars text.now) start count (chars other.now)) }
+    ensures { Gives (λ t. t) refusal result
+        (spliced_text (chars text.now) start count (chars other.now)) }
 {
     let Some(part) = part_in(char_count(text), start, count) else {
         return Err(Refused::BadIndex);
@@ -117,7 +121,8 @@ fn spliced_text(
     other: &str,
 ) -> Result<String, AllocError>
     requires { part.0 + part.1 ≤ length (chars text.now) }
-    ensures { IfOk result (λ t. string_bytes t ≡ encode_utf8_all (replaced part (chars other.now) (chars text.now))) }
+    ensures { IfOk result (λ t. string_bytes t
+        ≡ encode_utf8_all (replaced part (chars other.now) (chars text.now))) }
 {
     let (start, removed) = part;
     let all = char_count(text);

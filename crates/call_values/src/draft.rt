@@ -39,7 +39,8 @@ impl Draft {
     /// Adds a piece at the end.
     #[tactic(auto, using(crate::proofs::Drafting::kept_over, crate::proofs::Drafting::passes_over, crate::proofs::Drafting::grows))]
     pub fn push(&mut self, more: &str) -> Result<(), AllocError>
-        ensures { OnOk result ((w : List ℕ) → self.old ≡ drafted w → self.new ≡ drafted (w ++ more.now)) }
+        ensures { OnOk result ((w : List ℕ) → self.old ≡ drafted w
+            → self.new ≡ drafted (w ++ more.now)) }
     {
         if self.over {
             return Ok(());

@@ -3,7 +3,8 @@
 //!
 //! In reading order: `arguments` (the arguments of a call by their count), `positions` (a position
 //! in a text or a list), `characters` (parts of a text by characters), `texts` (a text as a value),
-//! `draft` (a text that is put together), `children` (the items of a list and the values of a dict).
+//! `draft` (a text that is put together), `children` (the items of a list and the values of a
+//! dict).
 #![tactic(auto)]
 
 mod arguments;

@@ -1,4 +1,4 @@
-use Rattle.std.proofs.Common.{ℕ, suc, List, take, drop}
+use Rattle.std.proofs.Common.{suc, take, drop}
 use Rattle.builtins_tree.specs.Merges.{fields_in_turn}
 use Rattle.builtins_tree.proofs.Builds.{parted, turn_refused}
 use Rattle.builtins_tree.proofs.pairs.dict_in_turn.Goals as goal
