@@ -51,7 +51,7 @@ with_change terms value tree =
 
 -- the whole tree is a dict
 abbrev pub is_no_root : List Term → Plain → Bool
-is_no_root [] (dict fields) = false
+is_no_root [] (dict fs) = false
 is_no_root [] value = true
 is_no_root (t ∷ terms) value = false
 
