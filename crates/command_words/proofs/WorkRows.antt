@@ -1,0 +1,62 @@
+-- Written values of options.
+use Rattle.std.proofs.Common.{◌≡◌, ℕ, List, [], ◌∷◌, Option, Some, None, refl, codes}
+use Rattle.command_words.specs.Commands.{limit_of, directories_of}
+use Rattle.command_words.specs.declared.limits.TheConstants.{MAX_ITERATIONS, DEFAULT_ITERATIONS, MAX_RECURSION, DEFAULT_RECURSION}
+
+abbrev recursion : List ℕ → Option ℕ
+recursion text = limit_of MAX_RECURSION DEFAULT_RECURSION (Some text)
+
+not_given : limit_of MAX_ITERATIONS DEFAULT_ITERATIONS None ≡ Some 10000
+not_given = refl
+
+largest : limit_of MAX_ITERATIONS DEFAULT_ITERATIONS (Some (codes "1000000")) ≡ Some 1000000
+largest = refl
+
+too_large : limit_of MAX_ITERATIONS DEFAULT_ITERATIONS (Some (codes "1000001")) ≡ None
+too_large = refl
+
+deepest : recursion (codes "200") ≡ Some 200
+deepest = refl
+
+too_deep : recursion (codes "201") ≡ None
+too_deep = refl
+
+zero_is_none : recursion (codes "0") ≡ None
+zero_is_none = refl
+
+leading_zero : recursion (codes "01") ≡ None
+leading_zero = refl
+
+with_sign : recursion (codes "+1") ≡ None
+with_sign = refl
+
+no_digits : recursion [] ≡ None
+no_digits = refl
+
+-- without a list, and with a dot alone, it is the empty directory
+no_list : directories_of None ≡ Some ([] ∷ [])
+no_list = refl
+
+dot : directories_of (Some (codes ".")) ≡ Some ([] ∷ [])
+dot = refl
+
+several : directories_of (Some (codes "a:.:b/c")) ≡ Some (codes "a" ∷ [] ∷ codes "b/c" ∷ [])
+several = refl
+
+dashed : directories_of (Some (codes "-x")) ≡ Some (codes "-x" ∷ [])
+dashed = refl
+
+empty_list : directories_of (Some []) ≡ None
+empty_list = refl
+
+empty_part : directories_of (Some (codes "a::b")) ≡ None
+empty_part = refl
+
+empty_end : directories_of (Some (codes "a:")) ≡ None
+empty_end = refl
+
+hidden : directories_of (Some (codes ".a")) ≡ None
+hidden = refl
+
+rooted : directories_of (Some (codes "/a")) ≡ None
+rooted = refl

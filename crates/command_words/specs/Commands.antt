@@ -1,0 +1,76 @@
+-- What the values of the words say, for `build` and `watch`.
+use Rattle.std.specs.Prelude.{ℕ, ◌==◌, Bool, List, [], ◌∷◌, Option, Some, None, ◌&&◌, ◌||◌, if◌then◌else◌, nat_le, nat_lt, length, map, bytes_eq, codes}
+use Rattle.std.specs.List.{list_all, slice_split}
+use Rattle.load_path.specs.FileNames.{is_file_name}
+use Rattle.numbers.specs.Numbers.{number_of}
+use Rattle.command_words.specs.declared.commands.Work.{Work}
+use Rattle.command_words.specs.declared.limits.TheConstants.{MAX_PARTS, MAX_ITERATIONS, DEFAULT_ITERATIONS, MAX_RECURSION, DEFAULT_RECURSION}
+use Rattle.command_words.specs.declared.words.Words.{Words}
+
+-- a number in decimal digits without a leading zero, from low to high
+abbrev pub within : ℕ → ℕ → Option ℕ → Option ℕ
+within low high None = None
+within low high (Some n) = if nat_le low n && nat_le n high then Some n else None
+
+abbrev pub number_within : ℕ → ℕ → List ℕ → Option ℕ
+number_within low high text = within low high (number_of text)
+
+-- the value of an option that is a number: from 1 to a limit, where it is given
+abbrev pub limit_of : ℕ → ℕ → Option (List ℕ) → Option ℕ
+limit_of high default None = Some default
+limit_of high default (Some text) = number_within 1 high text
+
+-- a part of LIST is `.`, which means the empty directory, or a file name
+abbrev pub is_dot : List ℕ → Bool
+is_dot part = bytes_eq part (codes ".")
+
+abbrev pub is_part : List ℕ → Bool
+is_part part = is_dot part || is_file_name part
+
+abbrev pub directory_of : List ℕ → List ℕ
+directory_of part = if is_dot part then [] else part
+
+-- LIST is 1 to 100 parts joined by `:`
+abbrev pub parts_of : List ℕ → List (List ℕ)
+parts_of text = slice_split (λ c. c == 58) text
+
+abbrev pub are_parts : List (List ℕ) → Bool
+are_parts parts = nat_le (length parts) MAX_PARTS && list_all is_part parts
+
+abbrev pub directories_among : List (List ℕ) → Option (List (List ℕ))
+directories_among parts = if are_parts parts then Some (map directory_of parts) else None
+
+-- the empty directory alone, unless given
+abbrev pub directories_of : Option (List ℕ) → Option (List (List ℕ))
+directories_of None = Some ([] ∷ [])
+directories_of (Some text) = directories_among (parts_of text)
+
+-- SOURCE and OUT are not empty
+abbrev pub filled : Option (List ℕ) → Option (List ℕ)
+filled None = None
+filled (Some text) = if nat_lt 0 (length text) then Some text else None
+
+abbrev pub work_with : Option (List ℕ) → Option (List ℕ) → Option (List (List ℕ)) → Option ℕ → Option ℕ → Option Work
+work_with None out directories iterations recursion = None
+work_with (Some source) None directories iterations recursion = None
+work_with (Some source) (Some out) None iterations recursion = None
+work_with (Some source) (Some out) (Some directories) None recursion = None
+work_with (Some source) (Some out) (Some directories) (Some iterations) None = None
+work_with (Some source) (Some out) (Some directories) (Some iterations) (Some recursion) = Some (record {
+  source = source;
+  out = out;
+  directories = directories;
+  iterations = iterations;
+  recursion = recursion;
+})
+
+abbrev pub iterations_of : Words → Option ℕ
+iterations_of w = limit_of MAX_ITERATIONS DEFAULT_ITERATIONS w.iteration
+
+abbrev pub recursion_of : Words → Option ℕ
+recursion_of w = limit_of MAX_RECURSION DEFAULT_RECURSION w.recursion
+
+-- what `build` and `watch` work on
+abbrev pub work_of : Words → Option Work
+work_of w =
+    work_with (filled w.source) (filled w.out) (directories_of w.include) (iterations_of w) (recursion_of w)
