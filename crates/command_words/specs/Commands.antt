@@ -50,19 +50,21 @@ abbrev pub filled : Option (List ℕ) → Option (List ℕ)
 filled None = None
 filled (Some text) = if nat_lt 0 (length text) then Some text else None
 
-abbrev pub work_with : Option (List ℕ) → Option (List ℕ) → Option (List (List ℕ)) → Option ℕ → Option ℕ → Option Work
+abbrev pub work_with : Option (List ℕ) → Option (List ℕ) → Option (List (List ℕ)) → Option ℕ
+    → Option ℕ → Option Work
 work_with None out directories iterations recursion = None
 work_with (Some source) None directories iterations recursion = None
 work_with (Some source) (Some out) None iterations recursion = None
 work_with (Some source) (Some out) (Some directories) None recursion = None
 work_with (Some source) (Some out) (Some directories) (Some iterations) None = None
-work_with (Some source) (Some out) (Some directories) (Some iterations) (Some recursion) = Some (record {
-  source = source;
-  out = out;
-  directories = directories;
-  iterations = iterations;
-  recursion = recursion;
-})
+work_with (Some source) (Some out) (Some directories) (Some iterations) (Some recursion) =
+    Some (record {
+      source = source;
+      out = out;
+      directories = directories;
+      iterations = iterations;
+      recursion = recursion;
+    })
 
 abbrev pub iterations_of : Words → Option ℕ
 iterations_of w = limit_of MAX_ITERATIONS DEFAULT_ITERATIONS w.iteration
@@ -73,4 +75,5 @@ recursion_of w = limit_of MAX_RECURSION DEFAULT_RECURSION w.recursion
 -- what `build` and `watch` work on
 abbrev pub work_of : Words → Option Work
 work_of w =
-    work_with (filled w.source) (filled w.out) (directories_of w.include) (iterations_of w) (recursion_of w)
+    work_with (filled w.source) (filled w.out) (directories_of w.include) (iterations_of w)
+    (recursion_of w)

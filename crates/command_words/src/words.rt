@@ -78,7 +78,8 @@ fn value(alloc: Global, matches: &ArgMatches<'_>, id: &str) -> Result<Option<Tex
 }
 
 fn values(alloc: Global, matches: &ArgMatches<'_>) -> Result<Words, AllocError>
-    ensures { IfOk result (λ words. words ≡ words_by (λ id. first_value (found_of matches.now) id)) }
+    ensures { IfOk result (λ words. words ≡ words_by
+        (λ id. first_value (found_of matches.now) id)) }
 {
     Ok(Words {
         mode: value(alloc, matches, "mode")?,

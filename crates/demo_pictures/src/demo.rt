@@ -101,7 +101,8 @@ fn fixed_picture(alloc: Global) -> Result<Picture, AllocError>
 }
 
 fn add_machine(alloc: Global, picture: &mut Picture, i: u64, port: u64) -> Result<(), AllocError>
-    ensures { OnOk result (picture.new ≡ with_text picture.old (machine_name i) (machine_text i port)) }
+    ensures { OnOk result (picture.new ≡ with_text picture.old (machine_name i)
+        (machine_text i port)) }
 {
     let name = machine_name(alloc, i)?;
     let text = machine_text(alloc, i, port)?;

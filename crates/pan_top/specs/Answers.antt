@@ -28,8 +28,8 @@ object_with (Some n) content.TooLong = None
 object_with (Some n) (content.Bytes text) =
     if is_name n && is_object text then Some (record { name = n; text = text }) else None
 
--- The object that a file is the template of: NAME of `NAME.pan`, where NAME is a template name and the text
--- begins as an object template.
+-- The object that a file is the template of: NAME of `NAME.pan`, where NAME is a template name and
+-- the text begins as an object template.
 abbrev pub object_of : PictureFile → Option Object
 object_of f = object_with (stem_of f.name) f.content
 
@@ -38,7 +38,8 @@ is_object_file f = is_some (object_of f)
 
 abbrev pub with_object : Option Object → List (List ℕ × Outcome) → List (List ℕ × Outcome)
 with_object None outcomes = outcomes
-with_object (Some o) outcomes = insert_entry (slice_cmp nat_cmp) outcomes o.name (outcome_of o.name o.text)
+with_object (Some o) outcomes =
+    insert_entry (slice_cmp nat_cmp) outcomes o.name (outcome_of o.name o.text)
 
 -- the outcomes with that of the object of this file, in byte order of names
 abbrev pub with_outcome : List (List ℕ × Outcome) → PictureFile → List (List ℕ × Outcome)

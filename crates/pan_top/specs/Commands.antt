@@ -22,11 +22,13 @@ has_option w = is_some w.include || is_some w.iteration || is_some w.recursion
 
 -- MODE is `build`, SOURCE and OUT are not empty
 abbrev pub is_build : Words → Bool
-is_build w = is_word (codes "build") w.mode && is_filled w.source && is_filled w.out && not (has_option w)
+is_build w =
+    is_word (codes "build") w.mode && is_filled w.source && is_filled w.out && not (has_option w)
 
 abbrev pub folders_of : Option Words → Option Folders
 folders_of None = None
-folders_of (Some w) = if is_build w then Some (record { source = given w.source; out = given w.out }) else None
+folders_of (Some w) =
+    if is_build w then Some (record { source = given w.source; out = given w.out }) else None
 
 -- the folders that the words name, or None where they are no command
 unfoldable pub command_of : List (List ℕ) → Option Folders

@@ -30,7 +30,8 @@ objects_of e = map name_of (answers_of e.picture)
 -- each object is run at each take
 abbrev pub cause_of : Compiled → List ℕ → List ℕ
 cause_of e name =
-    if list_any (λ n. bytes_eq n name) (objects_of e) then codes "no record\n" else codes "no object\n"
+    if list_any (λ n. bytes_eq n name) (objects_of e) then codes "no record\n"
+    else codes "no object\n"
 
 abbrev pub compiler : Machine Compiled
 compiler = record {

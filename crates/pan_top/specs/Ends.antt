@@ -58,15 +58,17 @@ IsEndOf caller e = IfSome (caller_of e) (λ c. c ≡ caller)
 abbrev pub IsRoundEnd : End → Type 0
 IsRoundEnd e = IfSome (caller_of e) (λ c. (c ≡ OfName) ⊎ (c ≡ OfSink))
 
--- the count didn't fall; it rose where the call ended with this status, and is as before where it succeeded
-pub record Caused {T : Type 0} (status : Status) (before now : ℕ) (result : Result T End) : Type 0 where
-  pub later : before ≤ now
-  pub rose : IfErr result (λ e. status_of e ≡ status → Rose before now)
-  pub done : OnOk result (now ≡ before)
+-- the count didn't fall; it rose where the call ended with this status, and is as before where it
+-- succeeded
+pub record Caused {T : Type 0} (status : Status) (before now : ℕ) (result : Result T End) : Type 0
+  where
+    pub later : before ≤ now
+    pub rose : IfErr result (λ e. status_of e ≡ status → Rose before now)
+    pub done : OnOk result (now ≡ before)
 
--- What stands on the shelf after an end. Before a publication it is as it was; where a name's call failed, the
--- files of that object are open; where the text could not be written, the publication was done; where memory
--- was wanting, one name is open.
+-- What stands on the shelf after an end. Before a publication it is as it was; where a name's call
+-- failed, the files of that object are open; where the text could not be written, the publication
+-- was done; where memory was wanting, one name is open.
 abbrev pub Stopped : End → (List ℕ → Stand) → (List ℕ → Cell) → (List ℕ → Cell) → Type 0
 Stopped E.Source shelf old new = AreSame old new
 Stopped E.Shelf shelf old new = AreSame old new

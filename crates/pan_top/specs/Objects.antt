@@ -30,10 +30,14 @@ literal_tree (literal.Text text) =
 literal_tree (literal.Long z) = Ok (plain.long z)
 literal_tree (literal.Boolean b) = Ok (plain.boolean b)
 
--- The fault of a refused assignment, at its statement: a path that does not fit, with the path as written, or a
--- value that makes the tree too large or too high.
+-- The fault of a refused assignment, at its statement: a path that does not fit, with the path as
+-- written, or a value that makes the tree too large or too high.
 abbrev pub path_fault : Assignment → Fault
-path_fault a = record { code = code.BadPath; place = a.place; detail = first_chars MAX_DETAIL_CHARACTERS a.path }
+path_fault a = record {
+  code = code.BadPath;
+  place = a.place;
+  detail = first_chars MAX_DETAIL_CHARACTERS a.path;
+}
 
 abbrev pub size_fault : Assignment → Fault
 size_fault a = record { code = code.TooLarge; place = a.place; detail = [] }
@@ -78,10 +82,15 @@ tree_of_read (Err place) tree = Err (not_built place)
 
 -- a template with another name than the one that it was found by
 abbrev pub wrong_template : List ℕ → Place → Fault
-wrong_template name place = record { code = code.WrongTemplate; place = place; detail = first_chars MAX_DETAIL_CHARACTERS name }
+wrong_template name place = record {
+  code = code.WrongTemplate;
+  place = place;
+  detail = first_chars MAX_DETAIL_CHARACTERS name;
+}
 
 abbrev pub tree_of_template : List ℕ → Template → Result Plain Fault
-tree_of_template name z = if bytes_eq z.name name then tree_of_read (assignments z.statements) (dict no_fields) else Err (wrong_template name z.name_place)
+tree_of_template name z = if bytes_eq z.name name then tree_of_read (assignments z.statements)
+    (dict no_fields) else Err (wrong_template name z.name_place)
 
 abbrev pub tree_of_parsed : List ℕ → Result Template Fault → Result Plain Fault
 tree_of_parsed name (Ok z) = tree_of_template name z

@@ -42,18 +42,21 @@ build_of answers = record {
 
 abbrev pub round_of : List PictureFile → Session
 round_of picture =
-    if nat_lt MAX_OBJECTS (count_by is_object_file picture) then too_much else build_of (answers_of picture)
+    if nat_lt MAX_OBJECTS (count_by is_object_file picture) then too_much
+    else build_of (answers_of picture)
 
 abbrev pub scanned_session : Option (List PictureFile) → Session
 scanned_session None = too_much
 scanned_session (Some picture) = round_of picture
 
 -- a publication was made, or begun, over these names; where there is none, nothing was done
-abbrev pub MadeOver : Option (List Want) → List (List ℕ) → (List ℕ → Cell) → (List ℕ → Cell) → Option (List Change) → Option (List Change) → Type 0
+abbrev pub MadeOver : Option (List Want) → List (List ℕ) → (List ℕ → Cell) → (List ℕ → Cell)
+    → Option (List Change) → Option (List Change) → Type 0
 MadeOver None names old new before now = (now ≡ before) × AreSame old new
 MadeOver (Some ws) names old new before now = Makes ws names old new before now
 
-abbrev pub BegunOver : Option (List Want) → List (List ℕ) → (List ℕ → Cell) → (List ℕ → Cell) → Option (List Change) → Option (List Change) → Type 0
+abbrev pub BegunOver : Option (List Want) → List (List ℕ) → (List ℕ → Cell) → (List ℕ → Cell)
+    → Option (List Change) → Option (List Change) → Type 0
 BegunOver None names old new before now = (now ≡ before) × AreSame old new
 BegunOver (Some ws) names old new before now = Begins ws names old new before now
 

@@ -1,4 +1,5 @@
--- The session of a call, by the words and the pictures that the source has to give, and how a call ends.
+-- The session of a call, by the words and the pictures that the source has to give, and how a call
+-- ends.
 use Rattle.std.specs.Prelude.{◌≡◌, ◌≤◌, ℕ, List, [], Option, Some, None, if◌then◌else◌, codes, option_map, ◌⊎◌}
 use Rattle.outside.specs.Cells.{Cell, AreSame}
 use Rattle.outside.specs.Contents.{Appends, AppendsPart}
@@ -18,8 +19,8 @@ use Rattle.pan_top.specs.declared.status.End.TheVariants as E
 use Rattle.pan_top.specs.declared.status.Status.{Status}
 use Rattle.pan_top.specs.declared.status.Status.TheVariants.{Clean, SomeFaults, Usage, SourceFault, ShelfFault, OutFault, Memory, NumbersSpent, TooMuch}
 
--- what is written, the status, what stands under each name of the shelf, and what profiles want there, where there is
--- a publication
+-- what is written, the status, what stands under each name of the shelf, and what profiles want
+-- there, where there is a publication
 pub record Session : Type 0 where
   pub text : List ℕ
   pub status : Status
@@ -52,7 +53,8 @@ session_of words pictures =
     else line_alone (codes "usage fault\n") Usage
 
 -- the session came to its end: its text is written, and the shelf is the session's
-pub record Finished (s : Session) (reached : Status) (held_old held_new : Option (List ℕ)) (old new : List ℕ → Cell) : Type 0 where
+pub record Finished (s : Session) (reached : Status) (held_old held_new : Option (List ℕ))
+    (old new : List ℕ → Cell) : Type 0 where
   pub status : s.status ≡ reached
   pub text : Appends held_old s.text held_new
   pub shelf : Stands s.shelf old new
@@ -65,8 +67,8 @@ WritesEarly text E.Source old new = new ≡ old
 WritesEarly text E.Shelf old new = new ≡ old
 WritesEarly text (E.Publishing m) old new = new ≡ old
 
--- What is written in all, by the status: the line of the end; or, where a write failed or memory was wanting, a
--- first part of the session's text or of the line.
+-- What is written in all, by the status: the line of the end; or, where a write failed or memory
+-- was wanting, a first part of the session's text or of the line.
 abbrev pub Says : List ℕ → Status → End → Option (List ℕ) → Option (List ℕ) → Type 0
 Says text SourceFault e old new = (status_of e ≡ SourceFault) × Appends old (line_of e) new
 Says text ShelfFault e old new = (status_of e ≡ ShelfFault) × Appends old (line_of e) new
@@ -78,8 +80,8 @@ Says text _ e old new = ⊥
 abbrev pub IsPassed : Option (List (List MemFile)) → Option (List (List MemFile)) → Type 0
 IsPassed old new = new ≡ option_map later_pictures old
 
--- The pictures that are still to come, where a run ends early. Before the shelf was listed none was taken; a
--- publication comes after a scan.
+-- The pictures that are still to come, where a run ends early. Before the shelf was listed none was
+-- taken; a publication comes after a scan.
 abbrev pub TakesEarly : End → Option (List (List MemFile)) → Option (List (List MemFile)) → Type 0
 TakesEarly E.Shelf old new = new ≡ old
 TakesEarly (E.Publishing m) old new = IsPassed old new
@@ -88,14 +90,17 @@ TakesEarly E.Out old new = (new ≡ old) ⊎ IsPassed old new
 TakesEarly E.Memory old new = (new ≡ old) ⊎ IsPassed old new
 
 -- the run ended before its session, by this end
-pub record Broken (s : Session) (reached : Status) (held_old held_new : Option (List ℕ)) (coming_old coming_new : Option (List (List MemFile))) (old new : List ℕ → Cell) : Type 0 where
+pub record Broken (s : Session) (reached : Status) (held_old held_new : Option (List ℕ))
+    (coming_old coming_new : Option (List (List MemFile))) (old new : List ℕ → Cell) : Type 0 where
   pub end : End
   pub pictures : TakesEarly end coming_old coming_new
   pub shelf : Stopped end s.shelf old new
   pub text : Says s.text reached end held_old held_new
 
 -- how a call with this session ends, by its status
-abbrev pub Comes : Session → Status → Option (List ℕ) → Option (List ℕ) → Option (List (List MemFile)) → Option (List (List MemFile)) → (List ℕ → Cell) → (List ℕ → Cell) → Type 0
+abbrev pub Comes : Session → Status → Option (List ℕ) → Option (List ℕ)
+    → Option (List (List MemFile)) → Option (List (List MemFile)) → (List ℕ → Cell)
+    → (List ℕ → Cell) → Type 0
 Comes s SourceFault held_old held_new coming_old coming_new old new =
     Broken s SourceFault held_old held_new coming_old coming_new old new
 Comes s ShelfFault held_old held_new coming_old coming_new old new =
@@ -104,24 +109,28 @@ Comes s OutFault held_old held_new coming_old coming_new old new =
     Broken s OutFault held_old held_new coming_old coming_new old new
 Comes s Memory held_old held_new coming_old coming_new old new =
     Broken s Memory held_old held_new coming_old coming_new old new
-Comes s status held_old held_new coming_old coming_new old new = Finished s status held_old held_new old new
+Comes s status held_old held_new coming_old coming_new old new =
+    Finished s status held_old held_new old new
 
--- A session came to its end: all changes of its publication were made, over the names on the shelf in byte order,
--- and no other; without a publication nothing was done.
-abbrev pub Publishes : Option (List Want) → (List ℕ → Cell) → (List ℕ → Cell) → Option (List Change) → Option (List Change) → Type 0
+-- A session came to its end: all changes of its publication were made, over the names on the shelf
+-- in byte order, and no other; without a publication nothing was done.
+abbrev pub Publishes : Option (List Want) → (List ℕ → Cell) → (List ℕ → Cell) → Option (List Change)
+    → Option (List Change) → Type 0
 Publishes None old new before now = (now ≡ before) × AreSame old new
 Publishes (Some ws) old new before now =
     (names : List (List ℕ)) × AreListed names old × Makes ws names old new before now
 
 -- It ended early: nothing was done, or a first part of those changes.
-abbrev pub PublishesPart : Option (List Want) → (List ℕ → Cell) → (List ℕ → Cell) → Option (List Change) → Option (List Change) → Type 0
+abbrev pub PublishesPart : Option (List Want) → (List ℕ → Cell) → (List ℕ → Cell)
+    → Option (List Change) → Option (List Change) → Type 0
 PublishesPart None old new before now = (now ≡ before) × AreSame old new
 PublishesPart (Some ws) old new before now =
     ((now ≡ before) × AreSame old new)
     ⊎ ((names : List (List ℕ)) × AreListed names old × Begins ws names old new before now)
 
 -- what was done to the shelf, by the status: the whole publication, or a first part of it
-abbrev pub IsInOrder : Status → Option (List Want) → (List ℕ → Cell) → (List ℕ → Cell) → Option (List Change) → Option (List Change) → Type 0
+abbrev pub IsInOrder : Status → Option (List Want) → (List ℕ → Cell) → (List ℕ → Cell)
+    → Option (List Change) → Option (List Change) → Type 0
 IsInOrder SourceFault ws old new before now = PublishesPart ws old new before now
 IsInOrder ShelfFault ws old new before now = PublishesPart ws old new before now
 IsInOrder OutFault ws old new before now = PublishesPart ws old new before now
@@ -155,8 +164,8 @@ Takes _ old new = IsPassed old new
 abbrev pub IsPerhapsOpened : List ℕ → Option (List ℕ) → Option (List ℕ) → Type 0
 IsPerhapsOpened folder old new = (new ≡ old) ⊎ (new ≡ Some folder)
 
--- What a device was opened at, by the status: the folder that the words name; where the run ended early, this or
--- what it was opened at before.
+-- What a device was opened at, by the status: the folder that the words name; where the run ended
+-- early, this or what it was opened at before.
 abbrev pub IsOpened : Status → List ℕ → Option (List ℕ) → Option (List ℕ) → Type 0
 IsOpened Usage folder old new = new ≡ old
 IsOpened SourceFault folder old new = IsPerhapsOpened folder old new
@@ -165,7 +174,8 @@ IsOpened OutFault folder old new = IsPerhapsOpened folder old new
 IsOpened Memory folder old new = IsPerhapsOpened folder old new
 IsOpened _ folder old new = new ≡ Some folder
 
--- A device's count of faults, by the status: as before where the session came to its end, and never less.
+-- A device's count of faults, by the status: as before where the session came to its end, and never
+-- less.
 abbrev pub IsCounted : Status → ℕ → ℕ → Type 0
 IsCounted SourceFault before now = before ≤ now
 IsCounted ShelfFault before now = before ≤ now

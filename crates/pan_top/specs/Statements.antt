@@ -37,7 +37,8 @@ is_key_term (term.Index index) = false
 
 -- the keys of an absolute path of 1 to 50 keys
 abbrev pub built_terms : Anchor → List Term → Option (List Term)
-built_terms anchor.Absolute terms = if nat_le 1 (length terms) && nat_le (length terms) 50 && list_all is_key_term terms then Some terms else None
+built_terms anchor.Absolute terms = if nat_le 1 (length terms) && nat_le (length terms) 50
+    && list_all is_key_term terms then Some terms else None
 built_terms anchor.Relative terms = None
 built_terms (anchor.External name) terms = None
 
@@ -55,11 +56,13 @@ Read A = Result A Place
 abbrev pub set_to : Place → List ℕ → Option (List Term) → Option Literal → Place → Read Assignment
 set_to place path None value at = Err place
 set_to place path (Some terms) None at = Err at
-set_to place path (Some terms) (Some v) at = Ok (record { place = place; path = path; terms = terms; value = v })
+set_to place path (Some terms) (Some v) at =
+    Ok (record { place = place; path = path; terms = terms; value = v })
 
 -- PATH = LITERAL ;
 abbrev pub built_form : Place → StatementForm → Read Assignment
-built_form place (trees.Assign last path conditional item) = if last || conditional then Err place else set_to place path (path_terms path) (literal_in item) (item_place item)
+built_form place (trees.Assign last path conditional item) = if last || conditional then Err place
+    else set_to place path (path_terms path) (literal_in item) (item_place item)
 built_form place _ = Err place
 
 abbrev pub built : Statement → Read Assignment

@@ -187,7 +187,8 @@ fn run<S: Source, H: Shelf, O: Sink>(
         (H.changes shelf.old) (H.changes shelf.new))) }
     ensures usage { IfOk result (λ status. IsUsage (is_command words.now) status) }
     ensures quiet { IfErr result (λ e. is_command words.now ≡ false → IsEndOf OfSink e) }
-    ensures taken { IfOk result (λ status. Takes status (S.coming source.old) (S.coming source.new)) }
+    ensures taken { IfOk result (λ status. Takes status (S.coming source.old)
+        (S.coming source.new)) }
     ensures perhaps { (S.coming source.new ≡ S.coming source.old) ⊎
         (IsPassed (S.coming source.old) (S.coming source.new)) }
     ensures pictures { IfErr result
@@ -280,7 +281,8 @@ pub fn pan<S: Source, H: Shelf, O: Sink>(
         (S.opened source.new) }
     ensures shelf_opened { IsOpened result (out_in words.now) (H.opened shelf.old)
         (H.opened shelf.new) }
-    ensures source_counted { IsCounted result (S.fault_count source.old) (S.fault_count source.new) }
+    ensures source_counted { IsCounted result (S.fault_count source.old)
+        (S.fault_count source.new) }
     ensures shelf_counted { IsCounted result (H.fault_count shelf.old) (H.fault_count shelf.new) }
     ensures out_counted { IsCounted result (O.fault_count out.old) (O.fault_count out.new) }
     ensures usage { result ≡ Status.Usage → is_command words.now ≡ false }

@@ -25,7 +25,8 @@ removal ws n = if goes ws n then Removed n ∷ [] else []
 abbrev pub putting : (List ℕ → Cell) → Want → List Change
 putting cell w = if holds w.bytes (cell w.name) then [] else Put w.name ∷ []
 
--- all changes: first the removals, in the order of the names on the shelf; then the puts, in the order of the wants
+-- all changes: first the removals, in the order of the names on the shelf; then the puts, in the
+-- order of the wants
 abbrev pub planned : List (List ℕ) → List Want → (List ℕ → Cell) → List Change
 planned names ws cell = flat_map (removal ws) names ++ flat_map (putting cell) ws
 
@@ -50,13 +51,15 @@ abbrev pub stand : List Want → List Change → List ℕ → Cell → Cell
 stand ws changes n c = if is_changed n changes then with_content (wanted ws n) c else c
 
 -- these changes were made, and no other
-pub record Made (ws : List Want) (changes : List Change) (old new : List ℕ → Cell) (before now : Option (List Change)) : Type 0 where
+pub record Made (ws : List Want) (changes : List Change) (old new : List ℕ
+    → Cell) (before now : Option (List Change)) : Type 0 where
   pub told : now ≡ done before changes
   pub stands : (n : List ℕ) → new n ≡ stand ws changes n (old n)
 
--- A first part of the changes was made, in their order, and no other; the name of the one that came next is
--- unspecified.
-pub record Begun (ws : List Want) (plan : List Change) (old new : List ℕ → Cell) (before now : Option (List Change)) : Type 0 where
+-- A first part of the changes was made, in their order, and no other; the name of the one that came
+-- next is unspecified.
+pub record Begun (ws : List Want) (plan : List Change) (old new : List ℕ
+    → Cell) (before now : Option (List Change)) : Type 0 where
   pub made : List Change
   pub left : List Change
   pub whole : plan ≡ made ++ left
@@ -73,9 +76,11 @@ pub record AreListed (names : List (List ℕ)) (cell : List ℕ → Cell) : Type
   pub sorted : IsSorted (slice_cmp nat_cmp) names
 
 -- a publication over these names was made
-abbrev pub Makes : List Want → List (List ℕ) → (List ℕ → Cell) → (List ℕ → Cell) → Option (List Change) → Option (List Change) → Type 0
+abbrev pub Makes : List Want → List (List ℕ) → (List ℕ → Cell) → (List ℕ → Cell)
+    → Option (List Change) → Option (List Change) → Type 0
 Makes ws names old new before now = Made ws (planned names ws old) old new before now
 
 -- .. or begun
-abbrev pub Begins : List Want → List (List ℕ) → (List ℕ → Cell) → (List ℕ → Cell) → Option (List Change) → Option (List Change) → Type 0
+abbrev pub Begins : List Want → List (List ℕ) → (List ℕ → Cell) → (List ℕ → Cell)
+    → Option (List Change) → Option (List Change) → Type 0
 Begins ws names old new before now = Begun ws (planned names ws old) old new before now

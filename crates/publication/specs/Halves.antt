@@ -29,17 +29,20 @@ put_where (Some b) c = with_content (Some b) c
 abbrev pub placed : List Want → List ℕ → Cell → Cell
 placed ws n c = put_where (wanted ws n) c
 
--- It ended early: but for names that are open, each own name is as it was or as it will be. All others are as they
--- were.
-pub record LeavesAs (is_open : List ℕ → Bool) (will : List ℕ → Cell → Cell) (old new : List ℕ → Cell) : Type 0 where
+-- It ended early: but for names that are open, each own name is as it was or as it will be. All
+-- others are as they were.
+pub record LeavesAs (is_open : List ℕ → Bool) (will : List ℕ → Cell → Cell) (old new : List ℕ
+    → Cell) : Type 0 where
   pub others : (n : List ℕ) → is_own n ≡ false → new n ≡ old n
   pub own : (n : List ℕ) → is_open n ≡ false → (new n ≡ old n) ⊎ (new n ≡ will n (old n))
 
-abbrev pub LeftAs : PublishError → (List ℕ → Cell → Cell) → (List ℕ → Cell) → (List ℕ → Cell) → Type 0
+abbrev pub LeftAs : PublishError → (List ℕ → Cell → Cell) → (List ℕ → Cell) → (List ℕ → Cell)
+    → Type 0
 LeftAs (Failed m) will old new = LeavesAs (is_file_of m) will old new
 LeftAs Memory will old new = (m : List ℕ) × LeavesAs (bytes_eq m) will old new
 
--- Under way: what is left to do leads to the target, and each name is as at the start or as the target has it.
+-- Under way: what is left to do leads to the target, and each name is as at the start or as the
+-- target has it.
 pub record Underway (left : List ℕ → Cell → Cell) (target start now : List ℕ → Cell) : Type 0 where
   pub leads : (n : List ℕ) → left n (now n) ≡ target n
   pub stands : (n : List ℕ) → (now n ≡ start n) ⊎ (now n ≡ target n)

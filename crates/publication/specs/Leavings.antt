@@ -7,9 +7,10 @@ use Rattle.publication.specs.declared.until_failure.PublishError.TheVariants.{Fa
 use Rattle.publication.specs.OwnNames.{is_own, is_file_of}
 use Rattle.publication.specs.Stands.{Stand, Meets}
 
--- But for names that are open, each own name is as it was or as the whole publication leaves it. All others are as
--- they were.
-pub record Leaves (is_open : List ℕ → Bool) (shelf : List ℕ → Stand) (old new : List ℕ → Cell) : Type 0 where
+-- But for names that are open, each own name is as it was or as the whole publication leaves it.
+-- All others are as they were.
+pub record Leaves (is_open : List ℕ → Bool) (shelf : List ℕ → Stand) (old new : List ℕ
+    → Cell) : Type 0 where
   pub others : (n : List ℕ) → is_own n ≡ false → new n ≡ old n
   pub own : (n : List ℕ) → is_open n ≡ false → (new n ≡ old n) ⊎ Meets (shelf n) (old n) (new n)
 

@@ -40,15 +40,16 @@ name_to_go r = r.name
 -- each trouble is that of a removal of its name
 abbrev pub AreRemovals : List Removal → Type 0
 AreRemovals [] = Unit {0}
-AreRemovals (r ∷ rs) = IfSome r.trouble (λ t. (called t ≡ r.name) × (t.call ≡ Remove)) × AreRemovals rs
+AreRemovals (r ∷ rs) =
+    IfSome r.trouble (λ t. (called t ≡ r.name) × (t.call ≡ Remove)) × AreRemovals rs
 
 -- a profile whose files were to get their bytes, and the call that failed, or none
 pub record Write : Type 0 where
   pub profile : Profile
   pub trouble : Option Trouble
 
--- What was put of a profile. A file is put where its bytes differ. A failed call puts nothing; where it was on the
--- first file, the second was passed over.
+-- What was put of a profile. A file is put where its bytes differ. A failed call puts nothing;
+-- where it was on the first file, the second was passed over.
 abbrev pub put_before : (List ℕ → Cell) → Profile → Which → List Change
 put_before cell p Json = []
 put_before cell p Dep = putting cell (json_want p)
@@ -69,10 +70,12 @@ profile_to_write w = w.profile
 -- each trouble is that of a read or put of a file of its profile
 abbrev pub AreWrites : List Write → Type 0
 AreWrites [] = Unit {0}
-AreWrites (w ∷ ws) = IfSome w.trouble (λ t. (t.object ≡ w.profile.name) × (is_removal t.call ≡ false)) × AreWrites ws
+AreWrites (w ∷ ws) = IfSome w.trouble (λ t. (t.object ≡ w.profile.name)
+    × (is_removal t.call ≡ false)) × AreWrites ws
 
 -- these names went, in order, but for those whose removal failed
-pub record Removes (names : List (List ℕ)) (troubles troubles_now : List Trouble) (log log_now : Option (List Change)) : Type 0 where
+pub record Removes (names : List (List ℕ)) (troubles troubles_now : List Trouble)
+    (log log_now : Option (List Change)) : Type 0 where
   pub calls : List Removal
   pub are : AreRemovals calls
   pub of_names : map name_to_go calls ≡ names
@@ -80,19 +83,23 @@ pub record Removes (names : List (List ℕ)) (troubles troubles_now : List Troub
   pub did : log_now ≡ done log (flat_map removal_changes calls)
 
 -- these profiles were written, in order, to a shelf that told this at the start
-pub record Writes (cell : List ℕ → Cell) (profiles : List Profile) (troubles troubles_now : List Trouble) (log log_now : Option (List Change)) : Type 0 where
+pub record Writes (cell : List ℕ → Cell) (profiles : List Profile)
+    (troubles troubles_now : List Trouble) (log log_now : Option (List Change)) : Type 0 where
   pub calls : List Write
   pub are : AreWrites calls
   pub of_profiles : map profile_to_write calls ≡ profiles
   pub failed : troubles_now ≡ troubles ++ flat_map write_troubles calls
   pub did : log_now ≡ done log (flat_map (write_changes cell) calls)
 
--- What a publication did to the shelf, and which of its calls failed: the names that may be there and that no profile
--- wants went, in byte order, and then the profiles were written, in the order of the list.
-pub record Logged (p : Publisher) (profiles : List Profile) (troubles : List Trouble) (cell : List ℕ → Cell) (log log_now : Option (List Change)) : Type 0 where
+-- What a publication did to the shelf, and which of its calls failed: the names that may be there
+-- and that no profile wants went, in byte order, and then the profiles were written, in the order
+-- of the list.
+pub record Logged (p : Publisher) (profiles : List Profile) (troubles : List Trouble) (cell : List ℕ
+    → Cell) (log log_now : Option (List Change)) : Type 0 where
   pub gone : List (List ℕ)
   pub sorted : IsSorted (slice_cmp nat_cmp) gone
-  pub exact : (n : List ℕ) → list_any (λ m. bytes_eq m n) gone ≡ (goes (wants_of profiles) n && is_some (get bytes_eq p.own n))
+  pub exact : (n : List ℕ) → list_any (λ m. bytes_eq m n) gone
+      ≡ (goes (wants_of profiles) n && is_some (get bytes_eq p.own n))
   pub removal_failures : List Trouble
   pub between : Option (List Change)
   pub removes : Removes gone [] removal_failures log between
@@ -102,5 +109,7 @@ pub record Logged (p : Publisher) (profiles : List Profile) (troubles : List Tro
 abbrev pub put_by : Option Call → List ℕ → List ℕ → Cell → List Change
 put_by failed name bytes c = if is_some failed || holds bytes c then [] else Put name ∷ []
 
-abbrev pub LogsPut : List ℕ → List ℕ → Option Call → Option (List Change) → Option (List Change) → Option (List ℕ) → Type 0
-LogsPut name bytes failed log log_now content = log_now ≡ done log (put_by failed name bytes (Some content))
+abbrev pub LogsPut : List ℕ → List ℕ → Option Call → Option (List Change) → Option (List Change)
+    → Option (List ℕ) → Type 0
+LogsPut name bytes failed log log_now content =
+    log_now ≡ done log (put_by failed name bytes (Some content))

@@ -25,20 +25,22 @@ abbrev pub AtMost : ℕ → ℕ → ℕ → Type 0
 AtMost failed before now = saturated (before + failed) ≤ now
 
 -- a publication was done, but for these troubles
-pub record Published (ws : List Want) (troubles : List Trouble) (before now : ℕ) (old new : List ℕ → Cell) : Type 0 where
+pub record Published (ws : List Want) (troubles : List Trouble) (before now : ℕ) (old new : List ℕ
+    → Cell) : Type 0 where
   pub fit : list_all (fits ws) troubles ≡ true
   pub causes : AtMost (length troubles) before now
   pub stands : Stands (published ws troubles untouched) old new
 
--- Memory was wanting in one. But for one open name, each name is as it was or as after the publication with these
--- troubles.
+-- Memory was wanting in one. But for one open name, each name is as it was or as after the
+-- publication with these troubles.
 pub record Interrupted (ws : List Want) (before now : ℕ) (old new : List ℕ → Cell) : Type 0 where
   pub troubles : List Trouble
   pub fit : list_all (fits ws) troubles ≡ true
   pub causes : AtMost (length troubles) before now
   pub open_name : List ℕ
   pub others : (n : List ℕ) → is_own n ≡ false → new n ≡ old n
-  pub own : (n : List ℕ) → bytes_eq open_name n ≡ false → (new n ≡ old n) ⊎ Meets (published ws troubles untouched n) (old n) (new n)
+  pub own : (n : List ℕ) → bytes_eq open_name n ≡ false
+      → (new n ≡ old n) ⊎ Meets (published ws troubles untouched n) (old n) (new n)
 
 -- what is known of an own name: nothing (it is absent), that it may be there, or its bytes
 abbrev pub Allows : Option Known → Option (List ℕ) → Type 0
@@ -51,7 +53,8 @@ abbrev pub Knows : Publisher → (List ℕ → Cell) → Type 0
 Knows p cell = (n : List ℕ) → is_own n ≡ true → IfSome (cell n) (Allows (get bytes_eq p.own n))
 
 -- a name was to get this content: it has it, or the call failed and it is open
-pub record Came (name : List ℕ) (content : Option (List ℕ)) (done : Bool) (before now : ℕ) (old new : List ℕ → Cell) : Type 0 where
+pub record Came (name : List ℕ) (content : Option (List ℕ)) (done : Bool) (before now : ℕ)
+    (old new : List ℕ → Cell) : Type 0 where
   pub later : before ≤ now
   pub rose : done ≡ false → Rose before now
   pub gives : done ≡ true → Sets old name content new
@@ -69,10 +72,12 @@ abbrev pub Left : List ℕ → List ℕ → Option Call → (List ℕ → Cell) 
 Left name bytes None old new = Sets old name (Some bytes) new
 Left name bytes (Some Remove) old new = ⊥
 Left name bytes (Some Read) old new = (n : List ℕ) → new n ≡ old n
-Left name bytes (Some Put) old new = AllBut old name new × ((n : List ℕ) → Meets Stand.Unspecified (old n) (new n))
+Left name bytes (Some Put) old new =
+    AllBut old name new × ((n : List ℕ) → Meets Stand.Unspecified (old n) (new n))
 
 -- a name was to hold these bytes
-pub record Brings (name bytes : List ℕ) (failed : Option Call) (before now : ℕ) (old new : List ℕ → Cell) : Type 0 where
+pub record Brings (name bytes : List ℕ) (failed : Option Call) (before now : ℕ) (old new : List ℕ
+    → Cell) : Type 0 where
   pub later : before ≤ now
   pub rose : is_some failed ≡ true → Rose before now
   pub left : Left name bytes failed old new
@@ -85,7 +90,8 @@ abbrev pub call_of : Trouble → Call
 call_of t = t.call
 
 -- the same of a file of an object
-pub record BringsFile (object : List ℕ) (which : Which) (bytes : List ℕ) (trouble : Option Trouble) (before now : ℕ) (old new : List ℕ → Cell) : Type 0 where
+pub record BringsFile (object : List ℕ) (which : Which) (bytes : List ℕ) (trouble : Option Trouble)
+    (before now : ℕ) (old new : List ℕ → Cell) : Type 0 where
   pub brings : Brings (name_of which object) bytes (option_map call_of trouble) before now old new
   pub on : IfSome trouble (IsOn object which)
 
@@ -101,7 +107,8 @@ placed ws troubles n =
     else Has (wanted ws n)
 
 -- the same of both files of an object
-pub record BringsProfile (p : Profile) (trouble : Option Trouble) (before now : ℕ) (old new : List ℕ → Cell) : Type 0 where
+pub record BringsProfile (p : Profile) (trouble : Option Trouble) (before now : ℕ) (old new : List ℕ
+    → Cell) : Type 0 where
   pub later : before ≤ now
   pub rose : is_some trouble ≡ true → Rose before now
   pub on : IfSome trouble (λ t. (t.object ≡ p.name) × (is_removal t.call ≡ false))
@@ -110,30 +117,40 @@ pub record BringsProfile (p : Profile) (trouble : Option Trouble) (before now : 
 -- memory was wanting: but for one of the two files, each name is as it was, or has its bytes
 pub record Partly (p : Profile) (old new : List ℕ → Cell) : Type 0 where
   pub which : Which
-  pub others : (n : List ℕ) → bytes_eq (name_of which p.name) n ≡ false → (new n ≡ old n) ⊎ Meets (placed (wants_of (p ∷ [])) [] n) (old n) (new n)
+  pub others : (n : List ℕ) → bytes_eq (name_of which p.name) n ≡ false
+      → (new n ≡ old n) ⊎ Meets (placed (wants_of (p ∷ [])) [] n) (old n) (new n)
 
--- A publication under way, with these troubles so far: the names of `rest` are still to get their bytes.
-pub record Placing (ws rest : List Want) (troubles : List Trouble) (before now : ℕ) (start cell : List ℕ → Cell) : Type 0 where
+-- A publication under way, with these troubles so far: the names of `rest` are still to get their
+-- bytes.
+pub record Placing (ws rest : List Want) (troubles : List Trouble) (before now : ℕ)
+    (start cell : List ℕ → Cell) : Type 0 where
   pub fit : list_all (fits ws) troubles ≡ true
   pub causes : AtMost (length troubles) before now
-  pub stands : (n : List ℕ) → Meets (if is_some (wanted rest n) then AtStart else published ws troubles untouched n) (start n) (cell n)
-  pub fresh : (n : List ℕ) → is_some (wanted rest n) ≡ true → (list_any (keeps n) troubles ≡ false) × (list_any (unsettles n) troubles ≡ false)
+  pub stands : (n : List ℕ) → Meets (if is_some (wanted rest n) then AtStart
+      else published ws troubles untouched n) (start n) (cell n)
+  pub fresh : (n : List ℕ) → is_some (wanted rest n) ≡ true
+      → (list_any (keeps n) troubles ≡ false) × (list_any (unsettles n) troubles ≡ false)
   pub same : (n : List ℕ) → is_some (wanted rest n) ≡ true → wanted ws n ≡ wanted rest n
 
 -- Names being removed: those of `rest` are still to go.
-pub record Clearing (ws : List Want) (rest : List (List ℕ)) (troubles : List Trouble) (before now : ℕ) (start cell : List ℕ → Cell) : Type 0 where
+pub record Clearing (ws : List Want) (rest : List (List ℕ)) (troubles : List Trouble)
+    (before now : ℕ) (start cell : List ℕ → Cell) : Type 0 where
   pub removals : list_all (fits_removal ws) troubles ≡ true
   pub causes : AtMost (length troubles) before now
   pub kept : (n : List ℕ) → goes ws n ≡ false → cell n ≡ start n
-  pub gone : (n : List ℕ) → goes ws n ≡ true → list_any (λ m. bytes_eq m n) rest ≡ false → Meets (published ws troubles untouched n) (start n) (cell n)
-  pub going : (n : List ℕ) → goes ws n ≡ true → (cell n ≡ start n) ⊎ Meets (published ws troubles untouched n) (start n) (cell n)
+  pub gone : (n : List ℕ) → goes ws n ≡ true → list_any (λ m. bytes_eq m n) rest ≡ false
+      → Meets (published ws troubles untouched n) (start n) (cell n)
+  pub going : (n : List ℕ) → goes ws n ≡ true → (cell n ≡ start n)
+      ⊎ Meets (published ws troubles untouched n) (start n) (cell n)
 
 -- each name that no profile wants is among these, or known to be absent
 abbrev pub Covers : List (List ℕ) → List Want → Publisher → Type 0
-Covers names ws p = (n : List ℕ) → goes ws n ≡ true → list_any (λ m. bytes_eq m n) names ≡ false → get bytes_eq p.own n ≡ None
+Covers names ws p = (n : List ℕ) → goes ws n ≡ true → list_any (λ m. bytes_eq m n) names ≡ false
+    → get bytes_eq p.own n ≡ None
 
 -- a name went, or it is open and there is one more trouble
-pub record Sweeps (name : List ℕ) (troubles_old troubles_new : List Trouble) (before now : ℕ) (old new : List ℕ → Cell) : Type 0 where
+pub record Sweeps (name : List ℕ) (troubles_old troubles_new : List Trouble) (before now : ℕ)
+    (old new : List ℕ → Cell) : Type 0 where
   pub done : Bool
   pub came : Came name None done before now old new
   pub trouble : Option Trouble

@@ -42,10 +42,11 @@ unsettles n t = not (is_read t.call) && bytes_eq (called t) n
 
 -- its read failed, or it was passed over: the name is as it was
 abbrev pub keeps : List ℕ → Trouble → Bool
-keeps n t = (is_read t.call && bytes_eq (called t) n) || (skips t.which t.call && bytes_eq (dep_name t.object) n)
+keeps n t = (is_read t.call && bytes_eq (called t) n)
+    || (skips t.which t.call && bytes_eq (dep_name t.object) n)
 
--- What stands after a publication in which these calls failed: every wanted name has its bytes, no other own name
--- is there, and all others are as they were.
+-- What stands after a publication in which these calls failed: every wanted name has its bytes, no
+-- other own name is there, and all others are as they were.
 abbrev pub published : List Want → List Trouble → (List ℕ → Stand) → List ℕ → Stand
 published ws troubles before n =
     if not (is_own n) || list_any (keeps n) troubles then before n
@@ -69,7 +70,8 @@ fault_line object = codes "shelf fault " ++ object ++ codes "\n"
 
 -- a line for an object at its first trouble
 abbrev pub line_once : List Trouble → Trouble → List ℕ
-line_once before t = if list_any (λ (u : Trouble). bytes_eq u.object t.object) before then [] else fault_line t.object
+line_once before t = if list_any (λ (u : Trouble). bytes_eq u.object t.object) before then []
+    else fault_line t.object
 
 abbrev pub lines_after : List Trouble → List Trouble → List ℕ
 lines_after before [] = []

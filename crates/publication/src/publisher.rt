@@ -49,7 +49,8 @@ fn bring_unread<H: Shelf>(
     bytes: &[u8],
     held: &mut Vec<u8>,
 ) -> Result<Option<Call>, AllocError>
-    ensures ok { IfOk result (λ failed. Brings name.now bytes.now failed (H.fault_count shelf.old) (H.fault_count shelf.new) (H.cell shelf.old) (H.cell shelf.new)) }
+    ensures ok { IfOk result (λ failed. Brings name.now bytes.now failed (H.fault_count shelf.old)
+        (H.fault_count shelf.new) (H.cell shelf.old) (H.cell shelf.new)) }
     ensures unsettles { OnErr result (AllBut (H.cell shelf.old) name.now (H.cell shelf.new)) }
     ensures later { H.fault_count shelf.old ≤ H.fault_count shelf.new }
     ensures log { IfOk result (λ failed. IfSome (H.cell shelf.old name.now)
@@ -70,7 +71,8 @@ fn bring_unread<H: Shelf>(
 
 /// An own name is taken away from the shelf, or the call failed.
 fn remove_name<H: Shelf>(shelf: &mut H, name: &str) -> Result<bool, AllocError>
-    ensures came { IfOk result (λ done. Came name.now None done (H.fault_count shelf.old) (H.fault_count shelf.new) (H.cell shelf.old) (H.cell shelf.new)) }
+    ensures came { IfOk result (λ done. Came name.now None done (H.fault_count shelf.old)
+        (H.fault_count shelf.new) (H.cell shelf.old) (H.cell shelf.new)) }
     ensures unsettles { OnErr result (AllBut (H.cell shelf.old) name.now (H.cell shelf.new)) }
     ensures later { H.fault_count shelf.old ≤ H.fault_count shelf.new }
     ensures log { IfOk result
@@ -98,7 +100,8 @@ fn add_name(
     object: &Text,
     which: Which,
 ) -> Result<(), AllocError>
-    ensures { OnOk result ((n : List ℕ) → contains bytes_eq names.new n ≡ cond (bytes_eq (name_of which object.now) n) true (contains bytes_eq names.old n)) }
+    ensures { OnOk result ((n : List ℕ) → contains bytes_eq names.new n
+        ≡ cond (bytes_eq (name_of which object.now) n) true (contains bytes_eq names.old n)) }
 {
     names.insert(file_name(alloc, object.as_str(), which)?)?;
     Ok(())
@@ -118,7 +121,9 @@ fn wanted_names(alloc: Global, profiles: &[Profile]) -> Result<HashSet<Text>, Al
 
 /// Adds the name, where it is an own one and none of these.
 fn add_unwanted(gone: &mut Vec<Text>, name: &Text, names: &HashSet<Text>) -> Result<(), AllocError>
-    ensures { OnOk result (gone.new.items ≡ gone.old.items ++ (if is_own name.now && not (contains bytes_eq names.now name.now) then name.now ∷ [] else [])) }
+    ensures { OnOk result (gone.new.items ≡ gone.old.items
+        ++ (if is_own name.now && not (contains bytes_eq names.now name.now) then name.now ∷ []
+        else [])) }
 {
     if is_own(name.as_str()) && !names.contains(name) {
         gone.push(name.share()?)?;
@@ -148,7 +153,8 @@ impl Publisher {
 
     /// Nothing is known of the name any more.
     fn forget(&mut self, name: &Text) -> Result<(), AllocError>
-        ensures { OnOk result ((n : List ℕ) → get bytes_eq self.new.own n ≡ cond (bytes_eq name.now n) (Some Known.Unread) (get bytes_eq self.old.own n)) }
+        ensures { OnOk result ((n : List ℕ) → get bytes_eq self.new.own n
+            ≡ cond (bytes_eq name.now n) (Some Known.Unread) (get bytes_eq self.old.own n)) }
     {
         self.own.insert(name.share()?, Known::Unread)?;
         Ok(())
@@ -156,7 +162,9 @@ impl Publisher {
 
     /// The name is known to hold these bytes.
     fn note(&mut self, alloc: Global, name: &Text, bytes: &[u8]) -> Result<(), AllocError>
-        ensures { OnOk result ((n : List ℕ) → get bytes_eq self.new.own n ≡ cond (bytes_eq name.now n) (Some (Known.Holds bytes.now)) (get bytes_eq self.old.own n)) }
+        ensures { OnOk result ((n : List ℕ) → get bytes_eq self.new.own n
+            ≡ cond (bytes_eq name.now n) (Some (Known.Holds bytes.now))
+            (get bytes_eq self.old.own n)) }
     {
         let bytes = Bytes::from_slice(alloc, bytes)?;
         self.own.insert(name.share()?, Known::Holds(bytes))?;
@@ -165,7 +173,8 @@ impl Publisher {
 
     /// The name is known to be absent.
     fn drop_name(&mut self, name: &Text)
-        ensures { (n : List ℕ) → get bytes_eq self.new.own n ≡ cond (bytes_eq name.now n) None (get bytes_eq self.old.own n) }
+        ensures { (n : List ℕ) → get bytes_eq self.new.own n
+            ≡ cond (bytes_eq name.now n) None (get bytes_eq self.old.own n) }
     {
         self.own.remove(name);
     }
@@ -173,7 +182,8 @@ impl Publisher {
     /// An own name is taken away from the shelf, or the call failed.
     fn remove<H: Shelf>(&mut self, shelf: &mut H, name: &Text) -> Result<bool, AllocError>
         requires { Knows self.old (H.cell shelf.old) }
-        ensures came { IfOk result (λ done. Came name.now None done (H.fault_count shelf.old) (H.fault_count shelf.new) (H.cell shelf.old) (H.cell shelf.new)) }
+        ensures came { IfOk result (λ done. Came name.now None done (H.fault_count shelf.old)
+            (H.fault_count shelf.new) (H.cell shelf.old) (H.cell shelf.new)) }
         ensures knows { OnOk result (Knows self.new (H.cell shelf.new)) }
         ensures unsettles { OnErr result (AllBut (H.cell shelf.old) name.now (H.cell shelf.new)) }
         ensures later { H.fault_count shelf.old ≤ H.fault_count shelf.new }
@@ -199,7 +209,9 @@ impl Publisher {
     ) -> Result<Option<Call>, AllocError>
         requires own { is_own name.now ≡ true }
         requires knows { Knows self.old (H.cell shelf.old) }
-        ensures ok { IfOk result (λ failed. Brings name.now bytes.now failed (H.fault_count shelf.old) (H.fault_count shelf.new) (H.cell shelf.old) (H.cell shelf.new)) }
+        ensures ok { IfOk result (λ failed. Brings name.now bytes.now failed
+            (H.fault_count shelf.old) (H.fault_count shelf.new) (H.cell shelf.old)
+            (H.cell shelf.new)) }
         ensures knows { OnOk result (Knows self.new (H.cell shelf.new)) }
         ensures unsettles { OnErr result (AllBut (H.cell shelf.old) name.now (H.cell shelf.new)) }
         ensures later { H.fault_count shelf.old ≤ H.fault_count shelf.new }
@@ -229,9 +241,12 @@ impl Publisher {
     ) -> Result<Option<Trouble>, AllocError>
         requires own { is_own (name_of which object.now) ≡ true }
         requires knows { Knows self.old (H.cell shelf.old) }
-        ensures ok { IfOk result (λ trouble. BringsFile object.now which bytes.now trouble (H.fault_count shelf.old) (H.fault_count shelf.new) (H.cell shelf.old) (H.cell shelf.new)) }
+        ensures ok { IfOk result (λ trouble. BringsFile object.now which bytes.now trouble
+            (H.fault_count shelf.old) (H.fault_count shelf.new) (H.cell shelf.old)
+            (H.cell shelf.new)) }
         ensures knows { OnOk result (Knows self.new (H.cell shelf.new)) }
-        ensures unsettles { OnErr result (AllBut (H.cell shelf.old) (name_of which object.now) (H.cell shelf.new)) }
+        ensures unsettles { OnErr result (AllBut (H.cell shelf.old) (name_of which object.now)
+            (H.cell shelf.new)) }
         ensures later { H.fault_count shelf.old ≤ H.fault_count shelf.new }
         ensures log { IfOk result (λ trouble. IfSome (H.cell shelf.old (name_of which object.now))
             (LogsPut (name_of which object.now) bytes.now (option_map call_of trouble)
@@ -258,7 +273,9 @@ impl Publisher {
     ) -> Result<Option<Trouble>, AllocError>
         requires proper { proper (wants_of (profile.now ∷ [])) ≡ true }
         requires knows { Knows self.old (H.cell shelf.old) }
-        ensures ok { IfOk result (λ trouble. BringsProfile profile.now trouble (H.fault_count shelf.old) (H.fault_count shelf.new) (H.cell shelf.old) (H.cell shelf.new)) }
+        ensures ok { IfOk result (λ trouble. BringsProfile profile.now trouble
+            (H.fault_count shelf.old) (H.fault_count shelf.new) (H.cell shelf.old)
+            (H.cell shelf.new)) }
         ensures knows { OnOk result (Knows self.new (H.cell shelf.new)) }
         ensures err { OnErr result (Partly profile.now (H.cell shelf.old) (H.cell shelf.new)) }
         ensures later { H.fault_count shelf.old ≤ H.fault_count shelf.new }
@@ -290,9 +307,16 @@ impl Publisher {
     ) -> Result<(), AllocError>
         requires proper { proper (wants_of profiles.now) ≡ true }
         requires knows { Knows self.old (H.cell shelf.old) }
-        ensures ok { OnOk result ((before : ℕ) (start : List ℕ → Cell) → let ws = wants_of profiles.now in Placing ws ws troubles.old.items before (H.fault_count shelf.old) start (H.cell shelf.old) → Placing ws [] troubles.new.items before (H.fault_count shelf.new) start (H.cell shelf.new)) }
+        ensures ok { OnOk result ((before : ℕ) (start : List ℕ → Cell)
+            → let ws = wants_of profiles.now in Placing ws ws troubles.old.items before
+            (H.fault_count shelf.old) start (H.cell shelf.old)
+            → Placing ws [] troubles.new.items before (H.fault_count shelf.new) start
+            (H.cell shelf.new)) }
         ensures knows { OnOk result (Knows self.new (H.cell shelf.new)) }
-        ensures err { OnErr result ((before : ℕ) (start : List ℕ → Cell) → let ws = wants_of profiles.now in Placing ws ws troubles.old.items before (H.fault_count shelf.old) start (H.cell shelf.old) → Interrupted ws before (H.fault_count shelf.new) start (H.cell shelf.new)) }
+        ensures err { OnErr result ((before : ℕ) (start : List ℕ → Cell)
+            → let ws = wants_of profiles.now in Placing ws ws troubles.old.items before
+            (H.fault_count shelf.old) start (H.cell shelf.old)
+            → Interrupted ws before (H.fault_count shelf.new) start (H.cell shelf.new)) }
         ensures later { H.fault_count shelf.old ≤ H.fault_count shelf.new }
         ensures log { OnOk result (Tells (H.cell shelf.old) → Writes (H.cell shelf.old) profiles.now
             troubles.old.items troubles.new.items (H.changes shelf.old) (H.changes shelf.new)) }
@@ -315,7 +339,9 @@ impl Publisher {
     ) -> Result<(), AllocError>
         requires own { is_own name.now ≡ true }
         requires knows { Knows self.old (H.cell shelf.old) }
-        ensures ok { OnOk result (Sweeps name.now troubles.old.items troubles.new.items (H.fault_count shelf.old) (H.fault_count shelf.new) (H.cell shelf.old) (H.cell shelf.new)) }
+        ensures ok { OnOk result (Sweeps name.now troubles.old.items troubles.new.items
+            (H.fault_count shelf.old) (H.fault_count shelf.new) (H.cell shelf.old)
+            (H.cell shelf.new)) }
         ensures knows { OnOk result (Knows self.new (H.cell shelf.new)) }
         ensures unsettles { OnErr result (AllBut (H.cell shelf.old) name.now (H.cell shelf.new)) }
         ensures later { H.fault_count shelf.old ≤ H.fault_count shelf.new }
@@ -341,9 +367,16 @@ impl Publisher {
     ) -> Result<(), AllocError>
         requires going { list_all (goes (wants_of wants.now)) names.now ≡ true }
         requires knows { Knows self.old (H.cell shelf.old) }
-        ensures ok { OnOk result ((before : ℕ) (start : List ℕ → Cell) → let ws = wants_of wants.now in Clearing ws names.now troubles.old.items before (H.fault_count shelf.old) start (H.cell shelf.old) → Clearing ws [] troubles.new.items before (H.fault_count shelf.new) start (H.cell shelf.new)) }
+        ensures ok { OnOk result ((before : ℕ) (start : List ℕ → Cell)
+            → let ws = wants_of wants.now in Clearing ws names.now troubles.old.items before
+            (H.fault_count shelf.old) start (H.cell shelf.old)
+            → Clearing ws [] troubles.new.items before (H.fault_count shelf.new) start
+            (H.cell shelf.new)) }
         ensures knows { OnOk result (Knows self.new (H.cell shelf.new)) }
-        ensures err { OnErr result ((before : ℕ) (start : List ℕ → Cell) → let ws = wants_of wants.now in Clearing ws names.now troubles.old.items before (H.fault_count shelf.old) start (H.cell shelf.old) → Interrupted ws before (H.fault_count shelf.new) start (H.cell shelf.new)) }
+        ensures err { OnErr result ((before : ℕ) (start : List ℕ → Cell)
+            → let ws = wants_of wants.now in Clearing ws names.now troubles.old.items before
+            (H.fault_count shelf.old) start (H.cell shelf.old)
+            → Interrupted ws before (H.fault_count shelf.new) start (H.cell shelf.new)) }
         ensures later { H.fault_count shelf.old ≤ H.fault_count shelf.new }
         ensures log { OnOk result (Removes names.now troubles.old.items troubles.new.items
             (H.changes shelf.old) (H.changes shelf.new)) }
@@ -356,7 +389,8 @@ impl Publisher {
 
     /// The own names that may be there and that no profile wants, in byte order.
     fn unwanted(&self, alloc: Global, profiles: &[Profile]) -> Result<Vec<Text>, AllocError>
-        ensures going { IfOk result (λ gone. list_all (goes (wants_of profiles.now)) gone.items ≡ true) }
+        ensures going { IfOk result (λ gone. list_all (goes (wants_of profiles.now)) gone.items
+            ≡ true) }
         ensures covers { IfOk result (λ gone. Covers gone.items (wants_of profiles.now) self.now) }
         ensures known { IfOk result
             (λ gone. (n : List ℕ) → list_any (λ m. bytes_eq m n) gone.items ≡ true → is_some (get bytes_eq self.now.own n) ≡ true) }
@@ -382,11 +416,15 @@ impl Publisher {
     ) -> Result<Vec<Trouble>, AllocError>
         requires proper { proper (wants_of profiles.now) ≡ true }
         requires knows { Knows self.old (H.cell shelf.old) }
-        ensures ok { IfOk result (λ troubles. Published (wants_of profiles.now) troubles.items (H.fault_count shelf.old) (H.fault_count shelf.new) (H.cell shelf.old) (H.cell shelf.new)) }
+        ensures ok { IfOk result (λ troubles. Published (wants_of profiles.now) troubles.items
+            (H.fault_count shelf.old) (H.fault_count shelf.new) (H.cell shelf.old)
+            (H.cell shelf.new)) }
         ensures knows { OnOk result (Knows self.new (H.cell shelf.new)) }
-        ensures err { OnErr result (Interrupted (wants_of profiles.now) (H.fault_count shelf.old) (H.fault_count shelf.new) (H.cell shelf.old) (H.cell shelf.new)) }
+        ensures err { OnErr result (Interrupted (wants_of profiles.now) (H.fault_count shelf.old)
+            (H.fault_count shelf.new) (H.cell shelf.old) (H.cell shelf.new)) }
         ensures later { H.fault_count shelf.old ≤ H.fault_count shelf.new }
-        ensures log { IfOk result (λ troubles. Tells (H.cell shelf.old) → Logged self.old profiles.now
+        ensures log { IfOk result (λ troubles. Tells (H.cell shelf.old)
+            → Logged self.old profiles.now
             troubles.items (H.cell shelf.old) (H.changes shelf.old) (H.changes shelf.new)) }
     {
         let gone = self.unwanted(alloc, profiles)?;

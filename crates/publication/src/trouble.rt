@@ -64,7 +64,8 @@ fn push_between(
     object: &[u8],
     after: &[u8],
 ) -> Result<(), AllocError>
-    ensures { OnOk result (text.new.items ≡ text.old.items ++ (before.now ++ object.now ++ after.now)) }
+    ensures { OnOk result (text.new.items ≡ text.old.items
+        ++ (before.now ++ object.now ++ after.now)) }
 {
     text.extend_from_slice(before)?;
     text.extend_from_slice(object)?;
@@ -79,7 +80,8 @@ fn push_fault(text: &mut Vec<u8>, object: &Text) -> Result<(), AllocError>
 
 /// Writes the line of an object, where it was not written yet.
 fn push_line(text: &mut Vec<u8>, written: bool, object: &Text) -> Result<(), AllocError>
-    ensures { OnOk result (text.new.items ≡ text.old.items ++ (if written then [] else fault_line object.now)) }
+    ensures { OnOk result (text.new.items ≡ text.old.items
+        ++ (if written then [] else fault_line object.now)) }
 {
     if written {
         return Ok(());
@@ -93,8 +95,11 @@ fn push_once(
     seen: &mut HashSet<Text>,
     trouble: &Trouble,
 ) -> Result<(), AllocError>
-    ensures seen { OnOk result ((n : List ℕ) → contains bytes_eq seen.new n ≡ cond (bytes_eq trouble.now.object n) true (contains bytes_eq seen.old n)) }
-    ensures text { OnOk result (text.new.items ≡ text.old.items ++ (if contains bytes_eq seen.old trouble.now.object then [] else fault_line trouble.now.object)) }
+    ensures seen { OnOk result ((n : List ℕ) → contains bytes_eq seen.new n
+        ≡ cond (bytes_eq trouble.now.object n) true (contains bytes_eq seen.old n)) }
+    ensures text { OnOk result (text.new.items ≡ text.old.items
+        ++ (if contains bytes_eq seen.old trouble.now.object then []
+        else fault_line trouble.now.object)) }
 {
     push_line(text, seen.contains(&trouble.object), &trouble.object)?;
     seen.insert(trouble.object.share()?)?;

@@ -100,11 +100,15 @@ fn bring<H: Shelf>(
     held: &mut Vec<u8>,
 ) -> Result<(), PublishError>
     requires { is_own name.now ≡ true }
-    ensures ok { OnOk result (Sets (H.cell shelf.old) name.now (Some bytes.now) (H.cell shelf.new)) }
+    ensures ok { OnOk result (Sets (H.cell shelf.old) name.now (Some bytes.now)
+        (H.cell shelf.new)) }
     ensures err { OnErr result (AllBut (H.cell shelf.old) name.now (H.cell shelf.new)) }
-    ensures done { OnOk result (IfSome (H.cell shelf.old name.now) (λ content. H.changes shelf.new ≡ done (H.changes shelf.old) (if holds bytes.now (Some content) then [] else Put name.now ∷ []))) }
+    ensures done { OnOk result (IfSome (H.cell shelf.old name.now) (λ content. H.changes shelf.new
+        ≡ done (H.changes shelf.old) (if holds bytes.now (Some content) then []
+        else Put name.now ∷ []))) }
     ensures undone { OnErr result (H.changes shelf.new ≡ H.changes shelf.old) }
-    ensures untouched { OnErr result (holds bytes.now (H.cell shelf.old name.now) ≡ true → AreSame (H.cell shelf.old) (H.cell shelf.new)) }
+    ensures untouched { OnErr result (holds bytes.now (H.cell shelf.old name.now) ≡ true
+        → AreSame (H.cell shelf.old) (H.cell shelf.new)) }
     ensures opened { H.opened shelf.new ≡ H.opened shelf.old }
     ensures at { IfErr result (IsEndAt name.now) }
     ensures cause { EndsBy (H.fault_count shelf.old) (H.fault_count shelf.new) result }
@@ -136,11 +140,14 @@ fn sweep<H: Shelf>(
     name: &Text,
     names: &HashSet<Text>,
 ) -> Result<(), PublishError>
-    ensures ok { OnOk result ((wants : List Want) → Names names.now wants → (n : List ℕ) → H.cell shelf.new n ≡ swept name.now wants n (H.cell shelf.old n)) }
+    ensures ok { OnOk result ((wants : List Want) → Names names.now wants → (n : List ℕ)
+        → H.cell shelf.new n ≡ swept name.now wants n (H.cell shelf.old n)) }
     ensures err { OnErr result (AllBut (H.cell shelf.old) name.now (H.cell shelf.new)) }
     ensures own { OnErr result (is_own name.now ≡ true) }
-    ensures going { OnErr result ((wants : List Want) → Names names.now wants → goes wants name.now ≡ true) }
-    ensures done { OnOk result ((wants : List Want) → Names names.now wants → H.changes shelf.new ≡ done (H.changes shelf.old) (removal wants name.now)) }
+    ensures going { OnErr result ((wants : List Want) → Names names.now wants
+        → goes wants name.now ≡ true) }
+    ensures done { OnOk result ((wants : List Want) → Names names.now wants
+        → H.changes shelf.new ≡ done (H.changes shelf.old) (removal wants name.now)) }
     ensures undone { OnErr result (H.changes shelf.new ≡ H.changes shelf.old) }
     ensures opened { H.opened shelf.new ≡ H.opened shelf.old }
     ensures at { IfErr result (IsEndAt name.now) }
@@ -167,10 +174,14 @@ fn clear<H: Shelf>(
     wants: &[Want],
 ) -> Result<(), PublishError>
     requires { Names names.now wants.now }
-    ensures ok { OnOk result ((n : List ℕ) → H.cell shelf.new n ≡ cleared listed.now wants.now n (H.cell shelf.old n)) }
-    ensures err { IfErr result (λ e. LeftAs e (cleared listed.now wants.now) (H.cell shelf.old) (H.cell shelf.new)) }
-    ensures made { OnOk result (Made wants.now (flat_map (removal wants.now) listed.now) (H.cell shelf.old) (H.cell shelf.new) (H.changes shelf.old) (H.changes shelf.new)) }
-    ensures begun { OnErr result (Begun wants.now (flat_map (removal wants.now) listed.now) (H.cell shelf.old) (H.cell shelf.new) (H.changes shelf.old) (H.changes shelf.new)) }
+    ensures ok { OnOk result ((n : List ℕ) → H.cell shelf.new n
+        ≡ cleared listed.now wants.now n (H.cell shelf.old n)) }
+    ensures err { IfErr result (λ e. LeftAs e (cleared listed.now wants.now) (H.cell shelf.old)
+        (H.cell shelf.new)) }
+    ensures made { OnOk result (Made wants.now (flat_map (removal wants.now) listed.now)
+        (H.cell shelf.old) (H.cell shelf.new) (H.changes shelf.old) (H.changes shelf.new)) }
+    ensures begun { OnErr result (Begun wants.now (flat_map (removal wants.now) listed.now)
+        (H.cell shelf.old) (H.cell shelf.new) (H.changes shelf.old) (H.changes shelf.new)) }
     ensures opened { H.opened shelf.new ≡ H.opened shelf.old }
     ensures cause { EndsBy (H.fault_count shelf.old) (H.fault_count shelf.new) result }
 {
@@ -183,10 +194,16 @@ fn clear<H: Shelf>(
 /// Each wanted name gets its bytes, in the order of the list.
 fn place<H: Shelf>(alloc: Global, shelf: &mut H, wants: &[Want]) -> Result<(), PublishError>
     requires { proper wants.now ≡ true }
-    ensures ok { OnOk result ((n : List ℕ) → H.cell shelf.new n ≡ placed wants.now n (H.cell shelf.old n)) }
-    ensures err { IfErr result (λ e. LeftAs e (placed wants.now) (H.cell shelf.old) (H.cell shelf.new)) }
-    ensures made { OnOk result (Tells (H.cell shelf.old) → Made wants.now (flat_map (putting (H.cell shelf.old)) wants.now) (H.cell shelf.old) (H.cell shelf.new) (H.changes shelf.old) (H.changes shelf.new)) }
-    ensures begun { OnErr result (Tells (H.cell shelf.old) → Begun wants.now (flat_map (putting (H.cell shelf.old)) wants.now) (H.cell shelf.old) (H.cell shelf.new) (H.changes shelf.old) (H.changes shelf.new)) }
+    ensures ok { OnOk result ((n : List ℕ) → H.cell shelf.new n
+        ≡ placed wants.now n (H.cell shelf.old n)) }
+    ensures err { IfErr result (λ e. LeftAs e (placed wants.now) (H.cell shelf.old)
+        (H.cell shelf.new)) }
+    ensures made { OnOk result (Tells (H.cell shelf.old)
+        → Made wants.now (flat_map (putting (H.cell shelf.old)) wants.now) (H.cell shelf.old)
+        (H.cell shelf.new) (H.changes shelf.old) (H.changes shelf.new)) }
+    ensures begun { OnErr result (Tells (H.cell shelf.old)
+        → Begun wants.now (flat_map (putting (H.cell shelf.old)) wants.now) (H.cell shelf.old)
+        (H.cell shelf.new) (H.changes shelf.old) (H.changes shelf.new)) }
     ensures opened { H.opened shelf.new ≡ H.opened shelf.old }
     ensures cause { EndsBy (H.fault_count shelf.old) (H.fault_count shelf.new) result }
 {
@@ -230,10 +247,16 @@ fn bring_all<H: Shelf>(
 ) -> Result<(), PublishError>
     requires proper { proper wants.now ≡ true }
     requires listed { Lists listed.now (H.cell shelf.old) }
-    ensures ok { OnOk result ((n : List ℕ) → H.cell shelf.new n ≡ brought wants.now n (H.cell shelf.old n)) }
-    ensures err { IfErr result (λ e. LeftAs e (brought wants.now) (H.cell shelf.old) (H.cell shelf.new)) }
-    ensures made { OnOk result (Tells (H.cell shelf.old) → Made wants.now (planned listed.now wants.now (H.cell shelf.old)) (H.cell shelf.old) (H.cell shelf.new) (H.changes shelf.old) (H.changes shelf.new)) }
-    ensures begun { OnErr result (Tells (H.cell shelf.old) → Begun wants.now (planned listed.now wants.now (H.cell shelf.old)) (H.cell shelf.old) (H.cell shelf.new) (H.changes shelf.old) (H.changes shelf.new)) }
+    ensures ok { OnOk result ((n : List ℕ) → H.cell shelf.new n
+        ≡ brought wants.now n (H.cell shelf.old n)) }
+    ensures err { IfErr result (λ e. LeftAs e (brought wants.now) (H.cell shelf.old)
+        (H.cell shelf.new)) }
+    ensures made { OnOk result (Tells (H.cell shelf.old)
+        → Made wants.now (planned listed.now wants.now (H.cell shelf.old)) (H.cell shelf.old)
+        (H.cell shelf.new) (H.changes shelf.old) (H.changes shelf.new)) }
+    ensures begun { OnErr result (Tells (H.cell shelf.old)
+        → Begun wants.now (planned listed.now wants.now (H.cell shelf.old)) (H.cell shelf.old)
+        (H.cell shelf.new) (H.changes shelf.old) (H.changes shelf.new)) }
     ensures opened { H.opened shelf.new ≡ H.opened shelf.old }
     ensures cause { EndsBy (H.fault_count shelf.old) (H.fault_count shelf.new) result }
 {

@@ -23,8 +23,8 @@ IsPassed old new = new ≡ option_map later_pictures old
 abbrev pub IsPerhapsPassed : Coming → Coming → Type 0
 IsPerhapsPassed old new = (new ≡ old) ⊎ IsPassed old new
 
--- The source's count of faults never falls. It rose where the scan answers Fault, and is as before in every other
--- case.
+-- The source's count of faults never falls. It rose where the scan answers Fault, and is as before
+-- in every other case.
 pub record Caused {T : Type 0} (before now : ℕ) (result : Result T ScanError) : Type 0 where
   pub later : before ≤ now
   pub rose : IsErrOf result Fault → Rose before now

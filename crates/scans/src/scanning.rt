@@ -54,7 +54,8 @@ fn find<S: Source>(
 ) -> Result<Option<Content>, StoreError>
     requires { i < S.count source.old }
     ensures ok { IfOk result (λ found. OfFile (S.scanned source.old) i (λ f. found ≡ found_of f)) }
-    ensures short { IfOk result (λ found. IfSome found (λ content. has_short_content content ≡ true)) }
+    ensures short { IfOk result (λ found. IfSome found (λ content. has_short_content content
+        ≡ true)) }
     ensures scanned { S.scanned source.new ≡ S.scanned source.old }
     ensures coming { S.coming source.new ≡ S.coming source.old }
     ensures count { S.count source.new ≡ S.count source.old }
@@ -155,7 +156,8 @@ pub fn scan<S: Source>(alloc: Global, source: &mut S) -> Result<Picture, ScanErr
     ensures ok { IfOk result (λ picture. IsScan (S.coming source.old) (Some picture)) }
     ensures too_much { IsErrOf result ScanError.TooMuch → IsScan (S.coming source.old) None }
     ensures taken { OnOk result (IsPassed (S.coming source.old) (S.coming source.new)) }
-    ensures passed { IsErrOf result ScanError.TooMuch → IsPassed (S.coming source.old) (S.coming source.new) }
+    ensures passed { IsErrOf result ScanError.TooMuch
+        → IsPassed (S.coming source.old) (S.coming source.new) }
     ensures err { OnErr result (IsPerhapsPassed (S.coming source.old) (S.coming source.new)) }
     ensures opened { S.opened source.new ≡ S.opened source.old }
     ensures cause { Caused (S.fault_count source.old) (S.fault_count source.new) result }
