@@ -126,8 +126,8 @@ abbrev pub fields_behind : Option Resolved → Option (List Field)
 fields_behind None = None
 fields_behind (Some (Known s c template d)) = record_fields s
 
--- the fields that an `include` at p brings, by the name at q: of a type that is written as a record,
--- whose default and `with` are not taken
+-- the fields that an `include` at p brings, by the name at q: those of a type that is written as a
+-- record, whose default and `with` are not taken
 unfoldable pub included : Place → List ℕ → Place → List Field → Option (List Field)
     → Typed (List Field)
 included p name q done None = Err (NoType q name)

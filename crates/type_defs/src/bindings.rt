@@ -30,7 +30,8 @@ pub struct Valid {
     pub place: Place,
 }
 
-/// The types that are bound, in path order, those of one path in the order in which they were added.
+/// The types that are bound, in path order, those of one path in the order in which they were
+/// added.
 #[derive(Drop)]
 pub struct Bindings {
     bounds: Vec<Bound>,

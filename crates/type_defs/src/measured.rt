@@ -73,8 +73,8 @@ impl Model for SharedType {
 }
 
 impl Measured {
-    /// A type of this shape, where the types in it are so deep at most. `TooDeep` at the place where
-    /// the type is deeper than the limit.
+    /// A type of this shape, where the types in it are so deep at most. `TooDeep` at the place
+    /// where the type is deeper than the limit.
     #[tactic(auto, using(crate::proofs::Shapes::shapes), unfolding(crate::specs::Resolving::within))]
     pub(crate) fn around(
         place: &Place,

@@ -61,8 +61,8 @@ fn type_place<'a>(place: &'a Place, head: &'a Head) -> &'a Place
     }
 }
 
-/// A type of a template, which stands at the place of the statement or the field that holds it, with
-/// the values of the defaults in it from here on; and the values behind them.
+/// A type of a template, with the values of the defaults in it from here on; and the values behind
+/// them. The place is that of the statement or the field that holds the type.
 #[cycle(resolving)]
 #[tactic(auto, using(pan_ast::proofs::TypeForms::types))]
 fn resolve_full<'a>(

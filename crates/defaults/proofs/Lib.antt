@@ -1,0 +1,4 @@
+pub mod Loops
+pub mod Replays
+pub mod Lawful
+pub mod Rows

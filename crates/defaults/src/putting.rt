@@ -1,0 +1,95 @@
+ghost use Rattle.std.specs.Prelude.{◌≡◌, IfOk, Some, option_copied, true};
+ghost use Rattle.path_tree.specs.Find.{get};
+ghost use Rattle.defaults.specs.Filled.{default_change, defaulted, is_missing};
+ghost use Rattle.defaults.specs.Fills.{Fills, target_store};
+
+use crate::target::{Target, fault, push_terms};
+use base::Seq;
+use pan_ast::{Change, Code, Failure, Place};
+use path_tree::{Kind, PutError, Term, Tree};
+use std::alloc::{AllocError, Global};
+use type_defs::DefaultValue;
+
+/// Whether a value is absent or undef.
+fn is_missing(found: Option<&Tree>) -> bool
+    ensures { result ≡ is_missing (option_copied found.entry) }
+{
+    match found {
+        None => true,
+        Some(value) => matches!(value.kind(), Kind::Undef),
+    }
+}
+
+/// What the log says of a default that is put.
+fn default_change(
+    alloc: Global,
+    place: &Place,
+    default: &DefaultValue,
+    path: &[Term],
+) -> Result<Change, AllocError>
+    ensures { IfOk result (λ c. c ≡ default_change place.now path.now default.now) }
+{
+    let mut terms = Vec::with_capacity(alloc, path.len())?;
+    push_terms(&mut terms, path)?;
+    Ok(Change {
+        terms: Seq::from_vec(terms),
+        value: Some(default.tree().copy()?),
+        place: place.share()?,
+        default: true,
+    })
+}
+
+/// Puts a default where the value is missing, and logs it. A place to which no walk leads is left
+/// as it is.
+#[tactic(auto, unfolding(crate::specs::Filled::defaulted))]
+fn put_missing(
+    alloc: Global,
+    place: &Place,
+    default: &DefaultValue,
+    target: &mut Target,
+) -> Result<(), Failure>
+    requires { is_missing (get target.now.path.items target.now.tree) ≡ true }
+    ensures path { target.new.path ≡ target.old.path }
+    ensures work { target.new.work ≡ target.old.work }
+    ensures fills { Fills result (target_store target.old) target.old.work
+        (target_store target.new) target.new.work
+        (defaulted place.now (Some default.now) target.old.path.items) }
+{
+    let change = default_change(alloc, place, default, &target.path)?;
+    match target.tree.put(alloc, &target.path, default.tree().copy()?) {
+        Ok(()) => {
+            target.log.push(change)?;
+            Ok(())
+        }
+        Err(PutError::TooLarge) => Err(fault(alloc, Code::TooLarge, place)),
+        Err(PutError::TooHigh) => Err(fault(alloc, Code::TooLarge, place)),
+        Err(PutError::ThroughProperty(_)) => Ok(()),
+        Err(PutError::KeyInList) => Ok(()),
+        Err(PutError::IndexInDict) => Ok(()),
+        Err(PutError::Memory) => Err(Failure::Memory),
+    }
+}
+
+/// Puts the default of a type, if it has one, where the value is missing.
+#[tactic(auto, unfolding(crate::specs::Filled::defaulted))]
+pub(crate) fn put_default(
+    alloc: Global,
+    place: &Place,
+    default: &Option<DefaultValue>,
+    target: &mut Target,
+) -> Result<(), Failure>
+    ensures path { target.new.path ≡ target.old.path }
+    ensures work { target.new.work ≡ target.old.work }
+    ensures fills { Fills result (target_store target.old) target.old.work
+        (target_store target.new) target.new.work
+        (defaulted place.now default.now target.old.path.items) }
+{
+    let Some(default) = default else {
+        return Ok(());
+    };
+    if is_missing(target.tree.get(&target.path)) {
+        put_missing(alloc, place, default, target)
+    } else {
+        Ok(())
+    }
+}

@@ -1,0 +1,64 @@
+ghost use Rattle.std.specs.Prelude.{◌≡◌, ◌+◌, ◌++◌, OnOk};
+ghost use Rattle.pan_ast.specs.Detail.{fault_at};
+ghost use Rattle.defaults.specs.Filled.{visit};
+ghost use Rattle.defaults.specs.Fills.{Fills, IsFault, target_store};
+
+use base::Steps;
+use pan_ast::{Change, Code, Failure, Fault, Place, Work};
+use path_tree::{Term, Tree};
+use std::alloc::{AllocError, Global};
+use std::sync::ledger::Ledger;
+
+/// What is filled: the tree and the log of its changes, the path of the value that is filled now,
+/// and the work that is left.
+#[derive(Drop)]
+pub(crate) struct Target {
+    pub(crate) tree: Tree,
+    pub(crate) log: Vec<Change>,
+    pub(crate) path: Vec<Term>,
+    pub(crate) work: Work,
+}
+
+/// A fault at a place, or want of memory.
+pub(crate) fn fault(alloc: Global, code: Code, place: &Place) -> Failure
+    ensures { IsFault result (fault_at code place.now) }
+{
+    let Ok(place) = place.share() else {
+        return Failure::Memory;
+    };
+    match Fault::at(alloc, code, place) {
+        Ok(fault) => Failure::Fault(fault),
+        Err(_) => Failure::Memory,
+    }
+}
+
+/// The step of a visit, for a binding at the place.
+#[tactic(auto, unfolding(crate::specs::Filled::visit))]
+pub(crate) fn take_step<L: Ledger>(
+    alloc: Global,
+    place: &Place,
+    target: &mut Target,
+    steps: &mut Steps<L>,
+) -> Result<(), Failure>
+    ensures path { target.new.path ≡ target.old.path }
+    ensures fills { Fills result (target_store target.old) target.old.work
+        (target_store target.new) target.new.work (visit place.now) }
+    ensures counted { steps.new + target.new.work.left ≡ steps.old + target.old.work.left }
+{
+    if target.work.left == 0 {
+        return Err(fault(alloc, Code::WorkSpent, place));
+    }
+    target.work.left -= 1;
+    steps.tick();
+    Ok(())
+}
+
+/// Terms behind others.
+pub(crate) fn push_terms(terms: &mut Vec<Term>, more: &[Term]) -> Result<(), AllocError>
+    ensures { OnOk result (terms.new.items ≡ terms.old.items ++ more.now) }
+{
+    for term in more {
+        terms.push(term.clone()?)?;
+    }
+    Ok(())
+}
