@@ -1,0 +1,25 @@
+-- What a check takes of the language: what items give, and what stands at paths.
+use Rattle.std.specs.Prelude.{ℕ, List, Option, Some, None}
+use Rattle.path_tree.specs.Plain.{Plain}
+use Rattle.path_tree.specs.declared.path.Path.{Path}
+use Rattle.pan_ast.specs.declared.place.Place.{Place}
+use Rattle.pan_ast.specs.Syntax.{Item}
+use Rattle.questions.specs.Run.{◌>>=◌, give}
+use Rattle.dml_meaning.specs.Run.{Look}
+use Rattle.dml_meaning.specs.Lookups.{Looked, There}
+
+pub record Means : Type 0 where
+  -- what an item of this template gives, where SELF is the value and fixed
+  pub dml : List ℕ → Item → Plain → Look Plain
+  -- what stands at an absolute or external path; its faults are told at the place
+  pub look : Place → Path → Look Looked
+
+-- the value that was seen, where there is one
+abbrev pub value_there : Looked → Option Plain
+value_there (There v) = Some v
+value_there l = None
+
+unfoldable pub found_run : Means → Place → Path → Look (Option Plain)
+found_run e p path = do
+  l ← e.look p path
+  give (value_there l)

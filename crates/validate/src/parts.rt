@@ -1,0 +1,221 @@
+ghost use Rattle.std.specs.Prelude.{◌≡◌, ◌+◌, None, Some, option_copied};
+ghost use Rattle.pan_ast.specs.Seen.{item_seen};
+ghost use Rattle.pan_ast.specs.TypesSeen.{body_seen};
+ghost use Rattle.path_tree.specs.Children.{child_fields};
+ghost use Rattle.path_tree.specs.Find.{key_at, kind_of};
+ghost use Rattle.path_tree.specs.declared.kind.Kind.TheVariants as kind;
+ghost use Rattle.type_defs.specs.Resolved.{fields_of};
+ghost use Rattle.type_defs.specs.Tables.{all_seen};
+ghost use Rattle.path_tree.specs.Plain.{Plain};
+ghost use Rattle.validate.specs.Check.{condition_run, field_run, has_key, no_other, other_key, shape_run, target_run};
+ghost use Rattle.validate.specs.Exits.{Checks};
+ghost use Rattle.validate.specs.Kinds.{link_path};
+ghost use Rattle.validate.specs.Refusals as runs;
+ghost use Rattle.validate.specs.Walks.{extra_key};
+ghost use Rattle.type_defs.specs.Resolved.{Choice, OfBase};
+
+use crate::evaluator::Evaluator;
+use crate::kinds::{is_among, is_of, link_path};
+use crate::leaf::{fault, refusal, refusal_at};
+use crate::refusal::{Exit, Misfit};
+use base::{Steps, Text};
+use pan_ast::{Code, Item, Place, Work};
+use path_tree::{Key, Name, Tree};
+use std::alloc::Global;
+use std::rc::Rc;
+use std::sync::ledger::Ledger;
+use type_defs::{Base, RecordField};
+
+/// A value and a type that the language gives.
+pub(crate) fn check_base<L: Ledger, E: Evaluator<L>>(
+    alloc: Global,
+    place: &Place,
+    base: Base,
+    value: &Tree,
+    evaluator: &E,
+    work: &Work,
+) -> Result<(), Exit>
+    ensures { Checks (λ x. x) result E.answers work.now (E.asked evaluator.now) work.now
+        (E.asked evaluator.now) (shape_run E.means place.now (OfBase base) value.now) }
+{
+    if is_of(base, value.kind()) {
+        Ok(())
+    } else {
+        Err(refusal(alloc, Misfit::WrongType))
+    }
+}
+
+/// A value and the texts that it may be.
+pub(crate) fn check_choice<L: Ledger, E: Evaluator<L>>(
+    alloc: Global,
+    place: &Place,
+    texts: &[Text],
+    value: &Tree,
+    evaluator: &E,
+    work: &Work,
+) -> Result<(), Exit>
+    ensures { Checks (λ x. x) result E.answers work.now (E.asked evaluator.now) work.now
+        (E.asked evaluator.now) (shape_run E.means place.now (Choice texts.now) value.now) }
+{
+    let Some(text) = value.as_text() else {
+        return Err(refusal(alloc, Misfit::WrongType));
+    };
+    if is_among(text, texts) {
+        Ok(())
+    } else {
+        Err(refusal(alloc, Misfit::OutOfRange))
+    }
+}
+
+/// What `with` tests, of a value.
+#[tactic(auto, unfolding(crate::specs::Check::condition_run))]
+fn check_test<L: Ledger, E: Evaluator<L>>(
+    alloc: Global,
+    place: &Place,
+    item: &Item,
+    template: &Name,
+    value: &Tree,
+    evaluator: &mut E,
+    work: &mut Work,
+    steps: &mut Steps<L>,
+) -> Result<(), Exit>
+    ensures gives { Checks (λ x. x) result E.answers work.old (E.asked evaluator.old) work.new
+        (E.asked evaluator.new) (condition_run E.means place.now (Some (item_seen item.now))
+        template.now value.now) }
+    ensures counted { steps.new + work.new.left ≡ steps.old + work.old.left }
+{
+    let holds = evaluator.value(alloc, template, item, value, work, steps)?;
+    match holds.as_boolean() {
+        Some(true) => Ok(()),
+        Some(false) => Err(refusal(alloc, Misfit::FalseTest)),
+        None => Err(Exit::Stopped(fault(alloc, Code::NotBoolean, place))),
+    }
+}
+
+/// What `with` tests, where it is written.
+#[tactic(auto, unfolding(crate::specs::Check::condition_run))]
+pub(crate) fn check_condition<L: Ledger, E: Evaluator<L>>(
+    alloc: Global,
+    place: &Place,
+    condition: &Option<Rc<Item>>,
+    template: &Name,
+    value: &Tree,
+    evaluator: &mut E,
+    work: &mut Work,
+    steps: &mut Steps<L>,
+) -> Result<(), Exit>
+    ensures gives { Checks (λ x. x) result E.answers work.old (E.asked evaluator.old) work.new
+        (E.asked evaluator.new) (condition_run E.means place.now (body_seen condition.now)
+        template.now value.now) }
+    ensures counted { steps.new + work.new.left ≡ steps.old + work.old.left }
+{
+    match condition {
+        None => Ok(()),
+        Some(item) => check_test(alloc, place, item, template, value, evaluator, work, steps),
+    }
+}
+
+/// The value behind a link.
+#[tactic(auto, unfolding(crate::specs::Check::target_run))]
+pub(crate) fn link_target<L: Ledger, E: Evaluator<L>>(
+    alloc: Global,
+    place: &Place,
+    value: &Tree,
+    evaluator: &mut E,
+    work: &Work,
+) -> Result<Tree, Exit>
+    ensures { Checks (λ t. t) result E.answers work.now (E.asked evaluator.old) work.now
+        (E.asked evaluator.new) (target_run E.means place.now (link_path value.now)) }
+{
+    let Some(path) = link_path(alloc, value)? else {
+        return Err(refusal(alloc, Misfit::WrongType));
+    };
+    match evaluator.look(alloc, place, &path, work)? {
+        Some(target) => Ok(target),
+        None => Err(refusal(alloc, Misfit::WrongType)),
+    }
+}
+
+/// A field of a record that is not there.
+#[tactic(auto, unfolding(crate::specs::Check::field_run))]
+pub(crate) fn check_absent<L: Ledger, E: Evaluator<L>>(
+    alloc: Global,
+    key: &Key,
+    required: bool,
+    evaluator: &E,
+    work: &Work,
+) -> Result<(), Exit>
+    ensures { (f : Plain → runs.Checks (Unit {0})) → Checks (λ x. x) result E.answers work.now
+        (E.asked evaluator.now) work.now (E.asked evaluator.now)
+        (field_run key.now required f None) }
+{
+    if required {
+        Err(refusal_at(alloc, Misfit::MissingField, key))
+    } else {
+        Ok(())
+    }
+}
+
+#[tactic(auto, using(crate::proofs::Walking::has_more, type_defs::proofs::Shapes::seen_field))]
+fn has_key(fields: &[RecordField], key: &Key) -> bool
+    ensures { result ≡ has_key key.now (fields_of (all_seen fields.now)) }
+{
+    for field in fields {
+        if *key == field.key {
+            return true;
+        }
+    }
+    false
+}
+
+/// The i-th key of a dict, where no field has it.
+fn extra_key<'a>(fields: &[RecordField], value: &'a Tree, i: usize) -> Option<&'a Key>
+    ensures { option_copied result
+        ≡ extra_key (fields_of (all_seen fields.now)) (key_at i value.now) }
+{
+    match value.key_handle(i) {
+        None => None,
+        Some(key) => {
+            if has_key(fields, key) {
+                None
+            } else {
+                Some(key)
+            }
+        }
+    }
+}
+
+/// The least key of a dict that no field has.
+#[tactic(auto, using(crate::proofs::Walking::other_more, crate::proofs::Walking::other_end, crate::proofs::Walking::fields_start))]
+fn other_key<'a>(fields: &[RecordField], value: &'a Tree) -> Option<&'a Key>
+    requires { kind_of value.now ≡ kind.Dict }
+    ensures { option_copied result
+        ≡ other_key (fields_of (all_seen fields.now)) (child_fields value.now) }
+{
+    for i in 0..value.len() {
+        let extra = extra_key(fields, value, i);
+        if extra.is_some() {
+            return extra;
+        }
+    }
+    None
+}
+
+/// Checks that a dict has no key but those of fields.
+pub(crate) fn check_no_other<L: Ledger, E: Evaluator<L>>(
+    alloc: Global,
+    fields: &[RecordField],
+    value: &Tree,
+    evaluator: &E,
+    work: &Work,
+) -> Result<(), Exit>
+    requires { kind_of value.now ≡ kind.Dict }
+    ensures { Checks (λ x. x) result E.answers work.now (E.asked evaluator.now) work.now
+        (E.asked evaluator.now) (no_other (other_key (fields_of (all_seen fields.now))
+        (child_fields value.now))) }
+{
+    match other_key(fields, value) {
+        None => Ok(()),
+        Some(key) => Err(refusal_at(alloc, Misfit::ExtraField, key)),
+    }
+}
