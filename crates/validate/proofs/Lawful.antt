@@ -88,6 +88,7 @@ module _ (may : Key → Type 0) (e : Means) (h : LawfulMeans may e) where
 
   mutual
     unfolding visit
+
     pub check_lawful : (p : Place) (t : Resolved) (v : Plain) → Lawful may 0 (check e p t v)
     check_lawful p (Known s c template d) v = lawful_step_then may 0 p _ (lawful_bind_first may 1 (shape_run e p s v) _ (shape_lawful p s v) (λ x. unless_lawful may 0 _ x (λ _. condition_lawful p c template v)))
 

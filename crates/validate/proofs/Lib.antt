@@ -5,3 +5,4 @@ pub mod Lawful
 pub mod Told
 pub mod Conforming
 pub mod Sound
+pub mod Rows

@@ -79,7 +79,8 @@ pub record IsLinkTo (e : Means) (w : Whole) (P : Plain → Type 0) (v : Plain) :
   pub there : Sees e w path target
   pub fits : P target
 
-pub record IsRecord (extensible : Bool) (fs : Fields) (P : Values → Type 0) (v : Plain) : Type 0 where
+pub record IsRecord (extensible : Bool) (fs : Fields) (P : Values → Type 0) (v : Plain)
+    : Type 0 where
   pub fields : Values
   pub is : v ≡ dict fields
   pub each : P fields

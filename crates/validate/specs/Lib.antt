@@ -1,5 +1,6 @@
--- What a stranger has to believe: what a check takes of the language; kinds and ranges; when a value
--- conforms to a type, and an object is sound; what that asks of the language.
+-- What a stranger has to believe: what a check takes of the language; kinds and ranges; the check of
+-- a value and of an object; when a value conforms to a type, and an object is sound; what that asks
+-- of the language.
 pub mod Means
 pub mod Kinds
 pub mod Refusals

@@ -1,5 +1,5 @@
--- What is asked of the meaning of items and paths: more work changes no answer, but that the work is
--- spent; and a value that is seen is seen from any place.
+-- What is asked of the meaning of items and paths: more work changes no answer, but that the work
+-- is spent; and a value that is seen is seen from any place.
 use Rattle.std.specs.Prelude.{◌≡◌, ℕ, ◌≤◌, List}
 use Rattle.path_tree.specs.Plain.{Plain}
 use Rattle.path_tree.specs.declared.path.Path.{Path}
@@ -11,8 +11,8 @@ use Rattle.dml_meaning.specs.Lookups.{Looked}
 use Rattle.validate.specs.Conforms.{EndsWith, Whole, alone}
 use Rattle.validate.specs.Means.{Means}
 
--- A run that begins with this much left ends as the whole run where both are done, and is done where
--- the whole run is, unless its work is spent. What it leaves is no more.
+-- A run that begins with this much left ends as the whole run where both are done, and is done
+-- where the whole run is, unless its work is spent. What it leaves is no more.
 abbrev pub Agrees : {X : Type 0} → ℕ → Outcome (Unit {0}) X → Outcome (Unit {0}) X → Type 0
 Agrees left (Done x s m) w = EndsWith x w × (m.left ≤ left)
 Agrees {X} left (Returned t s m) w = (x : X) → EndsWith x w → ⊥

@@ -13,7 +13,9 @@ use crate::evaluator::Evaluator;
 use crate::exits::{at_link, below_index, below_key};
 use crate::kinds::{is_count, is_in};
 use crate::leaf::{refusal, take_step};
-use crate::parts::{check_absent, check_base, check_choice, check_condition, check_no_other, link_target};
+use crate::parts::{
+    check_absent, check_base, check_choice, check_condition, check_no_other, link_target,
+};
 use crate::refusal::{Exit, Misfit};
 use base::Steps;
 use pan_ast::{Place, Work};

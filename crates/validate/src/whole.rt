@@ -68,13 +68,7 @@ fn placed(alloc: Global, bound: &Bound, checked: Result<(), Exit>) -> Result<(),
         Err(Exit::Refused(refusal)) => {
             let code = refusal.misfit.code();
             let terms = bound.terms.as_slice();
-            Err(path_fault(
-                alloc,
-                code,
-                &bound.place,
-                terms,
-                &refusal.terms,
-            ))
+            Err(path_fault(alloc, code, &bound.place, terms, &refusal.terms))
         }
         Err(Exit::Stopped(stop)) => Err(stop),
     }
@@ -134,17 +128,12 @@ fn check_bound<L: Ledger, E: Evaluator<L>>(
         (get bound.now.terms root.now)) }
     ensures counted { steps.new + work.new.left ≡ steps.old + work.old.left }
 {
+    let at = &bound.place;
     let terms = bound.terms.as_slice();
-    match root.get(terms) {
-        None => Err(path_fault(
-            alloc,
-            Code::NoBoundPath,
-            &bound.place,
-            terms,
-            &[],
-        )),
-        Some(value) => check_there(alloc, bound, value, evaluator, work, steps),
-    }
+    let Some(value) = root.get(terms) else {
+        return Err(path_fault(alloc, Code::NoBoundPath, at, terms, &[]));
+    };
+    check_there(alloc, bound, value, evaluator, work, steps)
 }
 
 #[tactic(auto, using(crate::proofs::Statements::bounds_more), unfolding(crate::specs::Checked::bounds_run))]
@@ -216,9 +205,9 @@ fn check_valids<L: Ledger, E: Evaluator<L>>(
 /// Checks an object's tree (Pan Book, "Validation"): that no undef is left, each binding in path
 /// order, and each valid statement in the order of execution. The answer is the first fault. F41
 /// stands at the object's header. At a binding stand F42, where its path is absent; the faults of
-/// its type; F26, where a `with` gives no boolean; and F24, where the work of a visit is spent. F42,
-/// F26 and F40 of a valid statement stand at it. `Need` says that a key is asked whose content the
-/// evaluator does not know.
+/// its type; F26, where a `with` gives no boolean; and F24, where the work of a visit is spent.
+/// F42, F26 and F40 of a valid statement stand at the statement. `Need` says that a key is asked
+/// whose content the evaluator does not know.
 #[tactic(auto, unfolding(crate::specs::Checked::checked))]
 pub fn check<L: Ledger, E: Evaluator<L>>(
     alloc: Global,
