@@ -5,13 +5,13 @@ use Rattle.engine_laws.specs.Names.{Name, equal}
 use Rattle.engine_laws.proofs.Names.{equal-true, equal-is}
 use Rattle.engine_laws.specs.Engine.{is_among, how_many, one_if}
 use Rattle.engine_machine.proofs.Truths.{both}
-use Rattle.rebuild.specs.declared.rows.Row.{Row}
-use Rattle.rebuild.specs.declared.core_data.Core.{Core}
-use Rattle.rebuild.specs.Places.{row_in, of_row, column, names}
-use Rattle.rebuild.specs.Ready.{are_once}
+use Rattle.engine_turns.specs.declared.rows.Row.{Row}
+use Rattle.engine_turns.specs.declared.core_data.Core.{Core}
+use Rattle.engine_turns.specs.Places.{row_in, of_row, column, names}
+use Rattle.engine_turns.specs.Ready.{are_once}
 use Rattle.rebuild.specs.Engines.{situation_of}
 use Rattle.rebuild.specs.Answers.{answer_at, answer_found, why_at, why_found, reads_at, reads_found, if_run, run_names, runs_at, one_of, count_rows}
-use Rattle.rebuild.proofs.ByName.{no_row, some_row}
+use Rattle.engine_turns.proofs.ByName.{no_row, some_row}
 
 module _ {T : Type 0} (c : Core T) (p : Name) where
   pub answered : answer_found (row_in p c.rows.items) ≡ answer_at (situation_of c) p

@@ -10,16 +10,16 @@ use Rattle.engine_laws.specs.Reached.{IsReached}
 use Rattle.engine_laws.proofs.Reached.{leads_on, reached_scratch}
 use Rattle.engine_machine.specs.Machine.{runner_of, keeping, judge_of}
 use Rattle.engine_machine.proofs.Truths.{both}
-use Rattle.rebuild.specs.declared.core_data.Core.{Core}
-use Rattle.rebuild.specs.declared.turned.Turned.{Turned}
-use Rattle.rebuild.specs.declared.turned.TurnError.{TurnError}
-use Rattle.rebuild.specs.Places.{names}
-use Rattle.rebuild.specs.States.{picture_of, are_graded}
-use Rattle.rebuild.specs.Ready.{core_state, is_chain, are_once, IsReady, StaysReady}
-use Rattle.rebuild.specs.Turning.{turned}
+use Rattle.engine_turns.specs.declared.core_data.Core.{Core}
+use Rattle.engine_turns.specs.declared.turned.Turned.{Turned}
+use Rattle.engine_turns.specs.declared.turned.TurnError.{TurnError}
+use Rattle.engine_turns.specs.Places.{names}
+use Rattle.engine_turns.specs.States.{picture_of, are_graded}
+use Rattle.engine_turns.specs.Ready.{core_state, is_chain, are_once, IsReady, StaysReady}
+use Rattle.engine_turns.specs.Turning.{turned}
 use Rattle.rebuild.specs.Engines.{EngineSituation, Meanings, situation_of, value_of, is_ready, IsEngine, after_turn, IsTrue}
-use Rattle.rebuild.proofs.Readies.{both_true}
-use Rattle.rebuild.proofs.ByName.{names_length}
+use Rattle.engine_turns.proofs.Readies.{both_true}
+use Rattle.engine_turns.proofs.ByName.{names_length}
 
 pub ready_is : {T : Type 0} → (c : Core T) → is_ready c ≡ true → IsReady c
 ready_is c e =

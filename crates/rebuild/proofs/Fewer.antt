@@ -16,10 +16,10 @@ use Rattle.engine_laws.proofs.Reached.{reached_holds}
 use Rattle.engine_machine.specs.Machine.{runner_of, keeping, judge_of}
 use Rattle.engine_machine.proofs.Costs.{ends_soon}
 use Rattle.engine_machine.proofs.Truths.{both}
-use Rattle.rebuild.specs.declared.core_data.Core.{Core}
-use Rattle.rebuild.specs.Places.{names}
-use Rattle.rebuild.specs.States.{pictured, chain_of, checking_of}
-use Rattle.rebuild.specs.Ready.{core_state, core_picture, are_builds, is_empty, is_chain, are_once, IsReady, StaysReady}
+use Rattle.engine_turns.specs.declared.core_data.Core.{Core}
+use Rattle.engine_turns.specs.Places.{names}
+use Rattle.engine_turns.specs.States.{pictured, chain_of, checking_of}
+use Rattle.engine_turns.specs.Ready.{core_state, core_picture, are_builds, is_empty, is_chain, are_once, IsReady, StaysReady}
 use Rattle.rebuild.specs.Engines.{Meanings, situation_of, value_of, parts_of, turns_left_of, IsEngine, after_turn}
 
 in_among : (p : Name) (xs : List Name) → IsIn p xs → is_among p xs ≡ true

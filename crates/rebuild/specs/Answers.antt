@@ -13,9 +13,9 @@ use Rattle.rebuild.specs.declared.answers.Answer.TheVariants as answer
 use Rattle.rebuild.specs.declared.answers.Why.{Why}
 use Rattle.rebuild.specs.declared.answers.Why.TheVariants as why
 use Rattle.rebuild.specs.declared.answers.Reads.{Reads}
-use Rattle.rebuild.specs.declared.rows.Row.{Row}
-use Rattle.rebuild.specs.Places.{row_in}
-use Rattle.rebuild.specs.States.{last_of, reads_of, checked_of, why_of}
+use Rattle.engine_turns.specs.declared.rows.Row.{Row}
+use Rattle.engine_turns.specs.Places.{row_in}
+use Rattle.engine_turns.specs.States.{last_of, reads_of, checked_of, why_of}
 use Rattle.rebuild.specs.Engines.{EngineSituation}
 
 -- an answer as definitions see it

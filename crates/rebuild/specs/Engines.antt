@@ -12,12 +12,12 @@ use Rattle.engine_laws.specs.Engine.{Situation, Event, Take, Turn, happens, on_c
 use Rattle.engine_laws.specs.Reached.{IsReached}
 use Rattle.engine_machine.specs.Machine.{Kept, runner_of, keeping, judge_of}
 use Rattle.engine_machine.specs.Pictures.{picture_in}
-use Rattle.rebuild.specs.declared.core_data.Core.{Core}
-use Rattle.rebuild.specs.declared.rows.FileRow.{FileRow}
-use Rattle.rebuild.specs.Places.{names}
-use Rattle.rebuild.specs.States.{are_graded, number_in, picture_of, state_of}
+use Rattle.engine_turns.specs.declared.core_data.Core.{Core}
+use Rattle.engine_turns.specs.declared.rows.FileRow.{FileRow}
+use Rattle.engine_turns.specs.Places.{names}
+use Rattle.engine_turns.specs.States.{are_graded, number_in, picture_of, state_of}
 use Rattle.rebuild.specs.Taking.{numbered, counter_after}
-use Rattle.rebuild.specs.Ready.{core_state, core_picture, is_chain, are_known, are_once}
+use Rattle.engine_turns.specs.Ready.{core_state, core_picture, is_chain, are_known, are_once}
 
 abbrev pub EngineSituation : Type 0 → Type 0
 EngineSituation T = Situation Key Content (End T) Kept Verdict

@@ -2,9 +2,9 @@
 
 ghost use Rattle.std.specs.Prelude.{◌≡◌, ◌≤◌, ◌++◌, [], IfOk, length, option_copied};
 ghost use Rattle.rebuild.specs.Answers.{seen_answer, answer_of_row, answer_found, seen_why, why_found, seen_reads, reads_of_row, reads_found, run_names};
-ghost use Rattle.rebuild.specs.Places.{row_in, names};
+ghost use Rattle.engine_turns.specs.Places.{row_in, names};
 
-use crate::rows::{Cause, Row};
+use engine_turns::{Cause, Row};
 use pan_ast::Fault;
 use path_tree::{Name, Tree};
 use read_sets::{Key, Trace};

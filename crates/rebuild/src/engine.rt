@@ -6,11 +6,11 @@ ghost use Rattle.base.specs.declared.limits.TheConstants.{MAX_OBJECTS};
 ghost use Rattle.rebuild.specs.Engines.{is_ready, IsEngine, value_of};
 
 use crate::answers::{Answer, Reads, Why, answer_in, names_in, reads_in, runs_in, why_in};
-use crate::core_data::Core;
+use engine_turns::Core;
 use crate::renewing::take_picture;
 use crate::taking::TakeError;
-use crate::turned::{TurnError, Turned};
-use crate::turning::{step, turned_by};
+use engine_turns::{TurnError, Turned};
+use engine_turns::{step, turned_by};
 use base::{Seq, Steps, Text};
 use foreign_values::Chain;
 use load_path::Picture;
@@ -45,9 +45,9 @@ impl<R: Runner> Engine<R> {
     ghost use Rattle.object_names.specs.Objects.{AreObjects};
     ghost use Rattle.rebuild.specs.Answers.{seen_answer, answer_at, seen_why, why_at, seen_reads, reads_at, runs_at};
     ghost use Rattle.rebuild.specs.Engines.{situation_of, new_situation, after_take, after_turn, IsTrue, objects_of, parts_of, turns_left_of};
-    ghost use Rattle.rebuild.specs.Opening.{turned_by};
+    ghost use Rattle.engine_turns.specs.Opening.{turned_by};
     ghost use Rattle.rebuild.specs.Refused.{IsRefused};
-    ghost use Rattle.rebuild.specs.States.{pictured};
+    ghost use Rattle.engine_turns.specs.States.{pictured};
 
     /// An engine with an empty picture and no records.
     pub fn new(alloc: Global, limits: Limits, dirs: Seq<Text>) -> Engine<R>

@@ -6,7 +6,7 @@ ghost use Rattle.rebuild.specs.Taking.{same_content, file_in, old_or_none, numbe
 ghost use Rattle.rebuild.specs.Refused.{IsSpent};
 ghost use Rattle.rebuild.specs.declared.taking.TakeError.TheVariants.{Memory};
 
-use crate::rows::FileRow;
+use engine_turns::FileRow;
 use asking::limits::END_OF_NUMBERS;
 use base::{Bytes, Steps};
 use load_path::{Content, PictureFile};
