@@ -1,17 +1,14 @@
 -- The cases of a check part are those of the machine.
 use Rattle.std.proofs.Common.{◌≡◌, ℕ, List, [], Bool, true, false, Option, Some, None, option_map, map, Ok, Err, get_or, refl, sym, ap, ◌∙◌, subst}
 use Rattle.std.specs.Prelude.{slice_get}
-use Rattle.load_path.specs.declared.picture.PictureFile.{PictureFile}
 use Rattle.pan_ast.specs.declared.fault.Fault.{Fault}
 use Rattle.foreign_values.specs.Chains.{below}
 use Rattle.questions.specs.declared.key.Key.{Key}
 use Rattle.read_sets.specs.Items.{key_of, pairs_of}
-use Rattle.questions.specs.Contents.{Content}
 use Rattle.runner.specs.declared.ends.Built.{Built}
-use Rattle.runner.specs.Words.{words}
 use Rattle.engine_laws.specs.Names.{Name}
-use Rattle.asking.specs.Asked.{Answer, Ran, Finished, Stops, ran}
-use Rattle.engine_laws.specs.Engine.{Why, Changed, Compared, AllEqual, Differs, Waits, compared, tells, entered, after_check, check_held, after_rerun, check_end as check_end_by, with_check, after_check_compare, check_last, check_grade}
+use Rattle.asking.specs.Asked.{Ran, Finished, Stops}
+use Rattle.engine_laws.specs.Engine.{Why, Changed, Compared, AllEqual, Differs, Waits, compared, entered, after_check, check_held, after_rerun, check_end as check_end_by, with_check, after_check_compare, check_last, check_grade}
 use Rattle.engine_turns.specs.declared.comparing.Found.{Found}
 use Rattle.engine_turns.specs.declared.comparing.Found.TheVariants as found
 use Rattle.engine_turns.specs.declared.rows.CheckRecord.{CheckRecord}
@@ -21,17 +18,16 @@ use Rattle.engine_turns.specs.declared.core_data.Core.{Core}
 use Rattle.engine_machine.specs.Machine.{Kept, runner_of, keeping, judge_of, fault_grade, Builds, Checks}
 use Rattle.runner.specs.Ends.{End, Verdict}
 use Rattle.questions.specs.Laws.{is_circular}
-use Rattle.engine_turns.specs.Places.{column, file_number_in}
-use Rattle.engine_turns.specs.Told.{seen_in, core_number_of}
+use Rattle.engine_turns.specs.Places.{column}
+use Rattle.engine_turns.specs.Told.{core_number_of}
 use Rattle.engine_turns.specs.Compared.{found_in, found_of, check_reads}
 use Rattle.engine_turns.specs.Changes.{check_cause, changed_cause}
 use Rattle.engine_turns.specs.Kinds.{is_tree, last_kind}
-use Rattle.engine_turns.specs.States.{EngineState, pictured, last_pair, last_of, check_pair, checked_of, why_by, held_end, held_of, state_of}
+use Rattle.engine_turns.specs.States.{EngineState, last_pair, last_of, check_pair, checked_of, why_by, held_end, held_of, state_of}
 use Rattle.engine_turns.specs.Ready.{core_state, core_picture, top_name, IsReady, IsCheckTop}
 use Rattle.engine_turns.specs.Turning.{popped, judged_turn, judged_kept_turn, judged_run_turn, ended_turn, top_check_cause, run_check_state, with_check_state, check_state, top_run, value_run}
 use Rattle.engine_turns.proofs.Comparisons.{telling, FoundAs, finds}
-use Rattle.engine_turns.proofs.Judges.{here, named, cause_is, alone}
-use Rattle.questions.specs.Told.{more_than_asked}
+use Rattle.engine_turns.proofs.Judges.{here, cause_is, alone}
 
 module _ {T : Type 0} (build : Builds T) (check : Checks T) (c : Core T) where
   -- the state in which the check part runs

@@ -23,7 +23,6 @@ use Rattle.engine_turns.specs.declared.core_data.Core.{Core}
 use Rattle.engine_turns.specs.declared.comparing.Found.{Found}
 use Rattle.engine_turns.specs.declared.comparing.Found.TheVariants as found
 use Rattle.engine_machine.specs.Machine.{runner_of, keeping, Builds}
-use Rattle.runner.specs.Ends.{End}
 use Rattle.engine_turns.specs.Places.{names, file_number_in}
 use Rattle.engine_turns.specs.Told.{seen_in, core_number_of}
 use Rattle.engine_turns.specs.Compared.{waits_for, found_at, found_in, found_of}

@@ -1,20 +1,18 @@
 -- What the cases of a turn spend is what the machine's turn spends.
-use Rattle.std.proofs.Common.{◌≡◌, ◌+◌, ◌≤◌, ◌<◌, ℕ, List, [], ◌∷◌, Bool, true, false, Option, Some, None, option_map, Result, Ok, Err, get_or, refl, sym, ap, ◌∙◌, subst, arith}
-use Rattle.asking.specs.Asked.{Ran, Finished, Stops, ran}
-use Rattle.asking.specs.declared.limits.TheConstants.{END_OF_NUMBERS}
+use Rattle.std.proofs.Common.{◌≡◌, ◌+◌, ℕ, List, [], ◌∷◌, Bool, true, false, Option, Some, None, option_map, Result, Ok, Err, get_or, refl, sym, ap, ◌∙◌, subst, arith}
+use Rattle.asking.specs.Asked.{Ran, Finished, Stops}
 use Rattle.pan_ast.specs.declared.fault.Fault.{Fault}
 use Rattle.path_tree.specs.Plain.{Plain}
 use Rattle.foreign_values.specs.declared.Part.{Part}
 use Rattle.foreign_values.specs.declared.Part.TheVariants as part
 use Rattle.questions.specs.declared.key.Key.{Key}
 use Rattle.questions.specs.Laws.{is_circular}
-use Rattle.questions.specs.Contents.{Content}
 use Rattle.read_sets.specs.declared.trace.Item.{Item}
 use Rattle.read_sets.specs.Items.{pairs_of}
 use Rattle.runner.specs.Meaning.{Meaning}
 use Rattle.runner.specs.Ends.{End, Verdict}
 use Rattle.runner.specs.declared.ends.Built.{Built}
-use Rattle.engine_laws.specs.Engine.{Grade, Compared, AllEqual, Differs, Waits, compared}
+use Rattle.engine_laws.specs.Engine.{Compared, AllEqual, Differs, Waits, compared}
 use Rattle.engine_laws.specs.Steps.{Work, both_of, nothing, compared_work, record_work, rebuilt_work, held_work, value_work as graded_value_work, check_compared_work, checked_work, graded_work, last_work}
 use Rattle.engine_machine.specs.Machine.{Kept, runner_of, keeping, judge_of, costs_of, fault_grade}
 use Rattle.engine_turns.specs.declared.comparing.Found.{Found}

@@ -3,17 +3,12 @@ use Rattle.std.proofs.Common.{◌≡◌, ◌||◌, ℕ, List, [], ◌∷◌, Boo
 use Rattle.foreign_values.specs.declared.Part.{Part}
 use Rattle.foreign_values.specs.declared.Part.TheVariants as part
 use Rattle.foreign_values.specs.Chains.{top_of}
-use Rattle.questions.specs.declared.key.Key.{Key}
-use Rattle.questions.specs.Contents.{Content}
-use Rattle.runner.specs.declared.ends.Built.{Built}
 use Rattle.engine_laws.specs.Names.{Name, equal}
 use Rattle.engine_laws.proofs.Names.{equal-true, equal-is}
-use Rattle.asking.specs.Asked.{Answer}
 use Rattle.engine_laws.specs.Engine.{least, is_among, open_turn, check_opened}
 use Rattle.engine_turns.specs.declared.rows.Row.{Row}
 use Rattle.engine_turns.specs.declared.core_data.Core.{Core}
 use Rattle.engine_machine.specs.Machine.{runner_of, keeping, Builds, Checks}
-use Rattle.runner.specs.Ends.{End, Verdict}
 use Rattle.engine_turns.specs.Places.{row_place, row_in, of_row, column, name_of, names}
 use Rattle.engine_turns.specs.States.{EngineState}
 use Rattle.engine_turns.specs.Ready.{core_state, core_picture, top_name, is_build_top, is_check_top, are_known, are_once, IsReady, IsBuildTop, IsCheckTop}

@@ -7,16 +7,14 @@ use Rattle.foreign_values.specs.declared.Part.TheVariants as part
 use Rattle.foreign_values.specs.Chains.{holds_build}
 use Rattle.questions.specs.declared.key.Key.{Key}
 use Rattle.questions.specs.declared.key.Key.TheVariants.{File, Under}
-use Rattle.questions.specs.Contents.{Content}
 use Rattle.runner.specs.Words.{words, object_word, object_content}
 use Rattle.engine_laws.specs.Names.{Name, equal}
-use Rattle.asking.specs.Asked.{Answer, Tells}
+use Rattle.asking.specs.Asked.{Tells}
 use Rattle.engine_laws.specs.Engine.{Grade, Circle, Failure, Whole, is_among, tells, tells_at, tells_object, tells_last}
 use Rattle.engine_turns.specs.declared.rows.FileRow.{FileRow}
 use Rattle.engine_turns.specs.declared.rows.Last.{Last}
 use Rattle.engine_turns.specs.declared.rows.Row.{Row}
 use Rattle.engine_machine.specs.Machine.{Kept, runner_of, keeping, kept_content, failed_content, code_grade, Builds}
-use Rattle.runner.specs.Ends.{End}
 use Rattle.engine_turns.specs.Places.{row_in, of_row, names, file_number_in}
 use Rattle.engine_turns.specs.Told.{seen_result, seen_settled, seen_row, seen_in, seen_found}
 use Rattle.engine_turns.specs.States.{pictured, picture_of, last_pair, last_of, chain_of, state_of, failed_number, has_grade, is_graded, are_graded}

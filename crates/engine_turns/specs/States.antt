@@ -1,5 +1,5 @@
 -- The engine's data as a state of the machine.
-use Rattle.std.specs.Prelude.{ℕ, List, [], ◌∷◌, Bool, true, false, ◌&&◌, nat_eq, nat_le, cond, Option, Some, None, option_map, map, Ok, Err}
+use Rattle.std.specs.Prelude.{ℕ, List, [], ◌∷◌, Bool, true, false, ◌&&◌, nat_eq, nat_le, Option, Some, None, option_map, map, Ok, Err}
 use Rattle.load_path.specs.declared.picture.PictureFile.{PictureFile}
 use Rattle.questions.specs.declared.key.Key.{Key}
 use Rattle.questions.specs.declared.key.Key.TheVariants.{File, Under}
@@ -10,7 +10,7 @@ use Rattle.foreign_values.specs.declared.Part.{Part}
 use Rattle.foreign_values.specs.declared.Part.TheVariants as part
 use Rattle.engine_laws.specs.Names.{Name}
 use Rattle.engine_laws.specs.Runner.{Picture}
-use Rattle.engine_laws.specs.Engine.{State, Why, NotRun, NoRecord, Changed, Grade, Circle, Failure, Whole, is_among}
+use Rattle.engine_laws.specs.Engine.{State, Why, NotRun, NoRecord, Changed, Grade, Circle, Failure, Whole}
 use Rattle.engine_turns.specs.declared.rows.FileRow.{FileRow}
 use Rattle.engine_turns.specs.declared.rows.Last.{Last}
 use Rattle.engine_turns.specs.declared.rows.CheckRecord.{CheckRecord}

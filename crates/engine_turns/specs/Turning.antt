@@ -6,7 +6,7 @@ use Rattle.questions.specs.Contents.{Content}
 use Rattle.runner.specs.declared.ends.Built.{Built}
 use Rattle.engine_laws.specs.Names.{Name}
 use Rattle.questions.specs.Told.{more_than_asked}
-use Rattle.asking.specs.Asked.{ran, Answer, Ends, Ran, Finished, Stops}
+use Rattle.asking.specs.Asked.{ran, Ends, Ran, Finished, Stops}
 use Rattle.engine_laws.specs.Engine.{Why, NoRecord, Judge, least, kept_on, judged, judged_kept, entered, after_check, run_check_turn, with_check, check_turn, open_turn, pushed, dropped, after_run, run_turn, with_record, turn, tells}
 use Rattle.engine_turns.specs.declared.core_data.Core.{Core}
 use Rattle.engine_machine.specs.Machine.{nowhere, runner_of, keeping, judge_of, Builds, Checks}

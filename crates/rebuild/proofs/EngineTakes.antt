@@ -9,7 +9,7 @@ use Rattle.pan_ast.specs.declared.work.Limits.{Limits}
 use Rattle.questions.specs.declared.key.Key.TheVariants.{File}
 use Rattle.runner.specs.Meaning.{IsLawful}
 use Rattle.engine_laws.specs.Names.{Name}
-use Rattle.engine_laws.specs.Engine.{Take, AreNumbered}
+use Rattle.engine_laws.specs.Engine.{AreNumbered}
 use Rattle.engine_laws.specs.Reached.{IsReached}
 use Rattle.engine_laws.proofs.Reached.{leads_on, reached_holds}
 use Rattle.engine_machine.specs.Machine.{runner_of, keeping, judge_of}
@@ -20,7 +20,7 @@ use Rattle.engine_turns.specs.declared.rows.FileRow.{FileRow}
 use Rattle.rebuild.specs.declared.taking.TakeError.{TakeError}
 use Rattle.engine_turns.specs.Places.{names}
 use Rattle.engine_turns.specs.States.{picture_of, pictured, number_in}
-use Rattle.rebuild.specs.Taking.{old_or_none, number_or, counter_or, numbered, counter_after}
+use Rattle.rebuild.specs.Taking.{old_or_none, counter_or, numbered, counter_after}
 use Rattle.rebuild.specs.Renewing.{IsTaken, IsPictureTaken}
 use Rattle.engine_turns.specs.Ready.{core_picture, IsReady}
 use Rattle.rebuild.specs.Engines.{EngineSituation, Meanings, situation_of, objects_of, value_of, is_ready, IsEngine, take_of, after_take}

@@ -1,5 +1,5 @@
 -- The empty engine.
-use Rattle.std.proofs.Common.{◌≡◌, ◌&&◌, nat_le, ℕ, List, [], true, refl, sym, inl, arith}
+use Rattle.std.proofs.Common.{◌≡◌, ◌&&◌, nat_le, List, [], true, refl, sym, inl, arith}
 use Rattle.foreign_values.specs.declared.Part.{Part}
 use Rattle.questions.specs.declared.key.Key.{Key}
 use Rattle.questions.specs.declared.key.Key.TheVariants.{File, Under}

@@ -1,6 +1,5 @@
 -- The objects that a take finds.
-use Rattle.std.proofs.Common.{◌≡◌, ◌≤◌, ◌||◌, ◌&&◌, ℕ, List, [], ◌∷◌, Bool, true, false, not, length, Result, Ok, Err, OnOk, refl, sym, ap, ◌∙◌, subst}
-use Rattle.std.specs.Prelude.{bytes_eq}
+use Rattle.std.proofs.Common.{◌≡◌, ◌≤◌, ◌||◌, List, [], ◌∷◌, Bool, true, false, not, length, Result, Ok, Err, OnOk, refl, sym, ap, ◌∙◌, subst}
 use Rattle.base.specs.declared.limits.TheConstants.{MAX_OBJECTS}
 use Rattle.load_path.specs.Pictures.{is_below}
 use Rattle.load_path.specs.declared.picture.PictureFile.{PictureFile}
@@ -12,7 +11,6 @@ use Rattle.engine_laws.proofs.Names.{equal-true, equal-is}
 use Rattle.engine_machine.proofs.Truths.{both}
 use Rattle.engine_turns.specs.declared.core_data.Core.{Core}
 use Rattle.rebuild.specs.declared.taking.TakeError.{TakeError}
-use Rattle.engine_turns.specs.Places.{names}
 use Rattle.engine_turns.specs.Ready.{are_once}
 use Rattle.rebuild.specs.Renewing.{IsTaken, IsPictureTaken}
 use Rattle.engine_turns.proofs.Readies.{both_true}

@@ -8,11 +8,10 @@ ghost use Rattle.rebuild.specs.declared.taking.TakeError.TheVariants.{Memory};
 ghost use Rattle.rebuild.specs.Refused.{IsSpent, IsRefused};
 ghost use Rattle.rebuild.specs.Renewing.{reopened, IsRenewed, IsTaken, IsPictureTaken};
 
-use engine_turns::Core;
-use engine_turns::{Cause, Row, row_place};
 use crate::taking::{TakeError, number_files};
 use base::Steps;
 use base::limits::MAX_OBJECTS;
+use engine_turns::{Cause, Core, Row, row_place};
 use foreign_values::Chain;
 use load_path::{Picture, PictureFile};
 use object_names::objects;
