@@ -13,6 +13,7 @@ use read_sets::{Key, Trace};
 use std::alloc::{AllocError, Global};
 
 /// The answer for a name: its profile's tree, its fault, that it is not settled, or that it is no object.
+#[derive(Clone, Copy)]
 pub enum Answer<'a> {
     Profile(&'a Tree),
     Fault(&'a Fault),
@@ -21,6 +22,7 @@ pub enum Answer<'a> {
 }
 
 /// Why a name was run last.
+#[derive(Clone, Copy)]
 pub enum Why<'a> {
     NotRun,
     NoRecord,
@@ -29,6 +31,7 @@ pub enum Why<'a> {
 }
 
 /// What an object asked for in its build and in its check.
+#[derive(Clone, Copy)]
 pub struct Reads<'a> {
     pub build: &'a Trace,
     pub check: &'a Trace,

@@ -1,6 +1,6 @@
 //! The engine.
 
-ghost use Rattle.std.specs.Prelude.{◌≡◌, ◌↔◌, ◌≤◌, ◌+◌, ◌-◌, true, IfOk, IfErr, OnOk, OnErr, length};
+ghost use Rattle.std.specs.Prelude.{◌≡◌, ◌↔◌, [], ◌≤◌, ◌+◌, ◌-◌, true, IfOk, IfErr, OnOk, OnErr, length};
 ghost use Rattle.asking.specs.declared.limits.TheConstants.{END_OF_NUMBERS};
 ghost use Rattle.base.specs.declared.limits.TheConstants.{MAX_OBJECTS};
 ghost use Rattle.rebuild.specs.Engines.{is_ready, IsEngine, value_of};
@@ -56,6 +56,7 @@ impl<R: Runner> Engine<R> {
         ensures fresh { situation_of result.core ≡ new_situation }
         ensures limits { result.core.limits ≡ limits }
         ensures dirs { result.core.dirs ≡ dirs }
+        ensures files { result.core.files.items ≡ [] }
         ensures reached { ∥ IsEngine R.meaning (value_of result.core) ∥₁ }
     {
         Engine {
