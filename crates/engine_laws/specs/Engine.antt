@@ -1,8 +1,8 @@
 -- The engine as a state and what happens to it.
-use Rattle.std.specs.Prelude.{◌≡◌, ℕ, zero, suc, ◌+◌, ◌-◌, ◌*◌, ◌<◌, ◌≤◌, ◌⊎◌, ◌||◌, List, [], ◌∷◌, Bool, true, false, cond, nat_eq, Option, Some, None, length}
+use Rattle.std.specs.Prelude.{◌≡◌, ℕ, ◌+◌, ◌-◌, ◌*◌, ◌<◌, ◌≤◌, ◌⊎◌, ◌||◌, List, [], ◌∷◌, Bool, true, false, cond, nat_eq, Option, Some, None, length}
 use Rattle.engine_laws.specs.Runner.{Runner, Picture, Laws, IsIn, IsTrail}
 use Rattle.asking.specs.Asked.{Answer, Ends, Asks, Word, Needs, Tells, Ran, Finished, Stops, Lost, ran}
-use Rattle.engine_laws.specs.Bounded.{built, content}
+use Rattle.engine_laws.specs.Bounded.{built, content, told_end}
 use Rattle.engine_laws.specs.Names.{Name, equal}
 
 pub data Grade : Type 0 where
@@ -27,6 +27,10 @@ pub record Judge (K C R F : Type 0) : Type 0 where
   -- the verdict where there was nothing to check, and where the build was a fault after all
   pub none : F
   pub fault : R → F
+
+-- the verdict of a check from scratch
+abbrev pub verdict : {K C R F : Type 0} → Runner K C R → Judge K C R F → Picture K C → R → F
+verdict run jd w v = told_end jd.none (jd.check v) (content run w) run.limit []
 
 -- why a name was run
 pub data Why (K : Type 0) : Type 0 where

@@ -3,7 +3,7 @@ use Rattle.std.specs.Prelude.{length, ◌+◌, ◌≡◌, ℕ, ◌<◌, ◌≤�
 use Rattle.engine_laws.specs.Runner.{Runner, Picture, Laws, IsIn, IsTrail}
 use Rattle.asking.specs.Asked.{Asks}
 use Rattle.engine_laws.specs.Bounded.{built, content}
-use Rattle.engine_laws.specs.Engine.{NotRun, Grade, Circle, Failure, Whole, Keeping, KeepLaws, Judge, Situation, Event, AreReads, AreAllowed, after, IsFromScratch, turn, turns_left}
+use Rattle.engine_laws.specs.Engine.{NotRun, Grade, Circle, Failure, Whole, Keeping, KeepLaws, Judge, Situation, Event, AreReads, AreAllowed, after, IsFromScratch}
 use Rattle.engine_laws.specs.Names.{Name}
 
 -- the number that a result of this grade may have
@@ -65,11 +65,3 @@ module _ {K C R S F : Type 0} (run : Runner K C R) (kp : Keeping K C R S) (jd : 
   abbrev pub IsIncrementalFromRows : Type 0
   IsIncrementalFromRows = (x : Situation K C R S F) (events : List (Event K C)) → AreSoundRows x
       → AreAllowed run kp jd x events → IsFromScratch run kp jd (after run kp jd x events)
-
-  -- each turn leaves one turn fewer, or nothing was to be done
-  abbrev pub IsOneFewer : Type 0
-  IsOneFewer = (x : Situation K C R S F) (events : List (Event K C)) → AreSoundRows x
-      → AreAllowed run kp jd x events → let y = after run kp jd x events
-      in EndsSoon run jd y.picture → (turns_left y.picture.objects
-      (turn run kp jd y.picture y.state) + 1 ≡ turns_left y.picture.objects y.state)
-      ⊎ ((turn run kp jd y.picture y.state ≡ y.state) × (turns_left y.picture.objects y.state ≡ 0))

@@ -1,8 +1,7 @@
 -- A lawful runner meets the laws of the machine.
-use Rattle.std.proofs.Common.{◌≡◌, ◌<◌, ◌||◌, ℕ, List, [], ◌∷◌, Bool, true, false, cond, Option, Some, None, Ok, Err, length, refl, sym, ap, ◌∙◌, inl, inr}
+use Rattle.std.proofs.Common.{◌≡◌, ◌||◌, List, [], ◌∷◌, Bool, true, false, cond, Option, Some, None, Ok, Err, refl, sym, ap, ◌∙◌, inl, inr}
 use Rattle.load_path.specs.declared.picture.PictureFile.{PictureFile}
-use Rattle.pan_ast.specs.declared.fault.Fault.{Fault}
-use Rattle.asking.specs.Asked.{Answer, Ends, Asks, RunsTo}
+use Rattle.asking.specs.Asked.{Ends, Asks}
 use Rattle.questions.specs.declared.key.Key.{Key}
 use Rattle.questions.specs.declared.key.Key.TheVariants.{File, Under}
 use Rattle.questions.specs.Contents.{Content, Circular}
@@ -10,7 +9,6 @@ use Rattle.questions.specs.Keys.{object_of}
 use Rattle.questions.specs.Laws.{MayAsk, is_circular}
 use Rattle.questions.proofs.Short.{short}
 use Rattle.runner.specs.Ends.{End, is_circular_end}
-use Rattle.runner.specs.declared.ends.Built.{Built}
 use Rattle.runner.specs.Meaning.{Meaning, IsLawful}
 use Rattle.engine_laws.specs.Names.{Name, equal}
 use Rattle.engine_laws.proofs.Names.{equal-true}

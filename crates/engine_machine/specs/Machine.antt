@@ -1,5 +1,5 @@
 -- The machine of the laws, over the types of the code.
-use Rattle.std.specs.Prelude.{ℕ, zero, suc, List, [], Bool, true, false, Option, Some, None, Result, Ok, Err}
+use Rattle.std.specs.Prelude.{ℕ, zero, suc, List, [], Bool, true, false, Some, None, Result, Ok, Err}
 use Rattle.path_tree.specs.Plain.{Plain}
 use Rattle.path_tree.specs.Find.{get}
 use Rattle.path_tree.specs.declared.path.Term.{Term}

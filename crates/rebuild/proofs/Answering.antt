@@ -1,26 +1,18 @@
 -- What the rows answer is what the state answers.
-use Rattle.std.proofs.Common.{◌≡◌, ◌+◌, ◌≤◌, ◌||◌, ◌&&◌, ℕ, List, [], ◌∷◌, Bool, true, false, not, cond, Option, Some, None, length, filter, refl, sym, ap, ◌∙◌, arith}
-use Rattle.questions.specs.declared.key.Key.{Key}
+use Rattle.std.proofs.Common.{◌≡◌, ◌+◌, ◌||◌, List, [], ◌∷◌, Bool, true, false, not, cond, Option, Some, None, filter, refl, sym, ap, ◌∙◌, arith}
 use Rattle.engine_laws.specs.Names.{Name, equal}
 use Rattle.engine_laws.proofs.Names.{equal-true, equal-is}
 use Rattle.engine_laws.specs.Engine.{is_among, how_many, one_if}
 use Rattle.engine_machine.proofs.Truths.{both}
-use Rattle.rebuild.specs.declared.rows.Row.{Row}
-use Rattle.rebuild.specs.declared.core_data.Core.{Core}
-use Rattle.rebuild.specs.Places.{row_in, of_row, column, names}
-use Rattle.rebuild.specs.Ready.{are_once}
+use Rattle.engine_turns.specs.declared.rows.Row.{Row}
+use Rattle.engine_turns.specs.declared.core_data.Core.{Core}
+use Rattle.engine_turns.specs.Places.{row_in, of_row, column, names}
+use Rattle.engine_turns.specs.Ready.{are_once}
 use Rattle.rebuild.specs.Engines.{situation_of}
-use Rattle.rebuild.specs.Answers.{answer_at, answer_found, why_at, why_found, reads_at, reads_found, if_run, run_names, runs_at, one_of, count_rows}
-use Rattle.rebuild.proofs.ByName.{no_row, some_row}
+use Rattle.rebuild.specs.Answers.{why_at, why_found, reads_at, reads_found, run_names, one_of, open_parts}
+use Rattle.engine_turns.proofs.ByName.{no_row, some_row}
 
 module _ {T : Type 0} (c : Core T) (p : Name) where
-  pub answered : answer_found (row_in p c.rows.items) ≡ answer_at (situation_of c) p
-  answered = at (row_in p c.rows.items) refl
-    where
-      at : (x : Option (Row T)) → row_in p c.rows.items ≡ x → answer_found x ≡ answer_at (situation_of c) p
-      at None e = rw (no_row p c.rows.items e) refl
-      at (Some r) e = rw (some_row p c.rows.items r e) (rw e refl)
-
   pub caused : why_found (row_in p c.rows.items) ≡ why_at (situation_of c) p
   caused = at (row_in p c.rows.items) refl
     where
@@ -86,13 +78,21 @@ one_same : (b : Bool) → one_of b ≡ one_if b
 one_same true = refl
 one_same false = refl
 
--- how many rows pass a test is how many objects do
-pub counted_is : {T : Type 0} → (test : Row T → Bool) (d : Bool) (rows : List (Row T)) → are_once (names rows) ≡ true → count_rows test rows ≡ how_many (column test d rows) (names rows)
-counted_is test d [] once = refl
-counted_is {T} test d (r ∷ rows) once =
-    ap (λ n. n + count_rows test rows) (one_same (test r))
-    ∙ ap (λ n. one_if (test r) + n) (counted_is test d rows two.1 ∙ sym (count_agrees (column test d (r ∷ rows)) (column test d rows) (names rows) (later_column test d r rows (not_true _ two.0))))
-    ∙ sym (ap (λ b. one_if b + how_many (column test d (r ∷ rows)) (names rows)) (first_column test d r rows))
+-- how many parts of the rows are unsettled is how many of the objects are
+pub open_is : {T : Type 0} → (rows : List (Row T)) → are_once (names rows) ≡ true → open_parts rows ≡ how_many (column (λ r. r.open_build) true rows) (names rows) + how_many (column (λ r. r.open_check) true rows) (names rows)
+open_is [] once = refl
+open_is {T} (r ∷ rows) once =
+    let later = open_is rows two.1 in
+    let builds = more (λ z. z.open_build) in
+    let checks = more (λ z. z.open_check) in
+    let a = one_same r.open_build in
+    let b = one_same r.open_check in
+    omega (arith, later, builds, checks, a, b)
   where
     two : (not (is_among r.name (names rows)) ≡ true) × (are_once (names rows) ≡ true)
     two = both (not (is_among r.name (names rows))) (are_once (names rows)) once
+
+    more : (test : Row T → Bool) → how_many (column test true (r ∷ rows)) (r.name ∷ names rows) ≡ one_if (test r) + how_many (column test true rows) (names rows)
+    more test =
+        ap (λ b. one_if b + how_many (column test true (r ∷ rows)) (names rows)) (first_column test true r rows)
+        ∙ ap (λ n. one_if (test r) + n) (count_agrees (column test true (r ∷ rows)) (column test true rows) (names rows) (later_column test true r rows (not_true _ two.0)))

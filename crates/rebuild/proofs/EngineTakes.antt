@@ -9,24 +9,24 @@ use Rattle.pan_ast.specs.declared.work.Limits.{Limits}
 use Rattle.questions.specs.declared.key.Key.TheVariants.{File}
 use Rattle.runner.specs.Meaning.{IsLawful}
 use Rattle.engine_laws.specs.Names.{Name}
-use Rattle.engine_laws.specs.Engine.{Take, AreNumbered}
+use Rattle.engine_laws.specs.Engine.{AreNumbered}
 use Rattle.engine_laws.specs.Reached.{IsReached}
 use Rattle.engine_laws.proofs.Reached.{leads_on, reached_holds}
 use Rattle.engine_machine.specs.Machine.{runner_of, keeping, judge_of}
 use Rattle.engine_machine.specs.Pictures.{picture_in}
 use Rattle.engine_machine.proofs.RunnerLaws.{laws_of, keep_laws_of}
-use Rattle.rebuild.specs.declared.core_data.Core.{Core}
-use Rattle.rebuild.specs.declared.rows.FileRow.{FileRow}
+use Rattle.engine_turns.specs.declared.core_data.Core.{Core}
+use Rattle.engine_turns.specs.declared.rows.FileRow.{FileRow}
 use Rattle.rebuild.specs.declared.taking.TakeError.{TakeError}
-use Rattle.rebuild.specs.Places.{names}
-use Rattle.rebuild.specs.States.{picture_of, pictured, number_in}
-use Rattle.rebuild.specs.Taking.{old_or_none, number_or, counter_or, numbered, counter_after}
+use Rattle.engine_turns.specs.Places.{names}
+use Rattle.engine_turns.specs.States.{picture_of, pictured, number_in}
+use Rattle.rebuild.specs.Taking.{old_or_none, counter_or, numbered, counter_after}
 use Rattle.rebuild.specs.Renewing.{IsTaken, IsPictureTaken}
-use Rattle.rebuild.specs.Ready.{core_picture, IsReady}
+use Rattle.engine_turns.specs.Ready.{core_picture, IsReady}
 use Rattle.rebuild.specs.Engines.{EngineSituation, Meanings, situation_of, objects_of, value_of, is_ready, IsEngine, take_of, after_take}
 use Rattle.rebuild.proofs.Engines.{ready_is, is_ready_of}
 use Rattle.rebuild.proofs.Takings.{are_numbered}
-use Rattle.rebuild.proofs.ByName.{names_length}
+use Rattle.engine_turns.proofs.ByName.{names_length}
 
 -- the numbered files are the picture's
 pub pictured_numbered : (old : List FileRow) (counter : ℕ) (files : List PictureFile) → pictured (numbered old counter files) ≡ files

@@ -10,16 +10,16 @@ use Rattle.engine_laws.specs.Reached.{IsReached}
 use Rattle.engine_laws.proofs.Reached.{leads_on, reached_scratch}
 use Rattle.engine_machine.specs.Machine.{runner_of, keeping, judge_of}
 use Rattle.engine_machine.proofs.Truths.{both}
-use Rattle.rebuild.specs.declared.core_data.Core.{Core}
-use Rattle.rebuild.specs.declared.turned.Turned.{Turned}
-use Rattle.rebuild.specs.declared.turned.TurnError.{TurnError}
-use Rattle.rebuild.specs.Places.{names}
-use Rattle.rebuild.specs.States.{picture_of, are_graded}
-use Rattle.rebuild.specs.Ready.{core_state, is_chain, are_once, IsReady, StaysReady}
-use Rattle.rebuild.specs.Turning.{turned}
-use Rattle.rebuild.specs.Engines.{EngineSituation, Meanings, situation_of, value_of, is_ready, IsEngine, after_turn, IsTrue}
-use Rattle.rebuild.proofs.Readies.{both_true}
-use Rattle.rebuild.proofs.ByName.{names_length}
+use Rattle.engine_turns.specs.declared.core_data.Core.{Core}
+use Rattle.engine_turns.specs.declared.turned.TurnError.{TurnError}
+use Rattle.engine_turns.specs.Places.{names}
+use Rattle.engine_turns.specs.States.{picture_of, are_graded}
+use Rattle.engine_turns.specs.Ready.{core_state, is_chain, are_once, IsReady, StaysReady}
+use Rattle.engine_turns.specs.Turning.{turned}
+use Rattle.rebuild.specs.Engines.{EngineSituation, Meanings, situation_of, value_of, is_ready, IsEngine, turn_work_of, after_turn, IsTrue}
+use Rattle.engine_turns.specs.Spent.{core_work, IsTurnRefused}
+use Rattle.engine_turns.proofs.Readies.{both_true}
+use Rattle.engine_turns.proofs.ByName.{names_length}
 
 pub ready_is : {T : Type 0} → (c : Core T) → is_ready c ≡ true → IsReady c
 ready_is c e =
@@ -43,6 +43,13 @@ module _ {T : Type 0} (m : Meanings T) where
     picture = picture_of (stays.files i) (stays.objects i);
     state = (state ∙ ap (λ d. turned (m d c.limits).build (m d c.limits).check c) same) i;
   }
+
+  -- the work of the turn, and the counter to which it would lead, of a runner with the engine's directories
+  pub work_is : (c : Core T) (dirs : List (List ℕ)) → dirs ≡ c.dirs → core_work (m dirs c.limits) c ≡ turn_work_of m (value_of c)
+  work_is c dirs same = ap (λ d. core_work (m d c.limits) c) same
+
+  pub refused_by : (c : Core T) (dirs : List (List ℕ)) → dirs ≡ c.dirs → (e : TurnError) → IsTurnRefused e (turned (m dirs c.limits).build (m dirs c.limits).check c).counter → IsTurnRefused e (after_turn m (value_of c)).state.counter
+  refused_by c dirs same e = subst (IsTurnRefused e) (ap (λ d. (turned (m d c.limits).build (m d c.limits).check c).counter) same)
 
   engine_after : (c n : Core T) → StaysReady c n → situation_of n ≡ after_turn m (value_of c) → IsEngine m (value_of c) → IsEngine m (value_of n)
   engine_after c n stays is e =

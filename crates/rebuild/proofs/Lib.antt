@@ -1,12 +1,3 @@
-pub mod ByName
-pub mod Words
-pub mod Settles
-pub mod Runs
-pub mod Comparisons
-pub mod Judges
-pub mod Checked
-pub mod Openings
-pub mod Readies
 pub mod Engines
 pub mod Takings
 pub mod Taken
@@ -14,5 +5,7 @@ pub mod Renewals
 pub mod EngineTakes
 pub mod New
 pub mod Objects
+pub mod Scratch
 pub mod Answering
 pub mod Fewer
+pub mod Forgetting

@@ -1,5 +1,5 @@
 -- The empty engine.
-use Rattle.std.proofs.Common.{◌≡◌, ◌&&◌, nat_le, ℕ, List, [], true, refl, sym, inl, arith}
+use Rattle.std.proofs.Common.{◌≡◌, ◌&&◌, nat_le, List, [], true, refl, sym, inl, arith}
 use Rattle.foreign_values.specs.declared.Part.{Part}
 use Rattle.questions.specs.declared.key.Key.{Key}
 use Rattle.questions.specs.declared.key.Key.TheVariants.{File, Under}
@@ -9,11 +9,11 @@ use Rattle.engine_laws.specs.Reached.{IsReached}
 use Rattle.engine_machine.specs.Machine.{Builds, Checks, runner_of, keeping, judge_of, small}
 use Rattle.engine_machine.specs.Pictures.{told_in, picture_in}
 use Rattle.engine_machine.proofs.RunnerLaws.{keep_laws_of}
-use Rattle.rebuild.specs.declared.rows.FileRow.{FileRow}
-use Rattle.rebuild.specs.declared.rows.Row.{Row}
-use Rattle.rebuild.specs.Places.{names}
-use Rattle.rebuild.specs.States.{number_in, picture_of, state_of, are_graded}
-use Rattle.rebuild.specs.Ready.{is_chain, are_known, are_once}
+use Rattle.engine_turns.specs.declared.rows.FileRow.{FileRow}
+use Rattle.engine_turns.specs.declared.rows.Row.{Row}
+use Rattle.engine_turns.specs.Places.{names}
+use Rattle.engine_turns.specs.States.{number_in, picture_of, state_of, are_graded}
+use Rattle.engine_turns.specs.Ready.{is_chain, are_known, are_once}
 use Rattle.rebuild.specs.Engines.{EngineSituation, new_situation}
 
 pub is_new : {T : Type 0} → (build : Builds T) (check : Checks T) → Laws (runner_of build) (picture_in [] []) → IsNew (runner_of build) keeping (judge_of check) new_situation

@@ -1,6 +1,5 @@
 -- The objects that a take finds.
-use Rattle.std.proofs.Common.{◌≡◌, ◌≤◌, ◌||◌, ◌&&◌, ℕ, List, [], ◌∷◌, Bool, true, false, not, length, Result, Ok, Err, OnOk, refl, sym, ap, ◌∙◌, subst}
-use Rattle.std.specs.Prelude.{bytes_eq}
+use Rattle.std.proofs.Common.{◌≡◌, ◌≤◌, ◌||◌, List, [], ◌∷◌, Bool, true, false, not, length, Result, Ok, Err, OnOk, refl, sym, ap, ◌∙◌, subst}
 use Rattle.base.specs.declared.limits.TheConstants.{MAX_OBJECTS}
 use Rattle.load_path.specs.Pictures.{is_below}
 use Rattle.load_path.specs.declared.picture.PictureFile.{PictureFile}
@@ -10,13 +9,12 @@ use Rattle.engine_laws.specs.Names.{Name, equal}
 use Rattle.engine_laws.specs.Engine.{is_among}
 use Rattle.engine_laws.proofs.Names.{equal-true, equal-is}
 use Rattle.engine_machine.proofs.Truths.{both}
-use Rattle.rebuild.specs.declared.core_data.Core.{Core}
+use Rattle.engine_turns.specs.declared.core_data.Core.{Core}
 use Rattle.rebuild.specs.declared.taking.TakeError.{TakeError}
-use Rattle.rebuild.specs.Places.{names}
-use Rattle.rebuild.specs.Ready.{are_once}
+use Rattle.engine_turns.specs.Ready.{are_once}
 use Rattle.rebuild.specs.Renewing.{IsTaken, IsPictureTaken}
-use Rattle.rebuild.proofs.Readies.{both_true}
-use Rattle.rebuild.proofs.ByName.{names_length}
+use Rattle.engine_turns.proofs.Readies.{both_true}
+use Rattle.engine_turns.proofs.ByName.{names_length}
 
 begins_on : (n x : Name) (xs : List Name) → is_below n x ≡ true → begins_above x xs ≡ true → begins_above n xs ≡ true
 begins_on n x [] p q = refl

@@ -3,13 +3,13 @@ use Rattle.std.proofs.Common.{◌≡◌, ◌<◌, ◌||◌, ℕ, zero, suc, List
 use Rattle.engine_laws.specs.Names.{Name, equal}
 use Rattle.engine_laws.proofs.Names.{equal-true, equal-is}
 use Rattle.engine_laws.specs.Engine.{is_among}
-use Rattle.rebuild.specs.declared.rows.Row.{Row}
-use Rattle.rebuild.specs.Places.{row_place, row_in}
-use Rattle.rebuild.specs.Ready.{are_once}
+use Rattle.engine_turns.specs.declared.rows.Row.{Row}
+use Rattle.engine_turns.specs.Places.{row_place, row_in}
+use Rattle.engine_turns.specs.Ready.{are_once}
 use Rattle.rebuild.specs.Taking.{new_row, taken_row, taken_rows}
 use Rattle.rebuild.specs.Renewing.{reopened, kept_or, IsRenewed, renewed}
 use Rattle.engine_machine.proofs.Truths.{both}
-use Rattle.rebuild.proofs.ByName.{IsAt, placed, no_place}
+use Rattle.engine_turns.proofs.ByName.{IsAt, placed, no_place}
 
 pub renewed_count : {T : Type 0} → (i : ℕ) (objects : List Name) (old : List (Row T)) → length (renewed i objects old) ≡ length objects
 renewed_count zero [] old = refl

@@ -5,19 +5,19 @@ use Rattle.foreign_values.specs.declared.Part.{Part}
 use Rattle.engine_laws.specs.Names.{Name, equal}
 use Rattle.engine_laws.proofs.Names.{equal-true}
 use Rattle.engine_laws.specs.Engine.{NotRun, is_among, taken}
-use Rattle.rebuild.specs.declared.rows.FileRow.{FileRow}
-use Rattle.rebuild.specs.declared.rows.Row.{Row}
-use Rattle.rebuild.specs.Places.{row_in, of_row, column, names}
-use Rattle.rebuild.specs.States.{number_in, last_of, reads_of, checked_of, why_of, held_of, picture_of, state_of, is_graded, are_graded}
+use Rattle.engine_turns.specs.declared.rows.FileRow.{FileRow}
+use Rattle.engine_turns.specs.declared.rows.Row.{Row}
+use Rattle.engine_turns.specs.Places.{row_in, of_row, column, names}
+use Rattle.engine_turns.specs.States.{number_in, last_of, reads_of, checked_of, why_of, held_of, picture_of, state_of, is_graded, are_graded}
 use Rattle.rebuild.specs.Taking.{taken_row, taken_rows, numbered, counter_after}
 use Rattle.load_path.specs.declared.picture.PictureFile.{PictureFile}
-use Rattle.rebuild.specs.declared.core_data.Core.{Core}
+use Rattle.engine_turns.specs.declared.core_data.Core.{Core}
 use Rattle.rebuild.specs.Renewing.{taken_state, IsTaken}
-use Rattle.rebuild.specs.Ready.{are_once, is_chain, are_known, IsReady}
-use Rattle.rebuild.proofs.Words.{graded_row}
-use Rattle.rebuild.proofs.Readies.{both_true}
+use Rattle.engine_turns.specs.Ready.{are_once, is_chain, are_known, IsReady}
+use Rattle.engine_turns.proofs.Words.{graded_row}
+use Rattle.engine_turns.proofs.Readies.{both_true}
 use Rattle.rebuild.proofs.Takings.{counter_up}
-use Rattle.rebuild.proofs.ByName.{row_named}
+use Rattle.engine_turns.proofs.ByName.{row_named}
 
 taken_named : {T : Type 0} → (rows : List (Row T)) (p : Name) (x : Option (Row T)) → row_in p rows ≡ x → (taken_row p x).name ≡ p
 taken_named rows p None e = refl

@@ -15,10 +15,10 @@ use Rattle.runner.specs.Words.{file_content}
 use Rattle.engine_laws.specs.Names.{Name}
 use Rattle.engine_laws.proofs.Names.{equal-true}
 use Rattle.engine_laws.specs.Engine.{AreNumbered}
-use Rattle.rebuild.specs.declared.rows.FileRow.{FileRow}
+use Rattle.engine_turns.specs.declared.rows.FileRow.{FileRow}
 use Rattle.engine_machine.specs.Machine.{keeping, small_file, small}
-use Rattle.rebuild.specs.Places.{file_number_in}
-use Rattle.rebuild.specs.States.{pictured, picture_of, number_in}
+use Rattle.engine_turns.specs.Places.{file_number_in}
+use Rattle.engine_turns.specs.States.{pictured, picture_of, number_in}
 use Rattle.rebuild.specs.Taking.{same_content, file_in, number_before, number_or, counter_or, old_or_none, numbered, counter_after}
 
 counter_step : (counter : ℕ) (x : Option ℕ) → counter ≤ counter_or counter x

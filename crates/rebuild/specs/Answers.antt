@@ -8,15 +8,15 @@ use Rattle.runner.specs.Ends.{Verdict}
 use Rattle.engine_laws.specs.Names.{Name}
 use Rattle.engine_laws.specs.Engine.{Why as EngineWhy, NotRun, NoRecord, Changed, is_among}
 use Rattle.engine_machine.specs.Machine.{Kept}
+use Rattle.engine_machine.specs.Compiled.{compiled}
 use Rattle.rebuild.specs.declared.answers.Answer.{Answer}
 use Rattle.rebuild.specs.declared.answers.Answer.TheVariants as answer
 use Rattle.rebuild.specs.declared.answers.Why.{Why}
 use Rattle.rebuild.specs.declared.answers.Why.TheVariants as why
 use Rattle.rebuild.specs.declared.answers.Reads.{Reads}
-use Rattle.rebuild.specs.declared.rows.Row.{Row}
-use Rattle.rebuild.specs.Places.{row_in}
-use Rattle.rebuild.specs.States.{last_of, reads_of, checked_of, why_of}
-use Rattle.rebuild.specs.Engines.{EngineSituation}
+use Rattle.engine_turns.specs.declared.rows.Row.{Row}
+use Rattle.engine_turns.specs.States.{pictured, last_of, reads_of, checked_of, why_of}
+use Rattle.rebuild.specs.Engines.{EngineSituation, EngineValue, Meanings}
 
 -- an answer as definitions see it
 pub data Seen : Type 0 where
@@ -24,6 +24,7 @@ pub data Seen : Type 0 where
   fault : (fault : Fault) → Seen
   pending : Seen
   no_object : Seen
+  deriving IsSet as Seen-set
 
 abbrev pub seen_answer : Answer → Seen
 seen_answer (answer.Profile t) = profile t.now
@@ -31,31 +32,21 @@ seen_answer (answer.Fault f) = fault f.now
 seen_answer answer.Pending = pending
 seen_answer answer.NoObject = no_object
 
-abbrev pub by_verdict : Plain → Verdict → Seen
-by_verdict t None = profile t
-by_verdict t (Some f) = fault f
-
-abbrev pub by_check : Plain → Option (List (Key × ℕ) × Verdict) → Seen
-by_check t None = pending
-by_check t (Some c) = by_verdict t c.1
-
-abbrev pub by_result : Kept → Option (List (Key × ℕ) × Verdict) → Seen
-by_result (Err f) c = fault f
-by_result (Ok t) c = by_check t c
-
-abbrev pub by_last : Option (ℕ × Kept) → Option (List (Key × ℕ) × Verdict) → Seen
-by_last None c = pending
-by_last (Some l) c = by_result l.1 c
-
 -- an object has an unsettled part
 abbrev pub is_pending : {T : Type 0} → EngineSituation T → Name → Bool
 is_pending x p = x.state.open_build p || x.state.open_check p
 
--- the answer for a name: none where it is no object, none yet where a part is unsettled, and else
--- by its last result and its verdict
-abbrev pub answer_at : {T : Type 0} → EngineSituation T → Name → Seen
-answer_at x p = cond (is_among p x.picture.objects)
-    (cond (is_pending x p) pending (by_last (x.state.last p) (x.state.checked p))) no_object
+-- of what compiling gives: a tree or a fault
+abbrev pub settled : Kept → Seen
+settled (Ok t) = profile t
+settled (Err f) = fault f
+
+-- The answer for a name: that it is no object of the last picture, that a part of it is unsettled,
+-- or else what compiling that whole picture from scratch gives.
+abbrev pub answer_of : {T : Type 0} → Meanings T → EngineValue T → Name → Seen
+answer_of m e p = cond (is_among p e.situation.picture.objects)
+    (cond (is_pending e.situation p) pending (settled
+    (compiled (m e.dirs e.limits) (pictured e.files) e.situation.picture.objects p))) no_object
 
 -- why a name was run last, or that it is no object
 pub data SeenWhy : Type 0 where
@@ -92,6 +83,22 @@ runs_at x = filter x.state.runs x.picture.objects
 
 -- by the rows of the code
 
+abbrev pub by_verdict : Plain → Verdict → Seen
+by_verdict t None = profile t
+by_verdict t (Some f) = fault f
+
+abbrev pub by_check : Plain → Option (List (Key × ℕ) × Verdict) → Seen
+by_check t None = pending
+by_check t (Some c) = by_verdict t c.1
+
+abbrev pub by_result : Kept → Option (List (Key × ℕ) × Verdict) → Seen
+by_result (Err f) c = fault f
+by_result (Ok t) c = by_check t c
+
+abbrev pub by_last : Option (ℕ × Kept) → Option (List (Key × ℕ) × Verdict) → Seen
+by_last None c = pending
+by_last (Some l) c = by_result l.1 c
+
 abbrev pub answer_of_row : {T : Type 0} → Row T → Seen
 answer_of_row r = cond (r.open_build || r.open_check) pending (by_last (last_of r) (checked_of r))
 
@@ -121,7 +128,7 @@ abbrev pub one_of : Bool → ℕ
 one_of true = 1
 one_of false = 0
 
--- how many rows pass a test
-abbrev pub count_rows : {T : Type 0} → (Row T → Bool) → List (Row T) → ℕ
-count_rows test [] = 0
-count_rows test (r ∷ rows) = one_of (test r) + count_rows test rows
+-- how many parts of these rows are unsettled
+abbrev pub open_parts : {T : Type 0} → List (Row T) → ℕ
+open_parts [] = 0
+open_parts (r ∷ rows) = one_of r.open_build + one_of r.open_check + open_parts rows

@@ -1,6 +1,5 @@
 -- An engine as contracts see it, and what its calls make of it.
 use Rattle.std.specs.Prelude.{ℕ, List, [], Bool, ◌&&◌, nat_le}
-use Rattle.asking.specs.declared.limits.TheConstants.{END_OF_NUMBERS}
 use Rattle.load_path.specs.declared.picture.PictureFile.{PictureFile}
 use Rattle.pan_ast.specs.declared.work.Limits.{Limits}
 use Rattle.questions.specs.declared.key.Key.{Key}
@@ -8,16 +7,17 @@ use Rattle.questions.specs.Contents.{Content}
 use Rattle.runner.specs.Ends.{End, Verdict}
 use Rattle.runner.specs.Meaning.{Meaning}
 use Rattle.engine_laws.specs.Names.{Name}
-use Rattle.engine_laws.specs.Engine.{Situation, Event, Take, Turn, happens, on_chain, turns_left, IsFromScratch}
+use Rattle.engine_laws.specs.Engine.{Situation, Event, Take, Turn, Forget, happens, on_chain, turns_left, IsFromScratch}
 use Rattle.engine_laws.specs.Reached.{IsReached}
-use Rattle.engine_machine.specs.Machine.{Kept, runner_of, keeping, judge_of}
+use Rattle.engine_laws.specs.Steps.{Work, turn_work}
+use Rattle.engine_machine.specs.Machine.{Kept, runner_of, keeping, judge_of, costs_of}
 use Rattle.engine_machine.specs.Pictures.{picture_in}
-use Rattle.rebuild.specs.declared.core_data.Core.{Core}
-use Rattle.rebuild.specs.declared.rows.FileRow.{FileRow}
-use Rattle.rebuild.specs.Places.{names}
-use Rattle.rebuild.specs.States.{are_graded, number_in, picture_of, state_of}
+use Rattle.engine_turns.specs.declared.core_data.Core.{Core}
+use Rattle.engine_turns.specs.declared.rows.FileRow.{FileRow}
+use Rattle.engine_turns.specs.Places.{names}
+use Rattle.engine_turns.specs.States.{are_graded, number_in, state_of}
 use Rattle.rebuild.specs.Taking.{numbered, counter_after}
-use Rattle.rebuild.specs.Ready.{core_state, core_picture, is_chain, are_known, are_once}
+use Rattle.engine_turns.specs.Ready.{core_state, core_picture, is_chain, are_known, are_once}
 
 abbrev pub EngineSituation : Type 0 → Type 0
 EngineSituation T = Situation Key Content (End T) Kept Verdict
@@ -89,6 +89,16 @@ abbrev pub after_take : {T : Type 0} → Meanings T → EngineValue T → List P
 after_take m e files objects =
     after_event m e (take_of e.files e.situation.state.counter files objects)
 
+-- the runs and the steps of its next turn
+abbrev pub turn_work_of : {T : Type 0} → Meanings T → EngineValue T → Work
+turn_work_of m e = turn_work (runner_of (m e.dirs e.limits).build) keeping
+    (judge_of (m e.dirs e.limits).check) (costs_of (m e.dirs e.limits)) e.situation.picture
+    e.situation.state
+
 -- what one turn makes of it
 abbrev pub after_turn : {T : Type 0} → Meanings T → EngineValue T → EngineSituation T
 after_turn m e = after_event m e Turn
+
+-- and what forgetting the runs does
+abbrev pub after_forget : {T : Type 0} → Meanings T → EngineValue T → EngineSituation T
+after_forget m e = after_event m e Forget

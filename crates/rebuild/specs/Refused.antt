@@ -4,7 +4,7 @@ use Rattle.asking.specs.declared.limits.TheConstants.{END_OF_NUMBERS}
 use Rattle.base.specs.declared.limits.TheConstants.{MAX_OBJECTS}
 use Rattle.load_path.specs.declared.picture.PictureFile.{PictureFile}
 use Rattle.object_names.specs.Objects.{AreObjects}
-use Rattle.rebuild.specs.declared.rows.FileRow.{FileRow}
+use Rattle.engine_turns.specs.declared.rows.FileRow.{FileRow}
 use Rattle.rebuild.specs.declared.taking.TakeError.{TakeError}
 use Rattle.rebuild.specs.declared.taking.TakeError.TheVariants.{TooManyObjects, NumbersSpent, Memory}
 use Rattle.rebuild.specs.Taking.{counter_after}

@@ -4,13 +4,13 @@ use Rattle.asking.specs.declared.limits.TheConstants.{END_OF_NUMBERS}
 use Rattle.base.specs.declared.limits.TheConstants.{MAX_OBJECTS}
 use Rattle.object_names.specs.Objects.{AreObjects}
 use Rattle.engine_laws.specs.Names.{Name, equal}
-use Rattle.rebuild.specs.declared.rows.Row.{Row}
-use Rattle.rebuild.specs.Places.{row_in, names}
+use Rattle.engine_turns.specs.declared.rows.Row.{Row}
+use Rattle.engine_turns.specs.Places.{row_in, names}
 use Rattle.load_path.specs.declared.picture.PictureFile.{PictureFile}
 use Rattle.engine_laws.specs.Engine.{taken}
-use Rattle.rebuild.specs.declared.core_data.Core.{Core}
-use Rattle.rebuild.specs.States.{EngineState, number_in, picture_of}
-use Rattle.rebuild.specs.Ready.{core_state, IsReady}
+use Rattle.engine_turns.specs.declared.core_data.Core.{Core}
+use Rattle.engine_turns.specs.States.{EngineState, number_in, picture_of}
+use Rattle.engine_turns.specs.Ready.{core_state, IsReady}
 use Rattle.rebuild.specs.Taking.{new_row, taken_row, numbered, counter_after}
 
 -- both parts are unsettled

@@ -4,10 +4,10 @@ use Rattle.load_path.specs.declared.picture.Content.{Content}
 use Rattle.load_path.specs.declared.picture.Content.TheVariants.{Bytes, TooLong}
 use Rattle.load_path.specs.declared.picture.PictureFile.{PictureFile}
 use Rattle.engine_laws.specs.Names.{Name}
-use Rattle.rebuild.specs.declared.rows.Cause.TheVariants as cause
-use Rattle.rebuild.specs.declared.rows.FileRow.{FileRow}
-use Rattle.rebuild.specs.declared.rows.Row.{Row}
-use Rattle.rebuild.specs.Places.{row_in}
+use Rattle.engine_turns.specs.declared.rows.Cause.TheVariants as cause
+use Rattle.engine_turns.specs.declared.rows.FileRow.{FileRow}
+use Rattle.engine_turns.specs.declared.rows.Row.{Row}
+use Rattle.engine_turns.specs.Places.{row_in}
 
 abbrev pub same_content : Content → Content → Bool
 same_content (Bytes a) (Bytes b) = bytes_eq a b

@@ -1,16 +1,19 @@
 //! What the engine answers.
 
-ghost use Rattle.std.specs.Prelude.{◌≡◌, ◌≤◌, ◌++◌, [], IfOk, length, option_copied};
-ghost use Rattle.rebuild.specs.Answers.{seen_answer, answer_of_row, answer_found, seen_why, why_found, seen_reads, reads_of_row, reads_found, run_names};
-ghost use Rattle.rebuild.specs.Places.{row_in, names};
+ghost use Rattle.std.specs.Prelude.{◌≡◌, ◌≤◌, ◌*◌, ◌++◌, [], IfOk, length, map, option_copied};
+ghost use Rattle.rebuild.specs.Answers.{seen_answer, answer_of_row, answer_found, seen_why, why_found, seen_reads, reads_of_row, reads_found, run_names, open_parts};
+ghost use Rattle.base.specs.declared.limits.TheConstants.{MAX_OBJECTS};
+ghost use Rattle.engine_turns.specs.Changes.{forgotten_row};
+ghost use Rattle.engine_turns.specs.Places.{row_in, names};
 
-use crate::rows::{Cause, Row};
+use engine_turns::{Cause, Row};
 use pan_ast::Fault;
 use path_tree::{Name, Tree};
 use read_sets::{Key, Trace};
 use std::alloc::{AllocError, Global};
 
 /// The answer for a name: its profile's tree, its fault, that it is not settled, or that it is no object.
+#[derive(Clone, Copy)]
 pub enum Answer<'a> {
     Profile(&'a Tree),
     Fault(&'a Fault),
@@ -19,6 +22,7 @@ pub enum Answer<'a> {
 }
 
 /// Why a name was run last.
+#[derive(Clone, Copy)]
 pub enum Why<'a> {
     NotRun,
     NoRecord,
@@ -27,6 +31,7 @@ pub enum Why<'a> {
 }
 
 /// What an object asked for in its build and in its check.
+#[derive(Clone, Copy)]
 pub struct Reads<'a> {
     pub build: &'a Trace,
     pub check: &'a Trace,
@@ -138,4 +143,31 @@ pub(crate) fn runs_in<T>(alloc: Global, rows: &[Row<T>]) -> Result<Vec<Name>, Al
         }
     }
     Ok(made)
+}
+
+/// How many parts are unsettled.
+pub(crate) fn open_parts<T>(rows: &[Row<T>]) -> u64
+    requires { length rows.now ≤ MAX_OBJECTS }
+    ensures parts { result ≡ open_parts rows.now }
+    ensures few { result ≤ 2 * length rows.now }
+{
+    let mut open = 0;
+    for row in rows {
+        if row.open_build {
+            open += 1;
+        }
+        if row.open_check {
+            open += 1;
+        }
+    }
+    open
+}
+
+/// No name was run.
+pub(crate) fn forget_rows<T>(rows: &mut Vec<Row<T>>)
+    ensures { rows.new.items ≡ map forgotten_row rows.old.items }
+{
+    for row in rows.iter_mut() {
+        row.run = false;
+    }
 }

@@ -1,17 +1,17 @@
 //! The engine.
 
-ghost use Rattle.std.specs.Prelude.{◌≡◌, ◌≤◌, ◌+◌, ◌-◌, true, IfOk, IfErr, OnOk, OnErr, length};
+ghost use Rattle.std.specs.Prelude.{◌≡◌, ◌↔◌, [], ◌≤◌, ◌+◌, ◌-◌, true, IfOk, IfErr, OnOk, OnErr, length};
 ghost use Rattle.asking.specs.declared.limits.TheConstants.{END_OF_NUMBERS};
 ghost use Rattle.base.specs.declared.limits.TheConstants.{MAX_OBJECTS};
 ghost use Rattle.rebuild.specs.Engines.{is_ready, IsEngine, value_of};
 
-use crate::answers::{Answer, Reads, Why, answer_in, names_in, reads_in, runs_in, why_in};
-use crate::core_data::Core;
+use crate::answers::{
+    Answer, Reads, Why, answer_in, forget_rows, names_in, open_parts, reads_in, runs_in, why_in,
+};
 use crate::renewing::take_picture;
 use crate::taking::TakeError;
-use crate::turned::{TurnError, Turned};
-use crate::turning::{step, turned_by};
 use base::{Seq, Steps, Text};
+use engine_turns::{Core, TurnError, Turned, step, turned_by};
 use foreign_values::Chain;
 use load_path::Picture;
 use pan_ast::Limits;
@@ -43,17 +43,21 @@ fn shared(alloc: Global, texts: &[Text]) -> Result<Seq<Text>, AllocError>
 
 impl<R: Runner> Engine<R> {
     ghost use Rattle.object_names.specs.Objects.{AreObjects};
-    ghost use Rattle.rebuild.specs.Answers.{seen_answer, answer_at, seen_why, why_at, seen_reads, reads_at, runs_at};
-    ghost use Rattle.rebuild.specs.Engines.{situation_of, new_situation, after_take, after_turn, IsTrue, objects_of, parts_of, turns_left_of};
-    ghost use Rattle.rebuild.specs.Opening.{turned_by};
+    ghost use Rattle.rebuild.specs.Answers.{seen_answer, answer_of, seen_why, why_at, seen_reads, reads_at, runs_at};
+    ghost use Rattle.rebuild.specs.Engines.{situation_of, new_situation, after_take, after_turn, after_forget, turn_work_of, IsTrue, objects_of, parts_of, turns_left_of};
+    ghost use Rattle.engine_turns.specs.Opening.{turned_by};
+    ghost use Rattle.engine_turns.specs.Spent.{Spends, IsTurnRefused};
+    ghost use Rattle.engine_turns.specs.declared.turned.Turned.TheVariants.{Idle};
     ghost use Rattle.rebuild.specs.Refused.{IsRefused};
-    ghost use Rattle.rebuild.specs.States.{pictured};
+    ghost use Rattle.engine_turns.specs.States.{pictured};
 
     /// An engine with an empty picture and no records.
     pub fn new(alloc: Global, limits: Limits, dirs: Seq<Text>) -> Engine<R>
         ensures fresh { situation_of result.core ≡ new_situation }
         ensures limits { result.core.limits ≡ limits }
         ensures dirs { result.core.dirs ≡ dirs }
+        ensures files { result.core.files.items ≡ [] }
+        ensures reached { ∥ IsEngine R.meaning (value_of result.core) ∥₁ }
     {
         Engine {
             core: Core {
@@ -96,6 +100,7 @@ impl<R: Runner> Engine<R> {
         ensures before { OnErr result (self.new.core ≡ self.old.core) }
         ensures runner_before { OnErr result (runner.new ≡ runner.old) }
         ensures refused_steps { OnErr result (steps.new ≤ steps.old + length picture) }
+        ensures reached { ∥ IsEngine R.meaning (value_of self.new.core) ∥₁ }
         ensures scratch { ∥ IsTrue R.meaning (value_of self.new.core) ∥₁ }
     {
         let dirs = shared(alloc, self.core.dirs.as_slice())?;
@@ -105,6 +110,10 @@ impl<R: Runner> Engine<R> {
     }
 
     /// One turn.
+    ///
+    /// The runner's count rises by the runs of the turn, at most two, and `steps` by its work; where the turn is refused,
+    /// by no more. `Idle` exactly where no part is unsettled. `NumbersSpent` exactly where a number is drawn and the
+    /// counter stands at [END_OF_NUMBERS]. A refused turn leaves the engine as before.
     pub fn turn<L: Ledger>(
         &mut self,
         alloc: Global,
@@ -117,11 +126,23 @@ impl<R: Runner> Engine<R> {
             ≡ after_turn R.meaning (value_of self.old.core)) }
         ensures turned { IfOk result (λ did. did ≡ turned_by (parts_of self.old.core)
             (parts_of self.new.core)) }
+        ensures idle { IfOk result (λ did. did ≡ Idle ↔ turns_left_of self.old.core ≡ 0) }
         ensures fewer { OnOk result (turns_left_of self.new.core ≡ turns_left_of self.old.core
             - 1) }
+        ensures spent { Spends result (turn_work_of R.meaning (value_of self.old.core)) steps.old
+            steps.new (R.runs_of runner.old) (R.runs_of runner.new) }
+        ensures few_runs { (turn_work_of R.meaning (value_of self.old.core)).0 ≤ 2 }
+        ensures refused { IfErr result (λ e. IsTurnRefused e
+            (after_turn R.meaning (value_of self.old.core)).state.counter) }
+        ensures within { OnOk result ((situation_of self.new.core).state.counter
+            ≤ END_OF_NUMBERS) }
         ensures files { OnOk result (self.new.core.files.items ≡ self.old.core.files.items) }
         ensures dirs { self.new.core.dirs ≡ self.old.core.dirs }
+        ensures limits { self.new.core.limits ≡ self.old.core.limits }
         ensures before { OnErr result (self.new.core ≡ self.old.core) }
+        ensures runner_files { R.files_of runner.new ≡ R.files_of runner.old }
+        ensures runner_dirs { R.dirs_of runner.new ≡ R.dirs_of runner.old }
+        ensures reached { ∥ IsEngine R.meaning (value_of self.new.core) ∥₁ }
         ensures scratch { ∥ IsTrue R.meaning (value_of self.new.core) ∥₁ }
     {
         let before = self.core.chain.len();
@@ -129,11 +150,31 @@ impl<R: Runner> Engine<R> {
         Ok(turned_by(before, self.core.chain.len()))
     }
 
-    /// The answer for a name. `Pending` where it is an object with an unsettled part, `NoObject` where it is none, or
-    /// there was no take.
+    /// How many turns are left until all is settled: twice the unsettled parts, less those on the chain.
+    pub fn turns_left(&self) -> u64
+        ensures { result ≡ turns_left_of self.now.core }
+    {
+        let open = open_parts(&self.core.rows);
+        (2 * open).saturating_sub(self.core.chain.len() as u64)
+    }
+
+    /// Forgets which objects were run, of an engine in which all is settled.
+    pub fn forget_runs(&mut self)
+        requires { turns_left_of self.old.core ≡ 0 }
+        ensures state { situation_of self.new.core
+            ≡ after_forget R.meaning (value_of self.old.core) }
+        ensures files { self.new.core.files.items ≡ self.old.core.files.items }
+        ensures dirs { self.new.core.dirs ≡ self.old.core.dirs }
+        ensures limits { self.new.core.limits ≡ self.old.core.limits }
+        ensures reached { ∥ IsEngine R.meaning (value_of self.new.core) ∥₁ }
+    {
+        forget_rows(&mut self.core.rows);
+    }
+
+    /// The answer for a name: that it is no object of the last picture (or there was no take), that it has an unsettled
+    /// part, or what compiling the whole picture from scratch gives, a profile's tree or a fault.
     pub fn answer(&self, name: &str) -> Answer<'_>
-        ensures exact { seen_answer result ≡ answer_at (situation_of self.now.core) name.now }
-        ensures scratch { ∥ IsTrue R.meaning (value_of self.now.core) ∥₁ }
+        ensures { seen_answer result ≡ answer_of R.meaning (value_of self.now.core) name.now }
     {
         answer_in(&self.core.rows, name)
     }

@@ -1,18 +1,17 @@
 //! The rows of a Take.
 
 ghost use Rattle.std.specs.Prelude.{◌≡◌, ◌<◌, ◌≤◌, ◌+◌, true, IfOk, IfErr, OnOk, OnErr, length, map, get_or, slice_set};
-ghost use Rattle.rebuild.specs.Places.{names};
-ghost use Rattle.rebuild.specs.Ready.{are_once, IsReady};
+ghost use Rattle.engine_turns.specs.Places.{names};
+ghost use Rattle.engine_turns.specs.Ready.{are_once, IsReady};
 ghost use Rattle.rebuild.specs.Taking.{new_row, taken_rows, counter_after};
 ghost use Rattle.rebuild.specs.declared.taking.TakeError.TheVariants.{Memory};
 ghost use Rattle.rebuild.specs.Refused.{IsSpent, IsRefused};
 ghost use Rattle.rebuild.specs.Renewing.{reopened, IsRenewed, IsTaken, IsPictureTaken};
 
-use crate::core_data::Core;
-use crate::rows::{Cause, Row, row_place};
 use crate::taking::{TakeError, number_files};
 use base::Steps;
 use base::limits::MAX_OBJECTS;
+use engine_turns::{Cause, Core, Row, row_place};
 use foreign_values::Chain;
 use load_path::{Picture, PictureFile};
 use object_names::objects;

@@ -6,9 +6,9 @@ ghost use Rattle.rebuild.specs.Taking.{same_content, file_in, old_or_none, numbe
 ghost use Rattle.rebuild.specs.Refused.{IsSpent};
 ghost use Rattle.rebuild.specs.declared.taking.TakeError.TheVariants.{Memory};
 
-use crate::rows::FileRow;
 use asking::limits::END_OF_NUMBERS;
 use base::{Bytes, Steps};
+use engine_turns::FileRow;
 use load_path::{Content, PictureFile};
 use std::alloc::{AllocError, AllocFailed, Global};
 use std::sync::ledger::Ledger;

@@ -1,5 +1,5 @@
 use Rattle.std.proofs.Common.{◌≡◌, ◌++◌, drop}
-use Rattle.rebuild.specs.Places.{names}
+use Rattle.engine_turns.specs.Places.{names}
 use Rattle.rebuild.proofs.answers.names_in.Given as goal
 
 abbrev pub invariant-loop-row : goal.invariant-loop-row

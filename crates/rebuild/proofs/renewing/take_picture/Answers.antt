@@ -1,7 +1,6 @@
-use Rattle.std.proofs.Common.{OnOk, ◌≤◌, length, ap, sym, ◌∙◌, subst, arith}
-use Rattle.base.specs.declared.limits.TheConstants.{MAX_OBJECTS}
+use Rattle.std.proofs.Common.{OnOk, ap, ◌∙◌, subst, arith}
 use Rattle.object_names.specs.Objects.{AreObjects}
-use Rattle.rebuild.specs.Ready.{are_once}
+use Rattle.engine_turns.specs.Ready.{are_once}
 use Rattle.rebuild.specs.Renewing.{IsTaken}
 use Rattle.rebuild.proofs.Objects.{rising_once, picture_taken}
 use Rattle.rebuild.proofs.renewing.take_picture.Goals as goal

@@ -1,5 +1,5 @@
 use Rattle.std.proofs.Common.{ap, ◌∙◌}
-use Rattle.rebuild.specs.Places.{row_in}
+use Rattle.engine_turns.specs.Places.{row_in}
 use Rattle.rebuild.specs.Answers.{reads_found}
 use Rattle.rebuild.specs.Engines.{value_of}
 use Rattle.rebuild.proofs.Engines.{true_of}

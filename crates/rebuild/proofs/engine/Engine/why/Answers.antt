@@ -1,8 +1,6 @@
 use Rattle.std.proofs.Common.{ap, ◌∙◌}
-use Rattle.rebuild.specs.Places.{row_in}
+use Rattle.engine_turns.specs.Places.{row_in}
 use Rattle.rebuild.specs.Answers.{why_found}
-use Rattle.rebuild.specs.Engines.{value_of}
-use Rattle.rebuild.proofs.Engines.{true_of}
 use Rattle.rebuild.proofs.Answering.{caused}
 use Rattle.rebuild.proofs.engine.Engine.why.Goals as goal
 

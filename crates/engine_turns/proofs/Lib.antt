@@ -1,0 +1,11 @@
+pub mod ByName
+pub mod Words
+pub mod Settles
+pub mod Runs
+pub mod Comparisons
+pub mod Judges
+pub mod Checked
+pub mod Openings
+pub mod Readies
+pub mod Spending
+pub mod Costing

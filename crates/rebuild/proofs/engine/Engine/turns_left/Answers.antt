@@ -1,0 +1,15 @@
+use Rattle.std.proofs.Common.{ap, ◌∙◌, arith}
+use Rattle.rebuild.specs.Answers.{open_parts}
+use Rattle.rebuild.proofs.Engines.{ready_is}
+use Rattle.rebuild.proofs.Answering.{open_is}
+use Rattle.rebuild.proofs.Fewer.{parts_count}
+use Rattle.rebuild.proofs.engine.Engine.turns_left.Goals as goal
+
+pub returns : goal.returns
+returns g c =
+    let self = c.args.self.now in
+    let core = self.core in
+    let ready = ready_is core self.ready in
+    let parts = c.open_parts-open.ensures.parts ∙ ap open_parts c.deref.ensures.value ∙ open_is core.rows.items ready.once in
+    let chain = c.len.ensures ∙ parts_count core.chain ready.chain in
+    omega (arith, c.saturating_sub.ensures, parts, chain)
