@@ -8,3 +8,6 @@ mod reading;
 
 pub use cache::TemplateCache;
 pub use reading::read_template;
+
+#[cfg(test)]
+mod tests;
