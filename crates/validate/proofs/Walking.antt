@@ -1,7 +1,6 @@
 -- The check of the children of a value, one after the other.
-use Rattle.std.proofs.Common.{◌≡◌, ◌≤◌, ℕ, ◌+◌, ◌<◌, pos, ◌==◌, Bool, true, false, cond, List, [], ◌∷◌, length, drop, get_or, Option, Some, None, Ok, Err, refl, ap, sym, ◌∙◌, arith}
+use Rattle.std.proofs.Common.{◌≡◌, ◌≤◌, ℕ, ◌+◌, ◌<◌, pos, ◌||◌, bytes_eq, is_some, if◌then◌else◌, Bool, true, false, cond, List, [], ◌∷◌, length, drop, get_or, Option, Some, None, option_copied, Bor, Ok, Err, refl, ap, sym, ◌∙◌, arith}
 use Rattle.std.proofs.lemmas.List.{drop_more}
-use Rattle.std.specs.Cmp.Lexicographic.{pointwise}
 use Rattle.path_tree.specs.Plain.{Plain, dict, list, text, long, boolean, undef, null, Fields as Values}
 use Rattle.path_tree.specs.Children.{child_fields, child_items, fields_from, items_from}
 use Rattle.path_tree.specs.Find.{child, child_at, child_count, find_field, key_at, kind_of}
@@ -118,7 +117,7 @@ fields_start v = all_fields (child_fields v)
 
 -- fields of a record
 
-pub has_more : (k : List ℕ) (fs : List RField) (i : ℕ) (f : RField) → i < length fs → f ≡ get_or fs i f → has_key k (fields_of (all_seen (drop i fs))) ≡ cond (pointwise ◌==◌ k (field_seen f).key) true (has_key k (fields_of (all_seen (drop (i + 1) fs))))
+pub has_more : (k : List ℕ) (fs : List RField) (i : ℕ) (f : RField) → i < length fs → f ≡ get_or fs i f → has_key k (fields_of (all_seen (drop i fs))) ≡ cond (bytes_eq (field_seen f).key k) true (has_key k (fields_of (all_seen (drop (i + 1) fs))))
 has_more k fs i f h is = ap (λ r. has_key k (fields_of (all_seen r))) (drop_more fs i f h ∙ ap (λ r. r ∷ drop (i + 1) fs) (sym is))
 
 key_in : (k : List ℕ) (v : Plain) → kind_of v ≡ kind.Dict → find_field k (child_fields v) ≡ child (term.Key k) v
@@ -151,3 +150,23 @@ other_more fs i v is within = one_other fs i v (key_at i v) (child_at i v) is wi
 
 pub other_end : (fs : Fields) (i : ℕ) (v : Plain) → kind_of v ≡ kind.Dict → i ≡ child_count v → other_key fs (fields_from i v) ≡ None
 other_end fs i v is end = ap (other_key fs) (dict_end v i is end)
+
+-- the key at i is that of no field
+pub other_found : (fs : Fields) (i : ℕ) (v : Plain) (k : Option (List ℕ)) → kind_of v ≡ kind.Dict → i < child_count v → k ≡ extra_key fs (key_at i v) → is_some k ≡ true → k ≡ other_key fs (fields_from i v)
+other_found fs i v None is within same some = absurd (cc)
+other_found fs i v (Some k) is within same some = sym (other_more fs i v is within ∙ ap (λ x. or_else x (other_key fs (fields_from (i + 1) v))) (sym same))
+
+-- the key at i is that of a field
+pub other_on : (fs : Fields) (i : ℕ) (v : Plain) (k : Option (List ℕ)) → kind_of v ≡ kind.Dict → i < child_count v → k ≡ extra_key fs (key_at i v) → is_some k ≡ false → other_key fs (fields_from (i + 1) v) ≡ other_key fs (fields_from i v)
+other_on fs i v None is within same none = sym (other_more fs i v is within ∙ ap (λ x. or_else x (other_key fs (fields_from (i + 1) v))) (sym same))
+other_on fs i v (Some k) is within same none = absurd (cc)
+
+pub copied_some : {X : Type 0} → (x : Option (Bor X)) → is_some (option_copied x) ≡ is_some x
+copied_some None = refl
+copied_some (Some x) = refl
+
+-- one key more in the set, of those that are left
+pub keys_step : (b held rest : Bool) → (cond b true held || rest) ≡ (held || cond b true rest)
+keys_step true true rest = refl
+keys_step true false rest = refl
+keys_step false held rest = refl

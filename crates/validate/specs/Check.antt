@@ -1,7 +1,6 @@
 -- The check of a value by a type: the first fault, in order, and one step for each type that is
 -- applied to a value.
-use Rattle.std.specs.Prelude.{ℕ, ◌+◌, pos, Bool, true, false, cond, if◌then◌else◌, List, Option, Some, None, ◌==◌}
-use Rattle.std.specs.Cmp.Lexicographic.{pointwise}
+use Rattle.std.specs.Prelude.{ℕ, ◌+◌, pos, Bool, true, false, cond, if◌then◌else◌, List, bytes_eq, Option, Some, None}
 use Rattle.path_tree.specs.Plain.{Plain, Items, no_items, item, Fields as Values, no_fields, field}
 use Rattle.path_tree.specs.Find.{item_count, field_count, find_field, kind_of, text_of, boolean_of}
 use Rattle.path_tree.specs.declared.path.Path.{Path}
@@ -65,7 +64,7 @@ field_run k required f (Some v) = below (term.Key k) (f v)
 
 abbrev pub has_key : List ℕ → Fields → Bool
 has_key k none = false
-has_key k (more l r t fs) = if pointwise ◌==◌ k l then true else has_key k fs
+has_key k (more l r t fs) = if bytes_eq l k then true else has_key k fs
 
 -- the least key that no field has
 abbrev pub other_key : Fields → Values → Option (List ℕ)

@@ -3,14 +3,15 @@
 //!
 //! In reading order: `refusal` (what is wrong with a value), `stop` (why a check ends early),
 //! `evaluator` (what a check takes of the language), `leaf` (steps and faults), `exits` (what was
-//! found in a part, told from the whole), `kinds` (what kind a value is of, ranges), `parts` (the
-//! parts of a value that need no type), `checking` (a value and a type), `undefs` (the first
-//! undef), `whole` (an object).
+//! found in a part, told from the whole), `kinds` (what kind a value is of, ranges), `extra` (keys
+//! that no field has), `parts` (what is checked of a value without going into it), `checking` (a
+//! value and a type), `undefs` (the first undef), `whole` (an object).
 #![tactic(auto)]
 
 mod checking;
 mod evaluator;
 mod exits;
+mod extra;
 mod kinds;
 mod leaf;
 mod parts;

@@ -1,20 +1,20 @@
-ghost use Rattle.std.specs.Prelude.{◌≡◌, ◌+◌, None, Some, option_copied};
+ghost use Rattle.std.specs.Prelude.{◌≡◌, ◌+◌, None, Some};
 ghost use Rattle.pan_ast.specs.Seen.{item_seen};
 ghost use Rattle.pan_ast.specs.TypesSeen.{body_seen};
 ghost use Rattle.path_tree.specs.Children.{child_fields};
-ghost use Rattle.path_tree.specs.Find.{key_at, kind_of};
+ghost use Rattle.path_tree.specs.Find.{kind_of};
 ghost use Rattle.path_tree.specs.declared.kind.Kind.TheVariants as kind;
 ghost use Rattle.type_defs.specs.Resolved.{fields_of};
 ghost use Rattle.type_defs.specs.Tables.{all_seen};
 ghost use Rattle.path_tree.specs.Plain.{Plain};
-ghost use Rattle.validate.specs.Check.{condition_run, field_run, has_key, no_other, other_key, shape_run, target_run};
+ghost use Rattle.validate.specs.Check.{condition_run, field_run, no_other, other_key, shape_run, target_run};
 ghost use Rattle.validate.specs.Exits.{Checks};
 ghost use Rattle.validate.specs.Kinds.{link_path};
 ghost use Rattle.validate.specs.Refusals as runs;
-ghost use Rattle.validate.specs.Walks.{extra_key};
 ghost use Rattle.type_defs.specs.Resolved.{Choice, OfBase};
 
 use crate::evaluator::Evaluator;
+use crate::extra::other_key;
 use crate::kinds::{is_among, is_of, link_path};
 use crate::leaf::{fault, refusal, refusal_at};
 use crate::refusal::{Exit, Misfit};
@@ -156,51 +156,6 @@ pub(crate) fn check_absent<L: Ledger, E: Evaluator<L>>(
     }
 }
 
-#[tactic(auto, using(crate::proofs::Walking::has_more, type_defs::proofs::Shapes::seen_field))]
-fn has_key(fields: &[RecordField], key: &Key) -> bool
-    ensures { result ≡ has_key key.now (fields_of (all_seen fields.now)) }
-{
-    for field in fields {
-        if *key == field.key {
-            return true;
-        }
-    }
-    false
-}
-
-/// The i-th key of a dict, where no field has it.
-fn extra_key<'a>(fields: &[RecordField], value: &'a Tree, i: usize) -> Option<&'a Key>
-    ensures { option_copied result
-        ≡ extra_key (fields_of (all_seen fields.now)) (key_at i value.now) }
-{
-    match value.key_handle(i) {
-        None => None,
-        Some(key) => {
-            if has_key(fields, key) {
-                None
-            } else {
-                Some(key)
-            }
-        }
-    }
-}
-
-/// The least key of a dict that no field has.
-#[tactic(auto, using(crate::proofs::Walking::other_more, crate::proofs::Walking::other_end, crate::proofs::Walking::fields_start))]
-fn other_key<'a>(fields: &[RecordField], value: &'a Tree) -> Option<&'a Key>
-    requires { kind_of value.now ≡ kind.Dict }
-    ensures { option_copied result
-        ≡ other_key (fields_of (all_seen fields.now)) (child_fields value.now) }
-{
-    for i in 0..value.len() {
-        let extra = extra_key(fields, value, i);
-        if extra.is_some() {
-            return extra;
-        }
-    }
-    None
-}
-
 /// Checks that a dict has no key but those of fields.
 pub(crate) fn check_no_other<L: Ledger, E: Evaluator<L>>(
     alloc: Global,
@@ -214,7 +169,7 @@ pub(crate) fn check_no_other<L: Ledger, E: Evaluator<L>>(
         (E.asked evaluator.now) (no_other (other_key (fields_of (all_seen fields.now))
         (child_fields value.now))) }
 {
-    match other_key(fields, value) {
+    match other_key(alloc, fields, value)? {
         None => Ok(()),
         Some(key) => Err(refusal_at(alloc, Misfit::ExtraField, key)),
     }
