@@ -15,7 +15,8 @@ or_else None next = next
 -- no name stands in two of the tables
 abbrev pub find_of : List ℕ → Option ValueCall
 find_of name = or_else (option_map value.Text (texts.find_of name))
-    (or_else (option_map value.Tree (trees.find_of name)) (option_map value.Code (codes.find_of name)))
+    (or_else (option_map value.Tree (trees.find_of name))
+    (option_map value.Code (codes.find_of name)))
 
 abbrev pub call_of : ValueCall → List Plain → Result Plain Refused
 call_of (value.Text call) args = texts.call_of call args

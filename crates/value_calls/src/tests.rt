@@ -20,7 +20,10 @@ fn each_table_has_its_functions(rt: HostRuntime) -> Result<(), Fail> {
     let alloc = rt.alloc();
     for (name, expected) in [("to_uppercase", "A=B"), ("base64_encode", "YT1i")] {
         let value = given(alloc, name, "a=b").ok();
-        let text = value.as_ref().and_then(|tree| tree.as_ref()).and_then(|tree| tree.as_text());
+        let text = value
+            .as_ref()
+            .and_then(|tree| tree.as_ref())
+            .and_then(|tree| tree.as_text());
         assert!(rt; text == Some(expected));
     }
     assert!(rt; given(alloc, "is_string", "a").is_ok());
