@@ -26,6 +26,7 @@ use pan_lexer::{LexError, lex};
 use pan_parser::{ParseError, parse};
 use path_tree::Tree;
 use std::alloc::Global;
+use std::marker::Brand;
 use std::sync::ledger::{Blank, Ledger};
 use validate::{Stop, check};
 
@@ -133,7 +134,7 @@ fn print_checked<L: Ledger>(
     match checked {
         Ok(()) => println!(rt; "  ok")?,
         Err(Stop::Fault(fault)) => print_fault(rt, &fault)?,
-        Err(Stop::Need(_)) => println!(rt; "  need")?,
+        Err(Stop::Need(_key)) => println!(rt; "  need")?,
         Err(Stop::Memory) => return Err(anyhow!("memory")),
     }
     Ok(())

@@ -1,7 +1,9 @@
 use crate::written::written_value;
 use anyhow::{Result, anyhow};
 use base::{Seq, Text};
-use pan_ast::{Change, Code, Fault, Field, FullType, Head, Item, Place, Statement, StatementForm, TypeForm};
+use pan_ast::{
+    Change, Code, Fault, Field, FullType, Head, Item, Place, Statement, StatementForm, TypeForm,
+};
 use path_tree::{Anchor, Name, Path, PathError, PutError, Term, Tree};
 use std::alloc::Global;
 use std::rc::Rc;
