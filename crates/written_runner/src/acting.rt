@@ -101,11 +101,13 @@ fn look_for<K: Known>(
     used: &mut Used,
 ) -> Result<Came, AllocError>
     ensures outcome { IfOk result (λ came. outcome_of came used.new.value
-        (meter_of used.new.left used.new.trace) ≡ file_asked place.now (file_text (letter_text letter))
+        (meter_of used.new.left used.new.trace)
+        ≡ file_asked place.now (file_text (letter_text letter))
         (λ c. become (boolean (is_there c)))
         (answers_of (words picture.now (K.numbers known.now) (K.objects known.now)))
         used.old.value (meter_of used.old.left used.old.trace)) }
-    ensures numbered { OnOk result (AreNumbered (words picture.now (K.numbers known.now) (K.objects known.now))
+    ensures numbered { OnOk result
+        (AreNumbered (words picture.now (K.numbers known.now) (K.objects known.now))
         used.old.trace → AreNumbered (words picture.now (K.numbers known.now) (K.objects known.now))
         used.new.trace) }
 {
@@ -129,10 +131,12 @@ fn read_object<K: Known>(
     used: &mut Used,
 ) -> Result<Came, AllocError>
     ensures outcome { IfOk result (λ came. outcome_of came used.new.value
-        (meter_of used.new.left used.new.trace) ≡ object_asked place.now (read_in place.now) (Some object)
+        (meter_of used.new.left used.new.trace)
+        ≡ object_asked place.now (read_in place.now) (Some object)
         (answers_of (words picture.now (K.numbers known.now) (K.objects known.now)))
         used.old.value (meter_of used.old.left used.old.trace)) }
-    ensures numbered { OnOk result (AreNumbered (words picture.now (K.numbers known.now) (K.objects known.now))
+    ensures numbered { OnOk result
+        (AreNumbered (words picture.now (K.numbers known.now) (K.objects known.now))
         used.old.trace → AreNumbered (words picture.now (K.numbers known.now) (K.objects known.now))
         used.new.trace) }
 {
@@ -156,10 +160,12 @@ fn test_object<K: Known>(
     used: &mut Used,
 ) -> Result<Came, AllocError>
     ensures outcome { IfOk result (λ came. outcome_of came used.new.value
-        (meter_of used.new.left used.new.trace) ≡ object_asked place.now (tested_in place.now) (Some object)
+        (meter_of used.new.left used.new.trace)
+        ≡ object_asked place.now (tested_in place.now) (Some object)
         (answers_of (words picture.now (K.numbers known.now) (K.objects known.now)))
         used.old.value (meter_of used.old.left used.old.trace)) }
-    ensures numbered { OnOk result (AreNumbered (words picture.now (K.numbers known.now) (K.objects known.now))
+    ensures numbered { OnOk result
+        (AreNumbered (words picture.now (K.numbers known.now) (K.objects known.now))
         used.old.trace → AreNumbered (words picture.now (K.numbers known.now) (K.objects known.now))
         used.new.trace) }
 {
@@ -215,7 +221,8 @@ pub(crate) fn act<K: Known>(
         (meter_of used.new.left used.new.trace) ≡ acted place.now own.now action
         (answers_of (words picture.now (K.numbers known.now) (K.objects known.now)))
         used.old.value (meter_of used.old.left used.old.trace)) }
-    ensures numbered { OnOk result (AreNumbered (words picture.now (K.numbers known.now) (K.objects known.now))
+    ensures numbered { OnOk result
+        (AreNumbered (words picture.now (K.numbers known.now) (K.objects known.now))
         used.old.trace → AreNumbered (words picture.now (K.numbers known.now) (K.objects known.now))
         used.new.trace) }
 {
