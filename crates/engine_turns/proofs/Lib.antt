@@ -1,3 +1,6 @@
+pub mod Firsts
+pub mod Once
+pub mod Sorted
 pub mod ByName
 pub mod Words
 pub mod Settles

@@ -8,16 +8,18 @@ use Rattle.engine_laws.specs.Names.{Name}
 use Rattle.engine_laws.specs.Engine.{is_among}
 use Rattle.engine_turns.specs.declared.rows.Row.{Row}
 use Rattle.engine_turns.specs.declared.core_data.Core.{Core}
-use Rattle.engine_turns.specs.Places.{names}
 use Rattle.engine_turns.specs.Numbers.{next_counter, number_for, fault_number}
 use Rattle.engine_turns.specs.States.{is_graded, are_graded, has_grade, failed_number}
-use Rattle.engine_turns.specs.Ready.{is_build_top, is_check_top, is_empty, are_builds, is_chain, are_known, are_once, IsReady, StaysReady}
+use Rattle.engine_turns.specs.Ready.{is_build_top, is_check_top, is_empty, are_builds, is_chain, are_known, is_open, is_unchecked, none_before, IsReady, StaysReady}
 use Rattle.std.proofs.lemmas.Bool.{eq-eqb, le-leb}
 use Rattle.path_tree.specs.Plain.{Plain}
 use Rattle.pan_ast.specs.declared.fault.Fault.{Fault}
 use Rattle.engine_turns.specs.declared.rows.Last.{Last}
 use Rattle.engine_machine.specs.Machine.{Kept, same_kept, code_grade}
 use Rattle.engine_machine.proofs.Truths.{both}
+use Rattle.object_names.specs.Objects.{are_rising}
+use Rattle.engine_turns.specs.Places.{names, file_names}
+use Rattle.engine_turns.proofs.Firsts.{none_set}
 
 pub names_set : {T : Type 0} → (rows : List (Row T)) (i : ℕ) (r e : Row T) → i < length rows → r.name ≡ (get_or rows i e).name → names (slice_set rows i r) ≡ names rows
 names_set [] i r e lt same = refl
@@ -74,42 +76,93 @@ up m n le = at (nat_eq m n)
     at true = omega (arith, le)
     at false = le
 
--- the top's row is changed, and the top leaves
-pub ready_left : {T : Type 0} → (c : Core T) (at : ℕ) (r e : Row T) → IsReady c → at < length c.rows.items → r.name ≡ (get_or c.rows.items at e).name → is_graded r.last ≡ true → (mid new : Core T) → mid.counter ≡ c.counter → mid.limits ≡ c.limits → mid.dirs ≡ c.dirs → mid.files.items ≡ c.files.items → mid.rows.items ≡ slice_set c.rows.items at r → mid.chain ≡ c.chain → new ≡ record mid { chain = below mid.chain } → StaysReady c new
-ready_left c at r e ready lt same g mid new counter limits dirs files rows chain is =
-    subst (StaysReady c) (sym is) (record {
-      ready = record {
-        three = subst (λ n. 3 ≤ n) (sym counter) ready.three;
-        once = ap are_once ns ∙ ready.once;
-        graded = ap are_graded rows ∙ graded_set c.rows.items at r g ready.graded;
-        chain = ap (λ ps. is_chain (below ps)) chain ∙ chain_below c.chain ready.chain;
-        known = (λ i. are_known (ns i) (below (chain i))) ∙ known_below (names c.rows.items) c.chain ready.known;
-      };
-      limits = limits;
-      dirs = dirs;
-      files = files;
-      objects = ns;
-      low = λ h. subst (λ n. n ≤ END_OF_NUMBERS) (sym counter) h;
-    })
+-- what a change of a row may be
+pub record IsChange {T : Type 0} (rows : List (Row T)) (at : ℕ) (r e : Row T) : Type 0 where
+  pub name : r.name ≡ (get_or rows at e).name
+  pub graded : is_graded r.last ≡ true
+  pub builds : is_open r ≡ true → is_open (get_or rows at e) ≡ true
+  pub checks : is_unchecked r ≡ true → is_unchecked (get_or rows at e) ≡ true
+
+-- a part that is settled was so or was not
+pub closed : {a b : Bool} → a ≡ false → a ≡ true → b ≡ true
+closed off on = absurd (let clash : false ≡ true = sym off ∙ on in cc)
+
+pub same_flag : {a b : Bool} → a ≡ b → a ≡ true → b ≡ true
+same_flag same on = sym same ∙ on
+
+pub change_of : {T : Type 0} → (rows : List (Row T)) (at : ℕ) (r row : Row T) → row ≡ get_or rows at row → r.name ≡ row.name → is_graded r.last ≡ true → (is_open r ≡ true → is_open row ≡ true) → (is_unchecked r ≡ true → is_unchecked row ≡ true) → IsChange rows at r row
+change_of rows at r row is name graded builds checks = record {
+  name = name ∙ ap (λ z. z.name) is;
+  graded = graded;
+  builds = λ h. sym (ap is_open is) ∙ builds h;
+  checks = λ h. sym (ap is_unchecked is) ∙ checks h;
+}
+
+-- the data with a row set
+pub record IsRowSet {T : Type 0} (c : Core T) (at : ℕ) (r : Row T) (new : Core T) : Type 0 where
+  pub counter : new.counter ≡ c.counter
+  pub limits : new.limits ≡ c.limits
+  pub dirs : new.dirs ≡ c.dirs
+  pub files : new.files.items ≡ c.files.items
+  pub rows : new.rows.items ≡ slice_set c.rows.items at r
+  pub builds : new.first_build ≡ c.first_build
+  pub checks : new.first_check ≡ c.first_check
+
+ready_set : {T : Type 0} → (c : Core T) (at : ℕ) (r e : Row T) → IsReady c → at < length c.rows.items → IsChange c.rows.items at r e → (new : Core T) → IsRowSet c at r new → is_chain new.chain ≡ true → are_known (names c.rows.items) new.chain ≡ true → StaysReady c new
+ready_set {T} c at r e ready lt change new is chain known = record {
+  ready = record {
+    three = subst (λ n. 3 ≤ n) (sym is.counter) ready.three;
+    rising = ap are_rising ns ∙ ready.rising;
+    files = ap (λ fs. are_rising (file_names fs)) is.files ∙ ready.files;
+    builds = (λ i. none_before is_open (is.builds i) (is.rows i)) ∙ none_set is_open c.first_build at c.rows.items r e change.builds ready.builds;
+    checks = (λ i. none_before is_unchecked (is.checks i) (is.rows i)) ∙ none_set is_unchecked c.first_check at c.rows.items r e change.checks ready.checks;
+    graded = ap are_graded is.rows ∙ graded_set c.rows.items at r change.graded ready.graded;
+    chain = chain;
+    known = ap (λ o. are_known o new.chain) ns ∙ known;
+  };
+  limits = is.limits;
+  dirs = is.dirs;
+  files = is.files;
+  objects = ns;
+  low = λ h. subst (λ n. n ≤ END_OF_NUMBERS) (sym is.counter) h;
+}
   where
-    ns : names mid.rows.items ≡ names c.rows.items
-    ns = ap names rows ∙ names_set c.rows.items at r e lt same
+    ns : names new.rows.items ≡ names c.rows.items
+    ns = ap names is.rows ∙ names_set c.rows.items at r e lt change.name
+
+-- the top's row is changed, and the top leaves
+pub ready_left : {T : Type 0} → (c : Core T) (at : ℕ) (r e : Row T) → IsReady c → at < length c.rows.items → IsChange c.rows.items at r e → (mid new : Core T) → IsRowSet c at r mid → mid.chain ≡ c.chain → new ≡ record mid { chain = below mid.chain } → StaysReady c new
+ready_left c at r e ready lt change mid new is chain left =
+    subst (StaysReady c) (sym left) (ready_set c at r e ready lt change (record mid { chain = below mid.chain })
+    (record { counter = is.counter; limits = is.limits; dirs = is.dirs; files = is.files; rows = is.rows; builds = is.builds; checks = is.checks })
+    (ap (λ ps. is_chain (below ps)) chain ∙ chain_below c.chain ready.chain)
+    (ap (λ ps. are_known (names c.rows.items) (below ps)) chain ∙ known_below (names c.rows.items) c.chain ready.known))
+
+-- a build part comes on top, and a row is changed
+pub ready_above : {T : Type 0} → (c : Core T) (p : Name) (at : ℕ) (r e : Row T) → IsReady c → is_check_top c.chain ≡ false → is_among p (names c.rows.items) ≡ true → at < length c.rows.items → IsChange c.rows.items at r e → (new : Core T) → IsRowSet c at r new → new.chain ≡ part.Build p ∷ c.chain → StaysReady c new
+ready_above c p at r e ready free among lt change new is chain =
+    ready_set c at r e ready lt change new is
+    (ap is_chain chain ∙ chain_above c.chain free ready.chain)
+    (ap (are_known (names c.rows.items)) chain ∙ both_true (is_among p (names c.rows.items)) (are_known (names c.rows.items) c.chain) among ready.known)
 
 -- a build part comes on top
-pub ready_above : {T : Type 0} → (c : Core T) (p : Name) → IsReady c → is_check_top c.chain ≡ false → is_among p (names c.rows.items) ≡ true → (new : Core T) → new.counter ≡ c.counter → new.limits ≡ c.limits → new.dirs ≡ c.dirs → new.files.items ≡ c.files.items → names new.rows.items ≡ names c.rows.items → are_graded new.rows.items ≡ true → new.chain ≡ part.Build p ∷ c.chain → StaysReady c new
-ready_above c p ready free among new counter limits dirs files ns g chain = record {
+pub ready_pushed : {T : Type 0} → (c : Core T) (p : Name) → IsReady c → is_check_top c.chain ≡ false → is_among p (names c.rows.items) ≡ true → (new : List Part) → new ≡ part.Build p ∷ c.chain → StaysReady c (record c { chain = new })
+ready_pushed c p ready free among new is = record {
   ready = record {
-    three = subst (λ n. 3 ≤ n) (sym counter) ready.three;
-    once = ap are_once ns ∙ ready.once;
-    graded = g;
-    chain = ap is_chain chain ∙ chain_above c.chain free ready.chain;
-    known = (λ i. are_known (ns i) (chain i)) ∙ both_true (is_among p (names c.rows.items)) (are_known (names c.rows.items) c.chain) among ready.known;
+    three = ready.three;
+    rising = ready.rising;
+    files = ready.files;
+    builds = ready.builds;
+    checks = ready.checks;
+    graded = ready.graded;
+    chain = ap is_chain is ∙ chain_above c.chain free ready.chain;
+    known = ap (are_known (names c.rows.items)) is ∙ both_true (is_among p (names c.rows.items)) (are_known (names c.rows.items) c.chain) among ready.known;
   };
-  limits = limits;
-  dirs = dirs;
-  files = files;
-  objects = ns;
-  low = λ h. subst (λ n. n ≤ END_OF_NUMBERS) (sym counter) h;
+  limits = refl;
+  dirs = refl;
+  files = refl;
+  objects = refl;
+  low = λ h. h;
 }
 
 -- a check part comes on top of nothing
@@ -117,7 +170,10 @@ pub ready_check : {T : Type 0} → (c : Core T) (p : Name) → IsReady c → c.c
 ready_check c p ready empty among new chain = record {
   ready = record {
     three = ready.three;
-    once = ready.once;
+    rising = ready.rising;
+    files = ready.files;
+    builds = ready.builds;
+    checks = ready.checks;
     graded = ready.graded;
     chain = ap is_chain chain ∙ ap is_empty empty;
     known = ap (are_known (names c.rows.items)) chain ∙ both_true (is_among p (names c.rows.items)) (are_known (names c.rows.items) c.chain) among ready.known;
@@ -127,6 +183,26 @@ ready_check c p ready empty among new chain = record {
   files = refl;
   objects = refl;
   low = λ h. h;
+}
+
+-- the places from which unsettled parts are looked for move on
+pub ready_from : {T : Type 0} → (c n : Core T) (build check : ℕ) → StaysReady c n → none_before is_open build n.rows.items ≡ true → none_before is_unchecked check n.rows.items ≡ true → StaysReady c (record n { first_build = build; first_check = check })
+ready_from c n build check s builds checks = record {
+  ready = record {
+    three = s.ready.three;
+    rising = s.ready.rising;
+    files = s.ready.files;
+    builds = builds;
+    checks = checks;
+    graded = s.ready.graded;
+    chain = s.ready.chain;
+    known = s.ready.known;
+  };
+  limits = s.limits;
+  dirs = s.dirs;
+  files = s.files;
+  objects = s.objects;
+  low = s.low;
 }
 
 pub stays_same : {T : Type 0} → (c : Core T) → IsReady c → StaysReady c c
@@ -146,7 +222,7 @@ after_given c m mid new given up s = record {
 -- a number was given
 pub ready_counted : {T : Type 0} → (c : Core T) (m : ℕ) → IsReady c → (new : Core T) → new ≡ record c { counter = next_counter m c.counter } → IsReady new
 ready_counted c m ready new given =
-    let here : IsReady (record c { counter = next_counter m c.counter }) = record { three = up m c.counter ready.three; once = ready.once; graded = ready.graded; chain = ready.chain; known = ready.known } in
+    let here : IsReady (record c { counter = next_counter m c.counter }) = record { three = up m c.counter ready.three; rising = ready.rising; files = ready.files; builds = ready.builds; checks = ready.checks; graded = ready.graded; chain = ready.chain; known = ready.known } in
     subst IsReady (sym given) here
 
 large : (n : ℕ) → 3 ≤ n → nat_le 3 n ≡ true

@@ -17,7 +17,7 @@ ghost use Rattle.engine_turns.specs.Turning.{kept_turn, pushed_turn, stopped_tur
 
 use crate::changes::{drop_record, keep_build, settle_build};
 use crate::comparing::{Found, compare_build};
-use crate::core_data::Core;
+use crate::core_data::{Core, Knowing};
 use crate::rows::Row;
 use crate::turned::TurnError;
 use asking::limits::END_OF_NUMBERS;
@@ -55,6 +55,7 @@ pub fn push_build<T: Drop>(core: &mut Core<T>, name: Name) -> Result<(), TurnErr
     requires known { is_among name (names core.old.rows.items) ≡ true }
     ensures state { OnOk result (core_state core.new ≡ pushed_turn core.old name) }
     ensures ready { OnOk result (StaysReady core.old core.new) }
+    ensures rows { OnOk result (core.new.rows ≡ core.old.rows) }
     ensures refused { IfErr result (λ e. e ≡ Memory) }
     ensures before { OnErr result (core.new ≡ core.old) }
 {
@@ -207,7 +208,8 @@ pub fn build_at<R: Runner, L: Ledger>(
     ensures files { R.files_of runner.new ≡ R.files_of runner.old }
     ensures dirs { R.dirs_of runner.new ≡ R.dirs_of runner.old }
 {
-    runner.run_build(&core.rows[at].name, core, &core.limits, steps)
+    let known = Knowing { core };
+    runner.run_build(&core.rows[at].name, &known, &core.limits, steps)
 }
 
 /// The build part on top is run: it has no record, or its record differs at an item.

@@ -14,7 +14,7 @@ ghost use Rattle.engine_turns.specs.Turning.{judged_turn, judged_kept_turn, judg
 use crate::building::{build_at, leave};
 use crate::changes::{judge, judge_run, keep_check};
 use crate::comparing::{Found, compare_check};
-use crate::core_data::Core;
+use crate::core_data::{Core, Knowing};
 use crate::rows::Row;
 use crate::turned::TurnError;
 use base::Steps;
@@ -103,7 +103,8 @@ fn check_value<R: Runner, L: Ledger>(
     ensures files { R.files_of runner.new ≡ R.files_of runner.old }
     ensures dirs { R.dirs_of runner.new ≡ R.dirs_of runner.old }
 {
-    runner.run_check(built, core, &core.limits, steps)
+    let known = Knowing { core };
+    runner.run_check(built, &known, &core.limits, steps)
 }
 
 /// The check part on top is run, with a value that is built for it.

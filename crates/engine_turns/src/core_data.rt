@@ -1,5 +1,7 @@
-ghost use Rattle.std.specs.Prelude.{◌≡◌, ◌<◌, length, Some};
+ghost use Rattle.std.specs.Prelude.{◌≡◌, Some, true};
 ghost use Rattle.runner.specs.Words.{seen_told};
+ghost use Rattle.object_names.specs.Objects.{are_rising};
+ghost use Rattle.engine_turns.specs.Places.{names, file_names};
 ghost use Rattle.engine_turns.specs.Told.{seen_last, seen_row, is_on_chain};
 
 use crate::rows::{FileRow, Last, Row, file_number_in, row_in};
@@ -19,6 +21,10 @@ pub struct Core<T> {
     pub files: Vec<FileRow>,
     pub rows: Vec<Row<T>>,
     pub chain: Chain,
+    /// No build part of a row before this one is unsettled.
+    pub first_build: usize,
+    /// No check part of a row before this one is unsettled.
+    pub first_check: usize,
 }
 
 /// What is told of a name that is no object.
@@ -72,30 +78,38 @@ fn is_on_chain<T>(row: &Row<T>, chain: &Chain) -> bool
     chain.holds_build(&row.name)
 }
 
-impl<T> Known for Core<T> {
+/// The engine's data, as it tells what it knows.
+#[derive(Drop)]
+pub struct Knowing<'a, T> {
+    pub core: &'a Core<T>,
+    ghost rows: { are_rising (names core.now.rows.items) ≡ true },
+    ghost files: { are_rising (file_names core.now.files.items) ≡ true },
+}
+
+impl<'a, T> Known for Knowing<'a, T> {
     ghost use Rattle.engine_turns.specs.Places.{file_number_in};
     ghost use Rattle.engine_turns.specs.Told.{seen_in};
 
-    ghost numbers = { λ c. file_number_in c.files.items };
+    ghost numbers = { λ k. file_number_in k.core.now.files.items };
 
-    ghost objects = { λ c. seen_in c.rows.items c.chain };
+    ghost objects = { λ k. seen_in k.core.now.rows.items k.core.now.chain };
 
     fn file_number(&self, name: &str) -> u64 {
-        file_number_in(&self.files, name)
+        file_number_in(&self.core.files, name)
     }
 
     fn built(&self, object: &Name, terms: &[Term]) -> Option<Told<'_>> {
-        match row_in(&self.rows, object) {
+        match row_in(&self.core.rows, object.as_str()) {
             None => Some(ABSENT),
-            Some(row) => seen_row(row, is_on_chain(row, &self.chain), terms),
+            Some(row) => seen_row(row, is_on_chain(row, &self.core.chain), terms),
         }
     }
 }
 
-impl<T> Numbers for Core<T> {
-    ghost use Rattle.engine_turns.specs.Told.{number_of};
+impl<'a, T> Numbers for Knowing<'a, T> {
+    ghost use Rattle.engine_turns.specs.Told.{core_number_of};
 
-    ghost number_of = { λ c. number_of c.files.items c.rows.items c.chain };
+    ghost number_of = { λ k. core_number_of k.core.now };
 
     fn number(&self, key: &Key) -> Option<u64> {
         match key {

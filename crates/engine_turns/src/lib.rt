@@ -14,7 +14,7 @@ mod rows;
 mod turned;
 mod turning;
 
-pub use core_data::Core;
-pub use rows::{Cause, CheckRecord, FileRow, Last, Row, row_place};
+pub use core_data::{Core, Knowing};
+pub use rows::{Cause, CheckRecord, FileRow, Last, Row, file_in, row_in, row_place};
 pub use turned::{TurnError, Turned};
 pub use turning::{step, turned_by};

@@ -1,5 +1,7 @@
-ghost use Rattle.std.specs.Prelude.{◌≡◌, option_copied};
-ghost use Rattle.engine_turns.specs.Places.{row_place, row_in, file_number_in};
+ghost use Rattle.std.specs.Prelude.{◌≡◌, true, option_copied};
+ghost use Rattle.object_names.specs.Objects.{are_rising};
+ghost use Rattle.object_names.specs.Finding.{place_in};
+ghost use Rattle.engine_turns.specs.Places.{row_place, row_in, file_in, file_number_in, names, file_names};
 
 use base::Text;
 use load_path::Content;
@@ -52,38 +54,66 @@ pub struct Row<T> {
     pub cause: Cause,
 }
 
+/// How many rows have a name below this one.
+fn rows_below<T>(rows: &[Row<T>], name: &str) -> usize
+    requires { are_rising (names rows.now) ≡ true }
+    ensures { result ≡ place_in (names rows.now) name.now }
+{
+    rows.partition_point(|row| row.name.as_str() < name)
+}
+
 /// Where the row of a name is.
 pub fn row_place<T>(rows: &[Row<T>], name: &Name) -> Option<usize>
+    requires { are_rising (names rows.now) ≡ true }
     ensures { result ≡ row_place name.now 0 rows.now }
 {
-    for (at, row) in rows.iter().enumerate() {
-        if row.name == *name {
-            return Some(at);
-        }
+    let place = rows_below(rows, name.as_str());
+    let row = rows.get(place)?;
+    if row.name != *name {
+        return None;
     }
-    None
+    Some(place)
 }
 
 /// The row of a name.
-pub fn row_in<'a, T>(rows: &'a [Row<T>], name: &Name) -> Option<&'a Row<T>>
+pub fn row_in<'a, T>(rows: &'a [Row<T>], name: &str) -> Option<&'a Row<T>>
+    requires { are_rising (names rows.now) ≡ true }
     ensures { option_copied result ≡ row_in name.now rows.now }
 {
-    for row in rows {
-        if row.name == *name {
-            return Some(row);
-        }
+    let row = rows.get(rows_below(rows, name))?;
+    if row.name.as_str() != name {
+        return None;
     }
-    None
+    Some(row)
+}
+
+/// How many files have a name below this one.
+fn files_below(files: &[FileRow], name: &str) -> usize
+    requires { are_rising (file_names files.now) ≡ true }
+    ensures { result ≡ place_in (file_names files.now) name.now }
+{
+    files.partition_point(|file| file.name.as_str() < name)
+}
+
+/// The file of a name.
+pub fn file_in<'a>(files: &'a [FileRow], name: &str) -> Option<&'a FileRow>
+    requires { are_rising (file_names files.now) ≡ true }
+    ensures { option_copied result ≡ file_in files.now name.now }
+{
+    let file = files.get(files_below(files, name))?;
+    if file.name.as_str() != name {
+        return None;
+    }
+    Some(file)
 }
 
 /// The number of a file, 0 where there is none of this name.
 pub fn file_number_in(files: &[FileRow], name: &str) -> u64
+    requires { are_rising (file_names files.now) ≡ true }
     ensures { result ≡ file_number_in files.now name.now }
 {
-    for file in files {
-        if file.name.as_str() == name {
-            return file.number;
-        }
+    match file_in(files, name) {
+        None => 0,
+        Some(file) => file.number,
     }
-    0
 }

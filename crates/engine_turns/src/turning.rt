@@ -1,10 +1,10 @@
 //! One turn.
 
-ghost use Rattle.std.specs.Prelude.{◌≡◌, IfErr, OnOk, OnErr, [], Some, true, option_copied};
+ghost use Rattle.std.specs.Prelude.{◌≡◌, IfErr, OnOk, OnErr, [], Some, true, option_copied, slice_get};
 ghost use Rattle.engine_laws.specs.Engine.{is_among};
 ghost use Rattle.engine_turns.specs.Places.{names};
 ghost use Rattle.engine_turns.specs.States.{pictured};
-ghost use Rattle.engine_turns.specs.Ready.{IsReady, StaysReady, core_state};
+ghost use Rattle.engine_turns.specs.Ready.{IsReady, StaysReady, core_state, none_before, is_open, is_unchecked};
 ghost use Rattle.engine_turns.specs.Turning.{open_state, turned};
 ghost use Rattle.engine_turns.specs.Spent.{IsTurnRefused, Spends, core_work};
 ghost use Rattle.engine_turns.specs.declared.turned.TurnError.TheVariants.{Memory};
@@ -48,28 +48,30 @@ fn find_top<T: Drop>(core: &Core<T>) -> Top
     }
 }
 
-/// The first object with an unsettled build part.
-fn first_open_build<T>(rows: &[Row<T>]) -> Option<&Row<T>>
-    ensures { option_copied result ≡ first_open_build rows.now }
+/// The place of the first unsettled build part, of rows none of which is so before a place.
+fn first_open_build<T>(rows: &[Row<T>], from: usize) -> usize
+    requires { none_before is_open from rows.now ≡ true }
+    ensures first { slice_get rows.now result ≡ first_open_build rows.now }
+    ensures before { none_before is_open result rows.now ≡ true }
 {
-    for row in rows {
-        if row.open_build {
-            return Some(row);
-        }
+    let mut at = from;
+    while at < rows.len() && !rows[at].open_build {
+        at += 1;
     }
-    None
+    at
 }
 
-/// The first object with an unsettled check part.
-fn first_open_check<T>(rows: &[Row<T>]) -> Option<&Row<T>>
-    ensures { option_copied result ≡ first_open_check rows.now }
+/// The place of the first unsettled check part, of rows none of which is so before a place.
+fn first_open_check<T>(rows: &[Row<T>], from: usize) -> usize
+    requires { none_before is_unchecked from rows.now ≡ true }
+    ensures first { slice_get rows.now result ≡ first_open_check rows.now }
+    ensures before { none_before is_unchecked result rows.now ≡ true }
 {
-    for row in rows {
-        if row.open_check {
-            return Some(row);
-        }
+    let mut at = from;
+    while at < rows.len() && !rows[at].open_check {
+        at += 1;
     }
-    None
+    at
 }
 
 /// A check part comes on top of an empty chain.
@@ -80,6 +82,7 @@ fn push_check<T: Drop>(core: &mut Core<T>, name: Name) -> Result<(), TurnError>
     ensures state { OnOk result (core_state core.new
         ≡ record (core_state core.old) { checking = Some name }) }
     ensures ready { OnOk result (StaysReady core.old core.new) }
+    ensures rows { OnOk result (core.new.rows ≡ core.old.rows) }
     ensures refused { IfErr result (λ e. e ≡ Memory) }
     ensures before { OnErr result (core.new ≡ core.old) }
 {
@@ -96,14 +99,19 @@ fn open_part<T: Drop>(core: &mut Core<T>) -> Result<(), TurnError>
     ensures refused { IfErr result (λ e. e ≡ Memory) }
     ensures before { OnErr result (core.new ≡ core.old) }
 {
-    if let Some(row) = first_open_build(&core.rows) {
+    let build = first_open_build(&core.rows, core.first_build);
+    if let Some(row) = core.rows.get(build) {
         let name = row.name.share()?;
         push_build(core, name)?;
+        core.first_build = build;
         return Ok(());
     }
-    if let Some(row) = first_open_check(&core.rows) {
+    let check = first_open_check(&core.rows, core.first_check);
+    if let Some(row) = core.rows.get(check) {
         let name = row.name.share()?;
         push_check(core, name)?;
+        core.first_build = build;
+        core.first_check = check;
         return Ok(());
     }
     Ok(())

@@ -7,7 +7,7 @@ use Rattle.engine_machine.proofs.Truths.{both}
 use Rattle.engine_turns.specs.declared.rows.Row.{Row}
 use Rattle.engine_turns.specs.declared.core_data.Core.{Core}
 use Rattle.engine_turns.specs.Places.{row_in, of_row, column, names}
-use Rattle.engine_turns.specs.Ready.{are_once}
+use Rattle.engine_turns.proofs.Once.{are_once}
 use Rattle.rebuild.specs.Engines.{situation_of}
 use Rattle.rebuild.specs.Answers.{why_at, why_found, reads_at, reads_found, run_names, one_of, open_parts}
 use Rattle.engine_turns.proofs.ByName.{no_row, some_row}

@@ -12,9 +12,10 @@ use Rattle.engine_machine.specs.Machine.{runner_of, keeping, judge_of}
 use Rattle.engine_machine.proofs.Truths.{both}
 use Rattle.engine_turns.specs.declared.core_data.Core.{Core}
 use Rattle.engine_turns.specs.declared.turned.TurnError.{TurnError}
-use Rattle.engine_turns.specs.Places.{names}
+use Rattle.engine_turns.specs.Places.{names, file_names}
 use Rattle.engine_turns.specs.States.{picture_of, are_graded}
-use Rattle.engine_turns.specs.Ready.{core_state, is_chain, are_once, IsReady, StaysReady}
+use Rattle.object_names.specs.Objects.{are_rising}
+use Rattle.engine_turns.specs.Ready.{core_state, is_chain, none_before, is_open, is_unchecked, IsReady, StaysReady}
 use Rattle.engine_turns.specs.Turning.{turned}
 use Rattle.rebuild.specs.Engines.{EngineSituation, Meanings, situation_of, value_of, is_ready, IsEngine, turn_work_of, after_turn, IsTrue}
 use Rattle.engine_turns.specs.Spent.{core_work, IsTurnRefused}
@@ -24,15 +25,22 @@ use Rattle.engine_turns.proofs.ByName.{names_length}
 pub ready_is : {T : Type 0} → (c : Core T) → is_ready c ≡ true → IsReady c
 ready_is c e =
     let a = both (nat_le 3 c.counter) _ e in
-    let b = both (are_once (names c.rows.items)) _ a.1 in
-    let d = both (are_graded c.rows.items) _ b.1 in
-    let f = both (is_chain c.chain) _ d.1 in
-    record { three = leb-true 3 c.counter a.0; once = b.0; graded = d.0; chain = f.0; known = f.1 }
+    let b = both (are_rising (names c.rows.items)) _ a.1 in
+    let d = both (are_rising (file_names c.files.items)) _ b.1 in
+    let f = both (none_before is_open c.first_build c.rows.items) _ d.1 in
+    let g = both (none_before is_unchecked c.first_check c.rows.items) _ f.1 in
+    let h = both (are_graded c.rows.items) _ g.1 in
+    let i = both (is_chain c.chain) _ h.1 in
+    record { three = leb-true 3 c.counter a.0; rising = b.0; files = d.0; builds = f.0; checks = g.0; graded = h.0; chain = i.0; known = i.1 }
 
 pub is_ready_of : {T : Type 0} → (c : Core T) → IsReady c → is_ready c ≡ true
 is_ready_of c r =
     both_true (nat_le 3 c.counter) _ (le-leb 3 c.counter r.three)
-    (both_true (are_once (names c.rows.items)) _ r.once (both_true (are_graded c.rows.items) _ r.graded (both_true (is_chain c.chain) _ r.chain r.known)))
+    (both_true (are_rising (names c.rows.items)) _ r.rising
+    (both_true (are_rising (file_names c.files.items)) _ r.files
+    (both_true (none_before is_open c.first_build c.rows.items) _ r.builds
+    (both_true (none_before is_unchecked c.first_check c.rows.items) _ r.checks
+    (both_true (are_graded c.rows.items) _ r.graded (both_true (is_chain c.chain) _ r.chain r.known))))))
 
 pub same_count : {T : Type 0} → (c n : Core T) → names n.rows.items ≡ names c.rows.items → length n.rows.items ≡ length c.rows.items
 same_count c n e = sym (names_length n.rows.items) ∙ ap length e ∙ names_length c.rows.items

@@ -22,7 +22,8 @@ use Rattle.engine_machine.proofs.Truths.{both}
 use Rattle.engine_turns.specs.declared.core_data.Core.{Core}
 use Rattle.engine_turns.specs.Places.{names}
 use Rattle.engine_turns.specs.States.{pictured, chain_of, checking_of}
-use Rattle.engine_turns.specs.Ready.{core_state, are_builds, is_chain, are_once, IsReady, StaysReady}
+use Rattle.engine_turns.specs.Ready.{core_state, are_builds, is_chain, IsReady, StaysReady}
+use Rattle.engine_turns.proofs.Once.{are_once, rising_once}
 use Rattle.rebuild.specs.Engines.{Meanings, situation_of, value_of, parts_of, turns_left_of, IsEngine, after_turn}
 
 in_among : (p : Name) (xs : List Name) → IsIn p xs → is_among p xs ≡ true
@@ -81,7 +82,7 @@ is_idle before after e = at (nat_lt after before) (nat_eq after before) refl e
 module _ {T : Type 0} (m : Meanings T) (lawful : (dirs : List (List ℕ)) (limits : Limits) → IsLawful (m dirs limits)) (c : Core T) (ready : IsReady c) where
   pub counts : (e : IsEngine m (value_of c)) → IsCounted (runner_of (m c.dirs c.limits).build) keeping (judge_of (m c.dirs c.limits).check) (situation_of c)
   counts e =
-      let soon = ends_soon (m c.dirs c.limits) (lawful c.dirs c.limits) (pictured c.files.items) (names c.rows.items) (once_is (names c.rows.items) ready.once) in
+      let soon = ends_soon (m c.dirs c.limits) (lawful c.dirs c.limits) (pictured c.files.items) (names c.rows.items) (once_is (names c.rows.items) (rising_once (names c.rows.items) ready.rising)) in
       counted (runner_of (m c.dirs c.limits).build) keeping (judge_of (m c.dirs c.limits).check) (situation_of c) e soon
 
   moved : IsEngine m (value_of c) → turns_left (names c.rows.items) (after_turn m (value_of c)).state ≡ turns_left_of c - 1

@@ -1,5 +1,5 @@
 -- An engine that forgets which names were run.
-use Rattle.std.proofs.Common.{◌≡◌, ℕ, suc, nat_le, List, [], ◌∷◌, Bool, true, false, ◌&&◌, cond, Option, Some, None, option_map, map, length, refl, sym, ap, ◌∙◌, subst}
+use Rattle.std.proofs.Common.{◌≡◌, ℕ, zero, suc, ◌≤◌, not, List, [], ◌∷◌, Bool, true, false, ◌&&◌, cond, Option, Some, None, option_map, map, length, refl, sym, ap, ◌∙◌, subst}
 use Rattle.std.proofs.Math.Logic.{∥∥₁_map}
 use Rattle.pan_ast.specs.declared.work.Limits.{Limits}
 use Rattle.runner.specs.Meaning.{IsLawful}
@@ -11,9 +11,10 @@ use Rattle.engine_machine.specs.Machine.{runner_of, keeping, judge_of}
 use Rattle.engine_turns.specs.declared.core_data.Core.{Core}
 use Rattle.engine_turns.specs.declared.rows.Row.{Row}
 use Rattle.engine_turns.specs.Changes.{forgotten_row}
-use Rattle.engine_turns.specs.Places.{row_in, of_row, column, names}
+use Rattle.engine_turns.specs.Places.{row_in, of_row, column, names, file_names}
 use Rattle.engine_turns.specs.States.{number_in, picture_of, last_of, reads_of, checked_of, why_of, held_of, chain_of, checking_of, is_graded, are_graded}
-use Rattle.engine_turns.specs.Ready.{is_chain, are_known, are_once, IsReady}
+use Rattle.object_names.specs.Objects.{are_rising}
+use Rattle.engine_turns.specs.Ready.{is_chain, are_known, none_before, is_open, is_unchecked, IsReady}
 use Rattle.rebuild.specs.Engines.{EngineSituation, Meanings, situation_of, value_of, turns_left_of, is_ready, IsEngine, after_forget}
 use Rattle.rebuild.proofs.Engines.{is_ready_of}
 use Rattle.rebuild.proofs.Fewer.{counts}
@@ -53,6 +54,11 @@ pub length_left : {T : Type 0} → (rows : List (Row T)) → length (map forgott
 length_left [] = refl
 length_left (r ∷ rows) = ap suc (length_left rows)
 
+none_left : {T : Type 0} → (test : Row T → Bool) → ((r : Row T) → test (forgotten_row r) ≡ test r) → (n : ℕ) (rows : List (Row T)) → none_before test n (map forgotten_row rows) ≡ none_before test n rows
+none_left test same zero rows = refl
+none_left test same (suc n) [] = refl
+none_left test same (suc n) (r ∷ rows) = (λ i. not (same r i) && none_before test n (map forgotten_row rows)) ∙ ap (λ b. not (test r) && b) (none_left test same n rows)
+
 -- the data with the rows forgotten
 pub record IsForgotten {T : Type 0} (c n : Core T) : Type 0 where
   pub limits : n.limits ≡ c.limits
@@ -61,6 +67,8 @@ pub record IsForgotten {T : Type 0} (c n : Core T) : Type 0 where
   pub files : n.files ≡ c.files
   pub chain : n.chain ≡ c.chain
   pub rows : n.rows.items ≡ map forgotten_row c.rows.items
+  pub builds : n.first_build ≡ c.first_build
+  pub checks : n.first_check ≡ c.first_check
 
 module _ {T : Type 0} (m : Meanings T) (lawful : (dirs : List (List ℕ)) (limits : Limits) → IsLawful (m dirs limits)) (c n : Core T) (ready : IsReady c) (f : IsForgotten c n) where
   pub same_names : names n.rows.items ≡ names c.rows.items
@@ -86,12 +94,16 @@ module _ {T : Type 0} (m : Meanings T) (lawful : (dirs : List (List ℕ)) (limit
   }
 
   pub still_ready : is_ready n ≡ true
-  still_ready =
-      ap (λ k. nat_le 3 k && (are_once (names n.rows.items) && (are_graded n.rows.items && (is_chain n.chain && are_known (names n.rows.items) n.chain)))) f.counter
-      ∙ ap (λ ns. nat_le 3 c.counter && (are_once ns && (are_graded n.rows.items && (is_chain n.chain && are_known ns n.chain)))) same_names
-      ∙ ap (λ b. nat_le 3 c.counter && (are_once (names c.rows.items) && (b && (is_chain n.chain && are_known (names c.rows.items) n.chain)))) (ap are_graded f.rows ∙ graded_left c.rows.items)
-      ∙ ap (λ ps. nat_le 3 c.counter && (are_once (names c.rows.items) && (are_graded c.rows.items && (is_chain ps && are_known (names c.rows.items) ps)))) f.chain
-      ∙ is_ready_of c ready
+  still_ready = is_ready_of n (record {
+    three = subst (λ k. 3 ≤ k) (sym f.counter) ready.three;
+    rising = ap are_rising same_names ∙ ready.rising;
+    files = ap (λ v. are_rising (file_names v.items)) f.files ∙ ready.files;
+    builds = (λ i. none_before is_open (f.builds i) (f.rows i)) ∙ none_left is_open (λ r. refl) c.first_build c.rows.items ∙ ready.builds;
+    checks = (λ i. none_before is_unchecked (f.checks i) (f.rows i)) ∙ none_left is_unchecked (λ r. refl) c.first_check c.rows.items ∙ ready.checks;
+    graded = ap are_graded f.rows ∙ graded_left c.rows.items ∙ ready.graded;
+    chain = ap is_chain f.chain ∙ ready.chain;
+    known = (λ i. are_known (same_names i) (f.chain i)) ∙ ready.known;
+  })
 
   pub still_few : length n.rows.items ≡ length c.rows.items
   still_few = ap length f.rows ∙ length_left c.rows.items

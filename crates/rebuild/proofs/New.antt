@@ -11,9 +11,10 @@ use Rattle.engine_machine.specs.Pictures.{told_in, picture_in}
 use Rattle.engine_machine.proofs.RunnerLaws.{keep_laws_of}
 use Rattle.engine_turns.specs.declared.rows.FileRow.{FileRow}
 use Rattle.engine_turns.specs.declared.rows.Row.{Row}
-use Rattle.engine_turns.specs.Places.{names}
+use Rattle.engine_turns.specs.Places.{names, file_names}
 use Rattle.engine_turns.specs.States.{number_in, picture_of, state_of, are_graded}
-use Rattle.engine_turns.specs.Ready.{is_chain, are_known, are_once}
+use Rattle.object_names.specs.Objects.{are_rising}
+use Rattle.engine_turns.specs.Ready.{is_chain, are_known}
 use Rattle.rebuild.specs.Engines.{EngineSituation, new_situation}
 
 pub is_new : {T : Type 0} → (build : Builds T) (check : Checks T) → Laws (runner_of build) (picture_in [] []) → IsNew (runner_of build) keeping (judge_of check) new_situation
@@ -42,5 +43,5 @@ new_reached build check laws x is = record { begin = new_situation; sound = inl 
 pub situation_is_new : {T : Type 0} → (files : List FileRow) (rows : List (Row T)) (parts : List Part) → files ≡ [] → rows ≡ [] → parts ≡ [] → ◌≡◌ {A = EngineSituation T} (record { picture = picture_of files (names rows); state = state_of 3 files rows parts }) new_situation
 situation_is_new files rows parts f r p i = record { picture = picture_of (f i) (names (r i)); state = state_of 3 (f i) (r i) (p i) }
 
-pub new_is_ready : {T : Type 0} → (rows : List (Row T)) (parts : List Part) → rows ≡ [] → parts ≡ [] → nat_le 3 3 && (are_once (names rows) && (are_graded rows && (is_chain parts && are_known (names rows) parts))) ≡ true
-new_is_ready rows parts r p i = nat_le 3 3 && (are_once (names (r i)) && (are_graded (r i) && (is_chain (p i) && are_known (names (r i)) (p i))))
+pub new_is_ready : {T : Type 0} → (files : List FileRow) (rows : List (Row T)) (parts : List Part) → files ≡ [] → rows ≡ [] → parts ≡ [] → nat_le 3 3 && (are_rising (names rows) && (are_rising (file_names files) && (true && (true && (are_graded rows && (is_chain parts && are_known (names rows) parts)))))) ≡ true
+new_is_ready files rows parts f r p i = nat_le 3 3 && (are_rising (names (r i)) && (are_rising (file_names (f i)) && (true && (true && (are_graded (r i) && (is_chain (p i) && are_known (names (r i)) (p i)))))))

@@ -5,11 +5,12 @@ use Rattle.engine_laws.proofs.Names.{equal-true, equal-is}
 use Rattle.engine_laws.specs.Engine.{is_among}
 use Rattle.engine_turns.specs.declared.rows.Row.{Row}
 use Rattle.engine_turns.specs.Places.{row_place, row_in}
-use Rattle.engine_turns.specs.Ready.{are_once}
+use Rattle.engine_turns.proofs.Once.{are_once}
 use Rattle.rebuild.specs.Taking.{new_row, taken_row, taken_rows}
 use Rattle.rebuild.specs.Renewing.{reopened, kept_or, IsRenewed, renewed}
 use Rattle.engine_machine.proofs.Truths.{both}
-use Rattle.engine_turns.proofs.ByName.{IsAt, placed, no_place}
+use Rattle.engine_turns.proofs.ByName.{IsAt, placed, no_place, row_named}
+use Rattle.engine_turns.proofs.Readies.{names_set}
 
 pub renewed_count : {T : Type 0} → (i : ℕ) (objects : List Name) (old : List (Row T)) → length (renewed i objects old) ≡ length objects
 renewed_count zero [] old = refl
@@ -97,7 +98,7 @@ set_same (x ∷ rows) (suc i) e lt = ap (λ rs. x ∷ rs) (set_same rows i e (om
 
 -- the fresh row changes places with the old one
 pub renewed_found : {T : Type 0} → (at : ℕ) (fresh old : List (Row T)) → at < length fresh → (r : Row T) → r ≡ get_or fresh at r → (place : ℕ) → row_place r.name 0 old ≡ Some place → (x : Row T) → x ≡ get_or old place x → (r2 : Row T) → r2 ≡ get_or fresh at r2 → (f o : Row T) → f ≡ reopened x → o ≡ r2 → IsRenewed at fresh old (slice_set fresh at f) (slice_set old place o)
-renewed_found {T} at fresh old lt r is place found x is_x r2 is2 f o f_is o_is = record { taken = taken; others = others }
+renewed_found {T} at fresh old lt r is place found x is_x r2 is2 f o f_is o_is = record { taken = taken; others = others; named = names_set old place o x a.within (o_named ∙ sym (row_named r.name old (get_or old place x) (a.here x))) }
   where
     a : IsAt r.name old place
     a = placed r.name old place found
@@ -119,7 +120,7 @@ renewed_found {T} at fresh old lt r is place found x is_x r2 is2 f o f_is o_is =
 
 -- nothing was kept
 pub renewed_none : {T : Type 0} → (at : ℕ) (fresh old : List (Row T)) → at < length fresh → (r : Row T) → r ≡ get_or fresh at r → row_place r.name 0 old ≡ None → IsRenewed at fresh old fresh old
-renewed_none {T} at fresh old lt r is none = record { taken = taken; others = λ e q off. refl }
+renewed_none {T} at fresh old lt r is none = record { taken = taken; others = λ e q off. refl; named = refl }
   where
     named : (e : Row T) → (get_or fresh at e).name ≡ r.name
     named e = ap (λ z. z.name) (any_default fresh at e r lt ∙ sym is)

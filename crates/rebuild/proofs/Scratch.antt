@@ -22,6 +22,7 @@ use Rattle.engine_turns.specs.Places.{row_in, names}
 use Rattle.engine_turns.specs.States.{pictured}
 use Rattle.engine_turns.specs.Ready.{core_state, core_picture, IsReady}
 use Rattle.engine_turns.proofs.ByName.{no_row, some_row}
+use Rattle.engine_turns.proofs.Once.{rising_once}
 use Rattle.rebuild.specs.Engines.{Meanings, situation_of, value_of, IsEngine}
 use Rattle.rebuild.specs.Answers.{Seen, Seen-set, pending, no_object, is_pending, settled, by_verdict, by_check, by_result, by_last, answer_found, answer_of}
 use Rattle.rebuild.proofs.Fewer.{once_is}
@@ -67,7 +68,7 @@ module _ {T : Type 0} (m : Meanings T) (lawful : (dirs : List (List ℕ)) (limit
       at : (r : End T) → built_end means (pictured c.files.items) (names c.rows.items) p ≡ r → by_result (keep r) ((core_state c).checked p) ≡ settled (checked_end means (pictured c.files.items) (names c.rows.items) r)
       at (Err f) is = refl
       at (Ok b) is =
-          let soon = ends_soon means (lawful c.dirs c.limits) (pictured c.files.items) (names c.rows.items) (once_is (names c.rows.items) ready.once) in
+          let soon = ends_soon means (lawful c.dirs c.limits) (pictured c.files.items) (names c.rows.items) (once_is (names c.rows.items) (rising_once (names c.rows.items) ready.rising)) in
           let v = verdicts (runner_of means.build) keeping (judge_of means.check) (situation_of c) e soon p i checks (ap (λ r. grade (keep r)) is) in
           let of : End T → Verdict = verdict (runner_of means.build) (judge_of means.check) (core_picture c) in
           ap (by_check b.tree) (v.1 ∙ ap (λ r. Some (v.0, of r)) is) ∙ verdict_seen b.tree (of (Ok b))

@@ -7,14 +7,18 @@ use Rattle.engine_laws.proofs.Names.{equal-true}
 use Rattle.engine_laws.specs.Engine.{NotRun, is_among, taken}
 use Rattle.engine_turns.specs.declared.rows.FileRow.{FileRow}
 use Rattle.engine_turns.specs.declared.rows.Row.{Row}
-use Rattle.engine_turns.specs.Places.{row_in, of_row, column, names}
+use Rattle.engine_turns.specs.Places.{row_in, of_row, column, names, file_names}
 use Rattle.engine_turns.specs.States.{number_in, last_of, reads_of, checked_of, why_of, held_of, picture_of, state_of, is_graded, are_graded}
-use Rattle.rebuild.specs.Taking.{taken_row, taken_rows, numbered, counter_after}
+use Rattle.rebuild.specs.Taking.{taken_row, taken_rows, numbered, counter_after, counter_or, old_or_none}
 use Rattle.load_path.specs.declared.picture.PictureFile.{PictureFile}
 use Rattle.engine_turns.specs.declared.core_data.Core.{Core}
 use Rattle.rebuild.specs.Renewing.{taken_state, IsTaken}
-use Rattle.engine_turns.specs.Ready.{are_once, is_chain, are_known, IsReady}
+use Rattle.object_names.specs.Objects.{are_rising, begins_above}
+use Rattle.load_path.specs.Pictures.{is_rising}
+use Rattle.engine_turns.specs.Ready.{is_chain, are_known, none_before, is_open, is_unchecked, IsReady}
 use Rattle.engine_turns.proofs.Words.{graded_row}
+use Rattle.load_path.specs.Pictures.{begins_above as picture_begins}
+use Rattle.engine_machine.proofs.Truths.{both}
 use Rattle.engine_turns.proofs.Readies.{both_true}
 use Rattle.rebuild.proofs.Takings.{counter_up}
 use Rattle.engine_turns.proofs.ByName.{row_named}
@@ -117,12 +121,24 @@ graded_taken : {T : Type 0} → (rows : List (Row T)) (objects : List Name) → 
 graded_taken rows [] g = refl
 graded_taken rows (o ∷ objects) g = both_true (is_graded (taken_row o (row_in o rows)).last) (are_graded (taken_rows rows objects)) (graded_one rows o g (row_in o rows) refl) (graded_taken rows objects g)
 
-pub core_taken : {T : Type 0} → (c : Core T) (files : List PictureFile) (objects : List Name) → IsReady c → are_once objects ≡ true → (new : Core T) → new.limits ≡ c.limits → new.dirs ≡ c.dirs → new.counter ≡ counter_after c.files.items c.counter files → new.files.items ≡ numbered c.files.items c.counter files → new.rows.items ≡ taken_rows c.rows.items objects → new.chain ≡ [] → (c.counter ≤ END_OF_NUMBERS → new.counter ≤ END_OF_NUMBERS) → IsTaken files objects c new
-core_taken c files objects ready once new limits dirs counter numbers rows chain low = record {
+-- the files are in the picture's order
+rising_numbered : (old : List FileRow) (counter : ℕ) (files : List PictureFile) → is_rising files ≡ true → are_rising (file_names (numbered old counter files)) ≡ true
+rising_numbered old counter [] q = refl
+rising_numbered old counter (f ∷ []) q = refl
+rising_numbered old counter (f ∷ g ∷ files) q =
+    let next = counter_or counter (old_or_none old f.name f.content) in
+    let two = both (picture_begins f.name (g ∷ files)) (is_rising (g ∷ files)) q in
+    both_true (begins_above f.name (file_names (numbered old next (g ∷ files)))) (are_rising (file_names (numbered old next (g ∷ files)))) two.0 (rising_numbered old next (g ∷ files) two.1)
+
+pub core_taken : {T : Type 0} → (c : Core T) (files : List PictureFile) (objects : List Name) → IsReady c → is_rising files ≡ true → are_rising objects ≡ true → (new : Core T) → new.limits ≡ c.limits → new.dirs ≡ c.dirs → new.counter ≡ counter_after c.files.items c.counter files → new.files.items ≡ numbered c.files.items c.counter files → new.rows.items ≡ taken_rows c.rows.items objects → new.chain ≡ [] → new.first_build ≡ 0 → new.first_check ≡ 0 → (c.counter ≤ END_OF_NUMBERS → new.counter ≤ END_OF_NUMBERS) → IsTaken files objects c new
+core_taken c files objects ready in_order once new limits dirs counter numbers rows chain builds checks low = record {
   state = data_taken c files objects new.counter new.files.items new.rows.items new.chain counter numbers rows chain;
   ready = record {
     three = let u = counter_up c.files.items c.counter files in let t = ready.three in omega (arith, u, t, counter);
-    once = ap are_once ns ∙ once;
+    rising = ap are_rising ns ∙ once;
+    files = ap (λ fs. are_rising (file_names fs)) numbers ∙ rising_numbered c.files.items c.counter files in_order;
+    builds = ap (λ n. none_before is_open n new.rows.items) builds;
+    checks = ap (λ n. none_before is_unchecked n new.rows.items) checks;
     graded = ap are_graded rows ∙ graded_taken c.rows.items objects ready.graded;
     chain = ap is_chain chain;
     known = ap (are_known (names new.rows.items)) chain;

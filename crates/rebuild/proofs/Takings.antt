@@ -17,9 +17,9 @@ use Rattle.engine_laws.proofs.Names.{equal-true}
 use Rattle.engine_laws.specs.Engine.{AreNumbered}
 use Rattle.engine_turns.specs.declared.rows.FileRow.{FileRow}
 use Rattle.engine_machine.specs.Machine.{keeping, small_file, small}
-use Rattle.engine_turns.specs.Places.{file_number_in}
+use Rattle.engine_turns.specs.Places.{file_number_in, file_in}
 use Rattle.engine_turns.specs.States.{pictured, picture_of, number_in}
-use Rattle.rebuild.specs.Taking.{same_content, file_in, number_before, number_or, counter_or, old_or_none, numbered, counter_after}
+use Rattle.rebuild.specs.Taking.{same_content, number_before, number_or, counter_or, old_or_none, numbered, counter_after}
 
 counter_step : (counter : ℕ) (x : Option ℕ) → counter ≤ counter_or counter x
 counter_step counter None = omega arith

@@ -14,10 +14,11 @@ use Rattle.engine_machine.specs.Machine.{Kept, runner_of, keeping, judge_of, cos
 use Rattle.engine_machine.specs.Pictures.{picture_in}
 use Rattle.engine_turns.specs.declared.core_data.Core.{Core}
 use Rattle.engine_turns.specs.declared.rows.FileRow.{FileRow}
-use Rattle.engine_turns.specs.Places.{names}
+use Rattle.engine_turns.specs.Places.{names, file_names}
 use Rattle.engine_turns.specs.States.{are_graded, number_in, state_of}
 use Rattle.rebuild.specs.Taking.{numbered, counter_after}
-use Rattle.engine_turns.specs.Ready.{core_state, core_picture, is_chain, are_known, are_once}
+use Rattle.object_names.specs.Objects.{are_rising}
+use Rattle.engine_turns.specs.Ready.{core_state, core_picture, is_chain, are_known, none_before, is_open, is_unchecked}
 
 abbrev pub EngineSituation : Type 0 → Type 0
 EngineSituation T = Situation Key Content (End T) Kept Verdict
@@ -59,8 +60,10 @@ new_situation = record { picture = picture_in [] []; state = state_of 3 [] [] []
 
 -- the data is in order: an invariant as a test
 abbrev pub is_ready : {T : Type 0} → Core T → Bool
-is_ready c = nat_le 3 c.counter && (are_once (names c.rows.items)
-    && (are_graded c.rows.items && (is_chain c.chain && are_known (names c.rows.items) c.chain)))
+is_ready c = nat_le 3 c.counter && (are_rising (names c.rows.items)
+    && (are_rising (file_names c.files.items) && (none_before is_open c.first_build c.rows.items
+    && (none_before is_unchecked c.first_check c.rows.items && (are_graded c.rows.items
+    && (is_chain c.chain && are_known (names c.rows.items) c.chain))))))
 
 -- some list of events of the machine leads to the engine's situation
 abbrev pub IsEngine : {T : Type 0} → Meanings T → EngineValue T → Type 0

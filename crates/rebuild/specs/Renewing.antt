@@ -28,6 +28,7 @@ pub record IsRenewed {T : Type 0} (at : ℕ) (fresh old fresh' old' : List (Row 
       (kept_or (get_or fresh at e) (row_in (get_or fresh at e).name old))
   pub others : (e : Row T) (q : Name) → equal q (get_or fresh at e).name ≡ false
       → row_in q old' ≡ row_in q old
+  pub named : names old' ≡ names old
 
 -- the first i objects have what was kept of them, the others are fresh
 abbrev pub renewed : {T : Type 0} → ℕ → List Name → List (Row T) → List (Row T)

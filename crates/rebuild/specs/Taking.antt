@@ -7,18 +7,13 @@ use Rattle.engine_laws.specs.Names.{Name}
 use Rattle.engine_turns.specs.declared.rows.Cause.TheVariants as cause
 use Rattle.engine_turns.specs.declared.rows.FileRow.{FileRow}
 use Rattle.engine_turns.specs.declared.rows.Row.{Row}
-use Rattle.engine_turns.specs.Places.{row_in}
+use Rattle.engine_turns.specs.Places.{row_in, file_in}
 
 abbrev pub same_content : Content → Content → Bool
 same_content (Bytes a) (Bytes b) = bytes_eq a b
 same_content (Bytes a) TooLong = false
 same_content TooLong (Bytes b) = false
 same_content TooLong TooLong = true
-
--- the file of this name
-abbrev pub file_in : List FileRow → List ℕ → Option FileRow
-file_in [] f = None
-file_in (r ∷ files) f = cond (bytes_eq r.name f) (Some r) (file_in files f)
 
 -- the number of these contents before, if the file had them
 abbrev pub number_before : Content → Option FileRow → Option ℕ

@@ -1,12 +1,13 @@
 //! What the engine answers.
 
-ghost use Rattle.std.specs.Prelude.{◌≡◌, ◌≤◌, ◌*◌, ◌++◌, [], IfOk, length, map, option_copied};
+ghost use Rattle.std.specs.Prelude.{◌≡◌, ◌≤◌, ◌*◌, ◌++◌, [], IfOk, length, map, true};
 ghost use Rattle.rebuild.specs.Answers.{seen_answer, answer_of_row, answer_found, seen_why, why_found, seen_reads, reads_of_row, reads_found, run_names, open_parts};
 ghost use Rattle.base.specs.declared.limits.TheConstants.{MAX_OBJECTS};
+ghost use Rattle.object_names.specs.Objects.{are_rising};
 ghost use Rattle.engine_turns.specs.Changes.{forgotten_row};
 ghost use Rattle.engine_turns.specs.Places.{row_in, names};
 
-use engine_turns::{Cause, Row};
+use engine_turns::{Cause, Row, row_in};
 use pan_ast::Fault;
 use path_tree::{Name, Tree};
 use read_sets::{Key, Trace};
@@ -37,18 +38,6 @@ pub struct Reads<'a> {
     pub check: &'a Trace,
 }
 
-/// The row of a name.
-fn row_of_text<'a, T>(rows: &'a [Row<T>], name: &str) -> Option<&'a Row<T>>
-    ensures { option_copied result ≡ row_in name.now rows.now }
-{
-    for row in rows {
-        if row.name.as_str() == name {
-            return Some(row);
-        }
-    }
-    None
-}
-
 /// The answer of a row.
 fn answer_of_row<T>(row: &Row<T>) -> Answer<'_>
     ensures { seen_answer result ≡ answer_of_row row.now }
@@ -73,9 +62,10 @@ fn answer_of_row<T>(row: &Row<T>) -> Answer<'_>
 
 /// The answer for a name.
 pub(crate) fn answer_in<'a, T>(rows: &'a [Row<T>], name: &str) -> Answer<'a>
+    requires { are_rising (names rows.now) ≡ true }
     ensures { seen_answer result ≡ answer_found (row_in name.now rows.now) }
 {
-    match row_of_text(rows, name) {
+    match row_in(rows, name) {
         None => Answer::NoObject,
         Some(row) => answer_of_row(row),
     }
@@ -83,9 +73,10 @@ pub(crate) fn answer_in<'a, T>(rows: &'a [Row<T>], name: &str) -> Answer<'a>
 
 /// Why a name was run last.
 pub(crate) fn why_in<'a, T>(rows: &'a [Row<T>], name: &str) -> Why<'a>
+    requires { are_rising (names rows.now) ≡ true }
     ensures { seen_why result ≡ why_found (row_in name.now rows.now) }
 {
-    match row_of_text(rows, name) {
+    match row_in(rows, name) {
         None => Why::NoObject,
         Some(row) => match &row.cause {
             Cause::NotRun => Why::NotRun,
@@ -113,9 +104,10 @@ fn reads_of_row<T>(row: &Row<T>) -> Option<Reads<'_>>
 
 /// What an object asked for.
 pub(crate) fn reads_in<'a, T>(rows: &'a [Row<T>], name: &str) -> Option<Reads<'a>>
+    requires { are_rising (names rows.now) ≡ true }
     ensures { seen_reads result ≡ reads_found (row_in name.now rows.now) }
 {
-    match row_of_text(rows, name) {
+    match row_in(rows, name) {
         None => None,
         Some(row) => reads_of_row(row),
     }

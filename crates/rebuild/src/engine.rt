@@ -67,6 +67,8 @@ impl<R: Runner> Engine<R> {
                 files: Vec::new(alloc),
                 rows: Vec::new(alloc),
                 chain: Chain::new(alloc),
+                first_build: 0,
+                first_check: 0,
             },
         }
     }

@@ -2,7 +2,10 @@
 
 ghost use Rattle.std.specs.Prelude.{◌≡◌, ◌<◌, ◌≤◌, ◌+◌, true, IfOk, IfErr, OnOk, OnErr, length, map, get_or, slice_set};
 ghost use Rattle.engine_turns.specs.Places.{names};
-ghost use Rattle.engine_turns.specs.Ready.{are_once, IsReady};
+ghost use Rattle.object_names.specs.Objects.{are_rising};
+ghost use Rattle.load_path.specs.Pictures.{is_rising};
+ghost use Rattle.engine_turns.specs.Places.{names};
+ghost use Rattle.engine_turns.specs.Ready.{IsReady};
 ghost use Rattle.rebuild.specs.Taking.{new_row, taken_rows, counter_after};
 ghost use Rattle.rebuild.specs.declared.taking.TakeError.TheVariants.{Memory};
 ghost use Rattle.rebuild.specs.Refused.{IsSpent, IsRefused};
@@ -62,7 +65,8 @@ fn renew<T: Drop>(fresh: &mut Row<T>, old: &mut Row<T>)
 
 /// The fresh row at this place takes what was kept of its object.
 fn renew_at<T: Drop>(fresh: &mut Vec<Row<T>>, at: usize, old: &mut Vec<Row<T>>)
-    requires { at < length fresh.old.items }
+    requires within { at < length fresh.old.items }
+    requires rising { are_rising (names old.old.items) ≡ true }
     ensures { IsRenewed at fresh.old.items old.old.items fresh.new.items old.new.items }
 {
     if let Some(place) = row_place(old, &fresh[at].name) {
@@ -72,7 +76,8 @@ fn renew_at<T: Drop>(fresh: &mut Vec<Row<T>>, at: usize, old: &mut Vec<Row<T>>)
 
 /// Fresh rows take what was kept of their objects.
 pub(crate) fn renew_all<T: Drop>(fresh: &mut Vec<Row<T>>, old: &mut Vec<Row<T>>, objects: &[Name])
-    requires once { are_once objects.now ≡ true }
+    requires objects { are_rising objects.now ≡ true }
+    requires rising { are_rising (names old.old.items) ≡ true }
     requires fresh { fresh.old.items ≡ map new_row objects.now }
     ensures { fresh.new.items ≡ taken_rows old.old.items objects.now }
 {
@@ -93,7 +98,8 @@ fn take_files<T: Drop, L: Ledger>(
     steps: &mut Steps<L>,
 ) -> Result<(), TakeError>
     requires ready { IsReady core.old }
-    requires once { are_once objects.now ≡ true }
+    requires rising { is_rising files.now ≡ true }
+    requires objects { are_rising objects.now ≡ true }
     ensures taken { OnOk result (IsTaken files.now objects.now core.old core.new) }
     ensures before { OnErr result (core.new ≡ core.old) }
     ensures steps { OnOk result (steps.new ≡ steps.old + length files.now) }
@@ -109,6 +115,8 @@ fn take_files<T: Drop, L: Ledger>(
     core.files = numbered;
     core.rows = rows;
     core.chain = Chain::new(alloc);
+    core.first_build = 0;
+    core.first_check = 0;
     Ok(())
 }
 

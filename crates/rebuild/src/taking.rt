@@ -1,14 +1,16 @@
 //! The numbers of files at a Take.
 
-ghost use Rattle.std.specs.Prelude.{◌≡◌, ◌≤◌, ◌+◌, IfOk, IfErr, OnOk, OnErr, option_copied, length};
+ghost use Rattle.std.specs.Prelude.{◌≡◌, ◌≤◌, ◌+◌, IfOk, IfErr, OnOk, OnErr, length, true};
 ghost use Rattle.asking.specs.declared.limits.TheConstants.{END_OF_NUMBERS};
-ghost use Rattle.rebuild.specs.Taking.{same_content, file_in, old_or_none, number_or, counter_or, with_number, numbered, counter_after};
+ghost use Rattle.object_names.specs.Objects.{are_rising};
+ghost use Rattle.engine_turns.specs.Places.{file_names};
+ghost use Rattle.rebuild.specs.Taking.{same_content, old_or_none, number_or, counter_or, with_number, numbered, counter_after};
 ghost use Rattle.rebuild.specs.Refused.{IsSpent};
 ghost use Rattle.rebuild.specs.declared.taking.TakeError.TheVariants.{Memory};
 
 use asking::limits::END_OF_NUMBERS;
-use base::{Bytes, Steps};
-use engine_turns::FileRow;
+use base::Steps;
+use engine_turns::{FileRow, file_in};
 use load_path::{Content, PictureFile};
 use std::alloc::{AllocError, AllocFailed, Global};
 use std::sync::ledger::Ledger;
@@ -49,29 +51,18 @@ fn same_content(a: &Content, b: &Content) -> bool
 }
 
 /// The same content.
-fn copy_content(alloc: Global, content: &Content) -> Result<Content, AllocError>
+fn copy_content(content: &Content) -> Result<Content, AllocError>
     ensures { IfOk result (λ c. c ≡ content.now) }
 {
     match content {
-        Content::Bytes(bytes) => Ok(Content::Bytes(Bytes::from_slice(alloc, bytes.as_slice())?)),
+        Content::Bytes(bytes) => Ok(Content::Bytes(bytes.share()?)),
         Content::TooLong => Ok(Content::TooLong),
     }
 }
 
-/// The file of this name.
-fn file_in<'a>(files: &'a [FileRow], name: &str) -> Option<&'a FileRow>
-    ensures { option_copied result ≡ file_in files.now name.now }
-{
-    for file in files {
-        if file.name.as_str() == name {
-            return Some(file);
-        }
-    }
-    None
-}
-
 /// 1 where a file is too long, its number before where its bytes are the same, and else none.
 fn old_or_none(old: &[FileRow], file: &PictureFile) -> Option<u64>
+    requires { are_rising (file_names old.now) ≡ true }
     ensures { result ≡ old_or_none old.now file.now.name file.now.content }
 {
     if let Content::TooLong = &file.content {
@@ -110,12 +101,8 @@ fn give(counter: &mut u64, before: Option<u64>) -> Result<u64, TakeError>
 }
 
 /// A file with the number that it had before, or with one that is drawn.
-fn number_file(
-    alloc: Global,
-    old: &[FileRow],
-    file: &PictureFile,
-    counter: &mut u64,
-) -> Result<FileRow, TakeError>
+fn number_file(old: &[FileRow], file: &PictureFile, counter: &mut u64) -> Result<FileRow, TakeError>
+    requires { are_rising (file_names old.now) ≡ true }
     ensures file { IfOk result (λ row. row ≡ with_number file.now
         (number_or counter.old (old_or_none old.now file.now.name file.now.content))) }
     ensures counter { OnOk result (counter.new ≡ counter_or counter.old
@@ -125,7 +112,7 @@ fn number_file(
         (counter_or counter.old (old_or_none old.now file.now.name file.now.content))) }
 {
     let name = file.name.share()?;
-    let content = copy_content(alloc, &file.content)?;
+    let content = copy_content(&file.content)?;
     let number = give(counter, old_or_none(old, file))?;
     Ok(FileRow {
         name,
@@ -142,6 +129,7 @@ pub(crate) fn number_files<L: Ledger>(
     counter: &mut u64,
     steps: &mut Steps<L>,
 ) -> Result<Vec<FileRow>, TakeError>
+    requires { are_rising (file_names old.now) ≡ true }
     ensures files { IfOk result (λ made. made.items ≡ numbered old.now counter.old files.now) }
     ensures counter { OnOk result (counter.new ≡ counter_after old.now counter.old files.now) }
     ensures low { OnOk result (counter.old ≤ END_OF_NUMBERS → counter.new ≤ END_OF_NUMBERS) }
@@ -152,7 +140,7 @@ pub(crate) fn number_files<L: Ledger>(
     let mut made = Vec::new(alloc);
     for file in files {
         steps.tick();
-        made.push(number_file(alloc, old, file, counter)?)?;
+        made.push(number_file(old, file, counter)?)?;
     }
     Ok(made)
 }

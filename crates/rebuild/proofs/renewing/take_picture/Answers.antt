@@ -1,12 +1,15 @@
 use Rattle.std.proofs.Common.{OnOk, ap, ◌∙◌, subst, arith}
-use Rattle.object_names.specs.Objects.{AreObjects}
-use Rattle.engine_turns.specs.Ready.{are_once}
+use Rattle.object_names.specs.Objects.{AreObjects, are_rising}
+use Rattle.load_path.specs.Pictures.{is_rising}
 use Rattle.rebuild.specs.Renewing.{IsTaken}
-use Rattle.rebuild.proofs.Objects.{rising_once, picture_taken}
+use Rattle.rebuild.proofs.Objects.{picture_taken}
 use Rattle.rebuild.proofs.renewing.take_picture.Goals as goal
 
-pub take_files-requires-clause-once : goal.take_files-requires-clause-once
-take_files-requires-clause-once g c = ap are_once c.deref.ensures.value ∙ rising_once c.in_ok-found.found.items c.in_ok-found.ensures.rising
+pub take_files-requires-clause-objects : goal.take_files-requires-clause-objects
+take_files-requires-clause-objects g c = ap are_rising c.deref.ensures.value ∙ c.in_ok-found.ensures.rising
+
+pub take_files-requires-clause-rising : goal.take_files-requires-clause-rising
+take_files-requires-clause-rising g c = ap is_rising c.files.ensures.files ∙ c.files.ensures.rising
 
 pub returns-clause-taken : goal.returns-clause-taken
 returns-clause-taken g c =

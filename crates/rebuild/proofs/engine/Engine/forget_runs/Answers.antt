@@ -9,7 +9,7 @@ invariant_of-self g c =
     let self = c.args.self.now in
     let old = self.core in
     let rows = c.forget_rows.ensures in
-    let f : IsForgotten old (record old { rows = c.forget_rows.new.rows }) = record { limits = refl; dirs = refl; counter = refl; files = refl; chain = refl; rows = rows } in
+    let f : IsForgotten old (record old { rows = c.forget_rows.new.rows }) = record { limits = refl; dirs = refl; counter = refl; files = refl; chain = refl; rows = rows; builds = refl; checks = refl } in
     let m = g.R.Runner.meaning in
     let lawful = g.met.R.Runner.laws in
     record {
@@ -24,5 +24,5 @@ returns-clause-state g c =
     let self = c.args.self.now in
     let old = self.core in
     let rows = c.forget_rows.ensures in
-    let f : IsForgotten old (record old { rows = c.forget_rows.new.rows }) = record { limits = refl; dirs = refl; counter = refl; files = refl; chain = refl; rows = rows } in
+    let f : IsForgotten old (record old { rows = c.forget_rows.new.rows }) = record { limits = refl; dirs = refl; counter = refl; files = refl; chain = refl; rows = rows; builds = refl; checks = refl } in
     forgets g.R.Runner.meaning g.met.R.Runner.laws old _ (ready_is old self.ready) f

@@ -11,7 +11,7 @@ invariant_of-result g c =
     let m = g.R.Runner.meaning dirs limits in
     let laws = laws_of m (g.met.R.Runner.laws dirs limits) [] [] in
     record {
-      ready = new_is_ready c.new-2.result.items c.new-3.result c.new-2.ensures.items c.new-3.ensures;
+      ready = new_is_ready c.new.result.items c.new-2.result.items c.new-3.result c.new.ensures.items c.new-2.ensures.items c.new-3.ensures;
       low = omega arith;
       few = subst (λ rows. length rows ≤ MAX_OBJECTS) (sym c.new-2.ensures.items) (omega arith);
       reached = ∣ new_reached m.build m.check laws _ (situation_is_new c.new.result.items c.new-2.result.items c.new-3.result c.new.ensures.items c.new-2.ensures.items c.new-3.ensures) ∣₁;

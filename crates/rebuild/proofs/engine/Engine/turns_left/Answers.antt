@@ -1,4 +1,6 @@
 use Rattle.std.proofs.Common.{ap, ◌∙◌, arith}
+use Rattle.engine_turns.specs.Places.{names}
+use Rattle.engine_turns.proofs.Once.{rising_once}
 use Rattle.rebuild.specs.Answers.{open_parts}
 use Rattle.rebuild.proofs.Engines.{ready_is}
 use Rattle.rebuild.proofs.Answering.{open_is}
@@ -10,6 +12,6 @@ returns g c =
     let self = c.args.self.now in
     let core = self.core in
     let ready = ready_is core self.ready in
-    let parts = c.open_parts-open.ensures.parts ∙ ap open_parts c.deref.ensures.value ∙ open_is core.rows.items ready.once in
+    let parts = c.open_parts-open.ensures.parts ∙ ap open_parts c.deref.ensures.value ∙ open_is core.rows.items (rising_once (names core.rows.items) ready.rising) in
     let chain = c.len.ensures ∙ parts_count core.chain ready.chain in
     omega (arith, c.saturating_sub.ensures, parts, chain)
