@@ -3,12 +3,12 @@ ghost use Rattle.path_tree.specs.Find.{get};
 ghost use Rattle.defaults.specs.Filled.{default_change, defaulted, is_missing};
 ghost use Rattle.defaults.specs.Fills.{Fills, target_store};
 
-use crate::target::{Target, fault, push_terms};
+use crate::target::{Target, fault};
 use base::Seq;
 use pan_ast::{Change, Code, Failure, Place};
 use path_tree::{Kind, PutError, Term, Tree};
 use std::alloc::{AllocError, Global};
-use type_defs::DefaultValue;
+use type_defs::{DefaultValue, push_terms};
 
 /// Whether a value is absent or undef.
 fn is_missing(found: Option<&Tree>) -> bool

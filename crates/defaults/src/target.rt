@@ -1,4 +1,4 @@
-ghost use Rattle.std.specs.Prelude.{◌≡◌, ◌+◌, ◌++◌, OnOk};
+ghost use Rattle.std.specs.Prelude.{◌≡◌, ◌+◌};
 ghost use Rattle.pan_ast.specs.Detail.{fault_at};
 ghost use Rattle.defaults.specs.Filled.{visit};
 ghost use Rattle.defaults.specs.Fills.{Fills, IsFault, target_store};
@@ -6,7 +6,7 @@ ghost use Rattle.defaults.specs.Fills.{Fills, IsFault, target_store};
 use base::Steps;
 use pan_ast::{Change, Code, Failure, Fault, Place, Work};
 use path_tree::{Term, Tree};
-use std::alloc::{AllocError, Global};
+use std::alloc::Global;
 use std::sync::ledger::Ledger;
 
 /// What is filled: the tree and the log of its changes, the path of the value that is filled now,
@@ -50,15 +50,5 @@ pub(crate) fn take_step<L: Ledger>(
     }
     target.work.left -= 1;
     steps.tick();
-    Ok(())
-}
-
-/// Terms behind others.
-pub(crate) fn push_terms(terms: &mut Vec<Term>, more: &[Term]) -> Result<(), AllocError>
-    ensures { OnOk result (terms.new.items ≡ terms.old.items ++ more.now) }
-{
-    for term in more {
-        terms.push(term.clone()?)?;
-    }
     Ok(())
 }

@@ -5,14 +5,14 @@ ghost use Rattle.defaults.specs.Filled.{all_filled, filled};
 ghost use Rattle.defaults.specs.Fills.{Fills, store, target_store};
 
 use crate::filling::fill_value;
-use crate::target::{Target, push_terms};
+use crate::target::Target;
 use base::Steps;
 use pan_ast::{Change, Failure, Work};
 use path_tree::Tree;
 use std::alloc::Global;
 use std::mem;
 use std::sync::ledger::Ledger;
-use type_defs::{Bindings, Bound};
+use type_defs::{Bindings, Bound, push_terms};
 
 fn fill_bound<L: Ledger>(
     alloc: Global,

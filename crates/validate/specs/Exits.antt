@@ -13,8 +13,7 @@ use Rattle.validate.specs.declared.refusal.Misfit.{Misfit}
 use Rattle.validate.specs.declared.refusal.Refusal.{Refusal as RRefusal}
 use Rattle.validate.specs.declared.stop.Stop.{Stop}
 use Rattle.validate.specs.declared.stop.Stop.TheVariants as stop
-use Rattle.validate.specs.Refusals.{Refusal}
-use Rattle.validate.specs.Refusals as runs
+use Rattle.validate.specs.Refusals.{Refusal, Checks}
 
 abbrev pub meter : Work → List Key → Meter
 meter work asked = record { left = work.left; asked = asked }
@@ -45,9 +44,9 @@ ComesOrRefuses view (Ok x) m o = o ≡ Done (Ok (view x)) tt m
 ComesOrRefuses view (Err (exit.Refused r)) m o = o ≡ Done (Err (refusal_seen r)) tt m
 ComesOrRefuses view (Err (exit.Stopped s)) m o = Ends s m o
 
-abbrev pub Checks : {X Y : Type 0} → (X → Y) → Result X Exit → Answers → Work → List Key → Work
-    → List Key → runs.Checks Y → Type 0
-Checks view r answers before old after new run =
+abbrev pub Judges : {X Y : Type 0} → (X → Y) → Result X Exit → Answers → Work → List Key → Work
+    → List Key → Checks Y → Type 0
+Judges view r answers before old after new run =
     ComesOrRefuses view r (meter after new) (run answers tt (meter before old))
 
 -- this fault, or want of memory

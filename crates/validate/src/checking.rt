@@ -6,7 +6,7 @@ ghost use Rattle.type_defs.specs.Resolved.{DictOf, Link, ListOf, Ranged, Record,
 ghost use Rattle.type_defs.specs.ResolvedSeen.{field_seen, resolved_seen, shape_seen};
 ghost use Rattle.type_defs.specs.Tables.{all_seen};
 ghost use Rattle.validate.specs.Check.{check, field_run, fields_run, items_run, shape_run, values_run};
-ghost use Rattle.validate.specs.Exits.{Checks};
+ghost use Rattle.validate.specs.Exits.{Judges};
 ghost use Rattle.validate.specs.Walks.{item_run, typed_run, value_run};
 
 use crate::evaluator::Evaluator;
@@ -36,7 +36,7 @@ pub(crate) fn check_value<L: Ledger, E: Evaluator<L>>(
     work: &mut Work,
     steps: &mut Steps<L>,
 ) -> Result<(), Exit>
-    ensures gives { Checks (λ x. x) result E.answers work.old (E.asked evaluator.old) work.new
+    ensures gives { Judges (λ x. x) result E.answers work.old (E.asked evaluator.old) work.new
         (E.asked evaluator.new) (check E.means place.now (resolved_seen resolved.now) value.now) }
     ensures counted { steps.new + work.new.left ≡ steps.old + work.old.left }
 {
@@ -60,7 +60,7 @@ fn check_shape<L: Ledger, E: Evaluator<L>>(
     work: &mut Work,
     steps: &mut Steps<L>,
 ) -> Result<(), Exit>
-    ensures gives { Checks (λ x. x) result E.answers work.old (E.asked evaluator.old) work.new
+    ensures gives { Judges (λ x. x) result E.answers work.old (E.asked evaluator.old) work.new
         (E.asked evaluator.new) (shape_run E.means place.now (shape_seen shape.now) value.now) }
     ensures counted { steps.new + work.new.left ≡ steps.old + work.old.left }
 {
@@ -104,7 +104,7 @@ fn check_ranged<L: Ledger, E: Evaluator<L>>(
     work: &mut Work,
     steps: &mut Steps<L>,
 ) -> Result<(), Exit>
-    ensures gives { Checks (λ x. x) result E.answers work.old (E.asked evaluator.old) work.new
+    ensures gives { Judges (λ x. x) result E.answers work.old (E.asked evaluator.old) work.new
         (E.asked evaluator.new) (shape_run E.means place.now
         (Ranged (resolved_seen inner.now) range) value.now) }
     ensures counted { steps.new + work.new.left ≡ steps.old + work.old.left }
@@ -129,7 +129,7 @@ fn check_list<L: Ledger, E: Evaluator<L>>(
     work: &mut Work,
     steps: &mut Steps<L>,
 ) -> Result<(), Exit>
-    ensures gives { Checks (λ x. x) result E.answers work.old (E.asked evaluator.old) work.new
+    ensures gives { Judges (λ x. x) result E.answers work.old (E.asked evaluator.old) work.new
         (E.asked evaluator.new) (shape_run E.means place.now
         (ListOf (resolved_seen inner.now) range) value.now) }
     ensures counted { steps.new + work.new.left ≡ steps.old + work.old.left }
@@ -155,7 +155,7 @@ fn check_items<L: Ledger, E: Evaluator<L>>(
     steps: &mut Steps<L>,
 ) -> Result<(), Exit>
     requires { kind_of value.now ≡ kind.List }
-    ensures gives { Checks (λ x. x) result E.answers work.old (E.asked evaluator.old) work.new
+    ensures gives { Judges (λ x. x) result E.answers work.old (E.asked evaluator.old) work.new
         (E.asked evaluator.new) (items_run (check E.means place.now (resolved_seen inner.now)) 0
         (child_items value.now)) }
     ensures counted { steps.new + work.new.left ≡ steps.old + work.old.left }
@@ -178,7 +178,7 @@ fn check_item<L: Ledger, E: Evaluator<L>>(
     work: &mut Work,
     steps: &mut Steps<L>,
 ) -> Result<(), Exit>
-    ensures gives { Checks (λ x. x) result E.answers work.old (E.asked evaluator.old) work.new
+    ensures gives { Judges (λ x. x) result E.answers work.old (E.asked evaluator.old) work.new
         (E.asked evaluator.new) (item_run (check E.means place.now (resolved_seen inner.now)) i
         (child_at i value.now)) }
     ensures counted { steps.new + work.new.left ≡ steps.old + work.old.left }
@@ -204,7 +204,7 @@ fn check_dict<L: Ledger, E: Evaluator<L>>(
     work: &mut Work,
     steps: &mut Steps<L>,
 ) -> Result<(), Exit>
-    ensures gives { Checks (λ x. x) result E.answers work.old (E.asked evaluator.old) work.new
+    ensures gives { Judges (λ x. x) result E.answers work.old (E.asked evaluator.old) work.new
         (E.asked evaluator.new) (shape_run E.means place.now
         (DictOf (resolved_seen inner.now) range) value.now) }
     ensures counted { steps.new + work.new.left ≡ steps.old + work.old.left }
@@ -230,7 +230,7 @@ fn check_entries<L: Ledger, E: Evaluator<L>>(
     steps: &mut Steps<L>,
 ) -> Result<(), Exit>
     requires { kind_of value.now ≡ kind.Dict }
-    ensures gives { Checks (λ x. x) result E.answers work.old (E.asked evaluator.old) work.new
+    ensures gives { Judges (λ x. x) result E.answers work.old (E.asked evaluator.old) work.new
         (E.asked evaluator.new) (values_run (check E.means place.now (resolved_seen inner.now))
         (child_fields value.now)) }
     ensures counted { steps.new + work.new.left ≡ steps.old + work.old.left }
@@ -253,7 +253,7 @@ fn check_entry<L: Ledger, E: Evaluator<L>>(
     work: &mut Work,
     steps: &mut Steps<L>,
 ) -> Result<(), Exit>
-    ensures gives { Checks (λ x. x) result E.answers work.old (E.asked evaluator.old) work.new
+    ensures gives { Judges (λ x. x) result E.answers work.old (E.asked evaluator.old) work.new
         (E.asked evaluator.new) (value_run (check E.means place.now (resolved_seen inner.now))
         (key_at i value.now) (child_at i value.now)) }
     ensures counted { steps.new + work.new.left ≡ steps.old + work.old.left }
@@ -280,7 +280,7 @@ fn check_link<L: Ledger, E: Evaluator<L>>(
     work: &mut Work,
     steps: &mut Steps<L>,
 ) -> Result<(), Exit>
-    ensures gives { Checks (λ x. x) result E.answers work.old (E.asked evaluator.old) work.new
+    ensures gives { Judges (λ x. x) result E.answers work.old (E.asked evaluator.old) work.new
         (E.asked evaluator.new) (shape_run E.means place.now (Link (resolved_seen inner.now))
         value.now) }
     ensures counted { steps.new + work.new.left ≡ steps.old + work.old.left }
@@ -304,7 +304,7 @@ fn check_record<L: Ledger, E: Evaluator<L>>(
     work: &mut Work,
     steps: &mut Steps<L>,
 ) -> Result<(), Exit>
-    ensures gives { Checks (λ x. x) result E.answers work.old (E.asked evaluator.old) work.new
+    ensures gives { Judges (λ x. x) result E.answers work.old (E.asked evaluator.old) work.new
         (E.asked evaluator.new) (shape_run E.means place.now
         (Record extensible (fields_of (all_seen fields.now))) value.now) }
     ensures counted { steps.new + work.new.left ≡ steps.old + work.old.left }
@@ -331,7 +331,7 @@ fn check_fields<L: Ledger, E: Evaluator<L>>(
     steps: &mut Steps<L>,
 ) -> Result<(), Exit>
     requires { kind_of value.now ≡ kind.Dict }
-    ensures gives { Checks (λ x. x) result E.answers work.old (E.asked evaluator.old) work.new
+    ensures gives { Judges (λ x. x) result E.answers work.old (E.asked evaluator.old) work.new
         (E.asked evaluator.new) (fields_run E.means place.now (fields_of (all_seen fields.now))
         (child_fields value.now)) }
     ensures counted { steps.new + work.new.left ≡ steps.old + work.old.left }
@@ -355,7 +355,7 @@ fn check_present<L: Ledger, E: Evaluator<L>>(
     work: &mut Work,
     steps: &mut Steps<L>,
 ) -> Result<(), Exit>
-    ensures gives { (required : Bool) → Checks (λ x. x) result E.answers work.old
+    ensures gives { (required : Bool) → Judges (λ x. x) result E.answers work.old
         (E.asked evaluator.old) work.new (E.asked evaluator.new) (field_run key.now required
         (check E.means place.now (resolved_seen inner.now)) (Some child.now)) }
     ensures counted { steps.new + work.new.left ≡ steps.old + work.old.left }
@@ -377,7 +377,7 @@ fn check_field<L: Ledger, E: Evaluator<L>>(
     work: &mut Work,
     steps: &mut Steps<L>,
 ) -> Result<(), Exit>
-    ensures gives { Checks (λ x. x) result E.answers work.old (E.asked evaluator.old) work.new
+    ensures gives { Judges (λ x. x) result E.answers work.old (E.asked evaluator.old) work.new
         (E.asked evaluator.new) (typed_run E.means place.now (field_seen field.now) value.now) }
     ensures counted { steps.new + work.new.left ≡ steps.old + work.old.left }
 {

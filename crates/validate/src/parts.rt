@@ -8,9 +8,9 @@ ghost use Rattle.type_defs.specs.Resolved.{fields_of};
 ghost use Rattle.type_defs.specs.Tables.{all_seen};
 ghost use Rattle.path_tree.specs.Plain.{Plain};
 ghost use Rattle.validate.specs.Check.{condition_run, field_run, no_other, other_key, shape_run, target_run};
-ghost use Rattle.validate.specs.Exits.{Checks};
+ghost use Rattle.validate.specs.Exits.{Judges};
 ghost use Rattle.validate.specs.Kinds.{link_path};
-ghost use Rattle.validate.specs.Refusals as runs;
+ghost use Rattle.validate.specs.Refusals.{Checks};
 ghost use Rattle.type_defs.specs.Resolved.{Choice, OfBase};
 
 use crate::evaluator::Evaluator;
@@ -35,7 +35,7 @@ pub(crate) fn check_base<L: Ledger, E: Evaluator<L>>(
     evaluator: &E,
     work: &Work,
 ) -> Result<(), Exit>
-    ensures { Checks (λ x. x) result E.answers work.now (E.asked evaluator.now) work.now
+    ensures { Judges (λ x. x) result E.answers work.now (E.asked evaluator.now) work.now
         (E.asked evaluator.now) (shape_run E.means place.now (OfBase base) value.now) }
 {
     if is_of(base, value.kind()) {
@@ -54,7 +54,7 @@ pub(crate) fn check_choice<L: Ledger, E: Evaluator<L>>(
     evaluator: &E,
     work: &Work,
 ) -> Result<(), Exit>
-    ensures { Checks (λ x. x) result E.answers work.now (E.asked evaluator.now) work.now
+    ensures { Judges (λ x. x) result E.answers work.now (E.asked evaluator.now) work.now
         (E.asked evaluator.now) (shape_run E.means place.now (Choice texts.now) value.now) }
 {
     let Some(text) = value.as_text() else {
@@ -79,7 +79,7 @@ fn check_test<L: Ledger, E: Evaluator<L>>(
     work: &mut Work,
     steps: &mut Steps<L>,
 ) -> Result<(), Exit>
-    ensures gives { Checks (λ x. x) result E.answers work.old (E.asked evaluator.old) work.new
+    ensures gives { Judges (λ x. x) result E.answers work.old (E.asked evaluator.old) work.new
         (E.asked evaluator.new) (condition_run E.means place.now (Some (item_seen item.now))
         template.now value.now) }
     ensures counted { steps.new + work.new.left ≡ steps.old + work.old.left }
@@ -104,7 +104,7 @@ pub(crate) fn check_condition<L: Ledger, E: Evaluator<L>>(
     work: &mut Work,
     steps: &mut Steps<L>,
 ) -> Result<(), Exit>
-    ensures gives { Checks (λ x. x) result E.answers work.old (E.asked evaluator.old) work.new
+    ensures gives { Judges (λ x. x) result E.answers work.old (E.asked evaluator.old) work.new
         (E.asked evaluator.new) (condition_run E.means place.now (body_seen condition.now)
         template.now value.now) }
     ensures counted { steps.new + work.new.left ≡ steps.old + work.old.left }
@@ -124,7 +124,7 @@ pub(crate) fn link_target<L: Ledger, E: Evaluator<L>>(
     evaluator: &mut E,
     work: &Work,
 ) -> Result<Tree, Exit>
-    ensures { Checks (λ t. t) result E.answers work.now (E.asked evaluator.old) work.now
+    ensures { Judges (λ t. t) result E.answers work.now (E.asked evaluator.old) work.now
         (E.asked evaluator.new) (target_run E.means place.now (link_path value.now)) }
 {
     let Some(path) = link_path(alloc, value)? else {
@@ -145,7 +145,7 @@ pub(crate) fn check_absent<L: Ledger, E: Evaluator<L>>(
     evaluator: &E,
     work: &Work,
 ) -> Result<(), Exit>
-    ensures { (f : Plain → runs.Checks (Unit {0})) → Checks (λ x. x) result E.answers work.now
+    ensures { (f : Plain → Checks (Unit {0})) → Judges (λ x. x) result E.answers work.now
         (E.asked evaluator.now) work.now (E.asked evaluator.now)
         (field_run key.now required f None) }
 {
@@ -165,7 +165,7 @@ pub(crate) fn check_no_other<L: Ledger, E: Evaluator<L>>(
     work: &Work,
 ) -> Result<(), Exit>
     requires { kind_of value.now ≡ kind.Dict }
-    ensures { Checks (λ x. x) result E.answers work.now (E.asked evaluator.now) work.now
+    ensures { Judges (λ x. x) result E.answers work.now (E.asked evaluator.now) work.now
         (E.asked evaluator.now) (no_other (other_key (fields_of (all_seen fields.now))
         (child_fields value.now))) }
 {

@@ -1,4 +1,4 @@
-ghost use Rattle.std.specs.Prelude.{◌≡◌, ◌+◌, ◌++◌, IfOk, OnOk, Result, Some, string_bytes};
+ghost use Rattle.std.specs.Prelude.{◌≡◌, ◌+◌, ◌++◌, IfOk, Result, Some, string_bytes};
 ghost use Rattle.pan_ast.specs.Detail.{fault_with};
 ghost use Rattle.path_tree.specs.Find.{get};
 ghost use Rattle.questions.specs.Contents.{Answers};
@@ -21,16 +21,7 @@ use pan_ast::{Code, Place, Work};
 use path_tree::{Anchor, Path, Term, Tree};
 use std::alloc::{AllocError, Global};
 use std::sync::ledger::Ledger;
-use type_defs::{Bindings, Bound, Valid};
-
-fn push_terms(terms: &mut Vec<Term>, more: &[Term]) -> Result<(), AllocError>
-    ensures { OnOk result (terms.new.items ≡ terms.old.items ++ more.now) }
-{
-    for term in more {
-        terms.push(term.clone()?)?;
-    }
-    Ok(())
-}
+use type_defs::{Bindings, Bound, Valid, push_terms};
 
 /// The text of an absolute path, in canonical form: of these terms, and then those.
 fn absolute(alloc: Global, first: &[Term], second: &[Term]) -> Result<String, AllocError>
