@@ -5,6 +5,7 @@ ghost use Rattle.path_tree.specs.Plain.{dict, no_fields};
 ghost use Rattle.path_tree.specs.declared.path.PutError.TheVariants as put_error;
 ghost use Rattle.assign_rules.specs.Profiles.{assign_refusal, assigned, are_in_line, begins_with, change_at, is_no_root, is_set, may_assign, put_into, with_change, IsLogOf};
 
+use crate::terms::share_terms;
 use base::Seq;
 use pan_ast::{Change, Place};
 use path_tree::{Kind, PutError, Term, Tree};
@@ -95,6 +96,19 @@ impl Profile {
         &self.log
     }
 
+    /// The tree, and the log of its changes.
+    pub fn into_parts(self) -> (Tree, Vec<Change>)
+        ensures tree { result.0 ≡ self.tree }
+        ensures log { result.1.items ≡ self.log }
+    {
+        let Profile {
+            tree,
+            finals: _finals,
+            log,
+        } = self;
+        (tree, log)
+    }
+
     /// Whether no final path stands at, above or below this one.
     pub fn may_assign(&self, terms: &[Term]) -> bool
         ensures { result ≡ may_assign self.now.finals terms.now }
@@ -154,7 +168,7 @@ impl Profile {
         }
         let change = change_at(alloc, place, terms, &value)?;
         let mark = if last {
-            Some(shared(alloc, terms)?)
+            Some(share_terms(alloc, terms)?)
         } else {
             None
         };
@@ -196,25 +210,6 @@ fn is_no_root(terms: &[Term], value: &Tree) -> bool
     terms.is_empty() && value.kind() != Kind::Dict
 }
 
-fn share_term(term: &Term) -> Result<Term, AllocError>
-    ensures { IfOk result (λ t. t ≡ term.now) }
-{
-    match term {
-        Term::Key(key) => Ok(Term::Key(key.share()?)),
-        Term::Index(index) => Ok(Term::Index(*index)),
-    }
-}
-
-fn shared(alloc: Global, terms: &[Term]) -> Result<Seq<Term>, AllocError>
-    ensures { IfOk result (λ ts. ts ≡ terms.now) }
-{
-    let mut shared = Vec::with_capacity(alloc, terms.len())?;
-    for term in terms {
-        shared.push(share_term(term)?)?;
-    }
-    Ok(Seq::from_vec(shared))
-}
-
 fn change_at(
     alloc: Global,
     place: &Place,
@@ -224,7 +219,7 @@ fn change_at(
     ensures { IfOk result (λ c. c ≡ change_at place.now terms.now value.now) }
 {
     Ok(Change {
-        terms: shared(alloc, terms)?,
+        terms: share_terms(alloc, terms)?,
         value: if value.is_null() {
             None
         } else {

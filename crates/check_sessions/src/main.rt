@@ -1,18 +1,25 @@
-//! Builds over devices in memory, some calls of which fail: prints the status, the faults, the text and the shelf.
+//! Builds of written objects over devices in memory, some calls of which fail: prints the status, the faults, the runs,
+//! the text and the shelf.
 //!
 //! Each line says something of the next run. `file NAME TEXT` is a file of the source, TEXT being all behind NAME, and
 //! a line feed; `many COUNT NAME TEXT` are the files `0NAME`, `1NAME` and so on. `kept NAME TEXT` stands on the shelf
 //! before the run. `fail DEVICE CALL` has a call of the `source`, the `shelf` or the `sink` fail, the first being 0.
 //! `run WORD ..` calls the compiler with these words, and forgets what was said. Behind `status` stand the faults that
-//! the source, the shelf and the sink counted. Any other line is a remark. The expected output is written by hand.
+//! the source, the shelf and the sink counted, and the runs that were made. Any other line is a remark. An object's text
+//! is the word `object` and lines of three bytes, as `written_runner` says. The expected output is written by hand.
 #![tactic(auto)]
 
+ghost use Rattle.std.specs.Prelude.{◌≡◌, ◌<◌};
+
 use anyhow::{Result, anyhow};
-use base::{Bytes, Seq, Text};
+use base::{Bytes, Seq, Steps, Text};
 use outside::{Held, MemFile, MemShelf, MemSink, MemSource, Shelf, Sink, Source, are_distinct};
 use pan_top::pan;
 use std::alloc::{AllocError, Global};
+use std::marker::Brand;
 use std::mem;
+use std::sync::ledger::{Blank, Ledger};
+use written_runner::Written;
 
 /// What is said of a run.
 #[derive(Drop)]
@@ -92,7 +99,20 @@ fn print_shelf(rt: &HostRuntime, held: &[Held]) -> Result<()> {
     Ok(())
 }
 
-fn run(rt: &HostRuntime, case: Case, words: &str) -> Result<()> {
+/// Calls the compiler, and gives the exit status.
+fn compile<L: Ledger>(
+    alloc: Global,
+    words: &[Text],
+    runner: &mut Written,
+    source: &mut MemSource,
+    shelf: &mut MemShelf,
+    sink: &mut MemSink,
+    steps: &mut Steps<L>,
+) -> u8 {
+    pan(alloc, words, runner, source, shelf, sink, steps).exit_code()
+}
+
+fn run<L: Ledger>(rt: &HostRuntime, case: Case, words: &str, steps: &mut Steps<L>) -> Result<()> {
     let alloc = rt.alloc();
     let Case {
         files,
@@ -106,17 +126,27 @@ fn run(rt: &HostRuntime, case: Case, words: &str) -> Result<()> {
     }
     let mut pictures = Vec::new(alloc);
     pictures.push(Seq::from_vec(files))?;
+    let mut runner = Written::new(alloc);
     let mut source = MemSource::new(alloc, pictures, source_fails);
     let mut shelf = MemShelf::new(alloc, held, shelf_fails);
     let mut sink = MemSink::new(alloc, sink_fails);
     let words = words_of(alloc, words)?;
-    let status = pan(alloc, &words, &mut source, &mut shelf, &mut sink);
+    let status = compile(
+        alloc,
+        &words,
+        &mut runner,
+        &mut source,
+        &mut shelf,
+        &mut sink,
+        steps,
+    );
     print!(rt;
-        "status {} {} {} {}\n{}",
-        status.exit_code(),
+        "status {} faults {} {} {} runs {}\n{}",
+        status,
         source.faults(),
         shelf.faults(),
         sink.faults(),
+        runner.runs(),
         str::from_utf8(sink.written())?
     )?;
     print_shelf(rt, shelf.held())
@@ -127,7 +157,12 @@ fn split(line: &str) -> (&str, &str) {
     line.split_once(' ').unwrap_or((line, ""))
 }
 
-fn say(rt: &HostRuntime, case: &mut Case, line: &str) -> Result<()> {
+fn say<L: Ledger>(
+    rt: &HostRuntime,
+    case: &mut Case,
+    line: &str,
+    steps: &mut Steps<L>,
+) -> Result<()> {
     let alloc = rt.alloc();
     let (what, rest) = split(line);
     let (name, text) = split(rest);
@@ -136,17 +171,27 @@ fn say(rt: &HostRuntime, case: &mut Case, line: &str) -> Result<()> {
         "many" => many(alloc, case, name, text),
         "kept" => kept(alloc, case, name, text),
         "fail" => fail(case, name, text),
-        "run" => run(rt, mem::replace(case, new_case(alloc)), rest),
+        "run" => run(rt, mem::replace(case, new_case(alloc)), rest, steps),
         _ => Ok(()),
     }
 }
 
-fn main(rt: HostRuntime) -> Result<()> {
+/// The lines, one after the other.
+fn obey<L: Ledger>(rt: &HostRuntime, blank: Blank) -> Result<()>
+    requires name { blank.name ≡ L.name }
+    requires parts { blank.parts ≡ L.parts }
+    requires some { 0 < blank.parts }
+{
+    let mut steps = Steps::<L>::new(blank);
     let mut case = new_case(rt.alloc());
     for line in rt.lines(rt.alloc()) {
         let line = line?;
         println!(rt; "> {line}")?;
-        say(&rt, &mut case, line.as_str())?;
+        say(rt, &mut case, line.as_str(), &mut steps)?;
     }
     Ok(())
+}
+
+fn main(rt: HostRuntime) -> Result<()> {
+    obey::<Brand>(&rt, Blank::new(1))
 }

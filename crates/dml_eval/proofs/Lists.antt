@@ -35,12 +35,6 @@ unfolding for_turns
 for_more zero go a p c s b last o e m h = absurd (omega arith)
 for_more (suc n) go a p c s b last o e m h = let k : suc n - 1 ≡ n = omega arith in rw k refl
 
--- a step of work, and those after it
-pub steps_more : (n : ℕ) (p : Place) (o : Answers) (e : Env) (m : Meter) → 0 < n → steps n p o e m ≡ then (step p o e m) (λ _. steps (n - 1) p o)
-unfolding steps
-steps_more zero p o e m h = absurd (omega arith)
-steps_more (suc n) p o e m h = let k : suc n - 1 ≡ n = omega arith in rw k refl
-
 -- the child at a place, and those after it
 pairs_fields : (fs : Fields) (i : ℕ) → i < field_count fs → drop i (pairs_of_fields fs) ≡ pair_at i (dict fs) ∷ drop (i + 1) (pairs_of_fields fs)
 pairs_fields no_fields i h = absurd (omega arith)

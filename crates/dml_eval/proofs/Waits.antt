@@ -18,11 +18,11 @@ use Rattle.questions.specs.Run.{Meter, Outcome, Returned, Failed, Asks, then}
 use Rattle.dml_meaning.specs.Run.{Env}
 use Rattle.dml_meaning.specs.Around.{Around}
 use Rattle.dml_meaning.specs.Meaning.{Means}
-use Rattle.dml_eval.specs.declared.stop.Exit.{Exit}
-use Rattle.dml_eval.specs.declared.stop.Exit.TheVariants as exit
+use Rattle.dml_world.specs.declared.stop.Exit.{Exit}
+use Rattle.dml_world.specs.declared.stop.Exit.TheVariants as exit
 use Rattle.dml_eval.specs.declared.chains.Waiting.{Waiting}
-use Rattle.dml_eval.specs.Exits.{Ends}
-use Rattle.dml_eval.specs.Waits.{resume, resumed, node_weight, step_weight, steps_weight, waiting_weight, waits_weight}
+use Rattle.dml_world.specs.Exits.{Ends}
+use Rattle.dml_eval.specs.Waits.{resume, resumed, waiting_weight, waits_weight}
 
 -- one more that waits is the first to go on
 pub resumed_more : (go : Means) (a : Around) (answers : Answers) (ws : List Waiting) (w : Waiting) (o : Outcome Env Plain) → resumed go a answers (ws ++ w ∷ []) o ≡ resumed go a answers ws (then o (λ t. resume go a w t answers))
@@ -63,21 +63,3 @@ resumed_none go a answers [] o p h is = is
 resumed_none go a answers (w ∷ ws) o p h is = absurd (omega arith)
 
 pub ruleset waits = (resumed_more, resumed_ends, weight_more)
-
-weight_stepped : (s : Step) (p : Place) (x : Node) → 1 + node_weight x + step_weight s ≤ node_weight (stepped p x s)
-weight_stepped (AtIndex i) p x = omega arith
-weight_stepped (AtBinary op y) p x = omega arith
-weight_stepped (AtAnd y) p x = omega arith
-weight_stepped (AtOr y) p x = omega arith
-
-weight_steps : (ss : List Step) (p : Place) (x : Node) → node_weight x + steps_weight ss ≤ node_weight (steps_on p x ss)
-weight_steps [] p x = omega arith
-weight_steps (s ∷ ss) p x = let h = weight_steps ss p (stepped p x s) in let k = weight_stepped s p x in omega (arith, h, k)
-
--- a chain in memory
-pub weight_spine : (n : RNode) (x : Box RNode Global) (s : Box RStep Global) (ss : Vec RStep Global) → n.form ≡ form.Spine x s ss → 1 + node_weight (node_seen x.value) + step_weight (step_seen s.value) + steps_weight (map step_seen ss.items) ≤ node_weight (node_seen n)
-weight_spine n x s ss is =
-    let k = weight_stepped (step_seen s.value) n.place (node_seen x.value) in
-    let l = weight_steps (map step_seen ss.items) n.place (stepped n.place (node_seen x.value) (step_seen s.value)) in
-    let e = ap node_weight (seen_spine n x s ss is) in
-    omega (arith, k, l, e)

@@ -1,5 +1,1 @@
-pub mod Seen
-pub mod Exits
-pub mod Answers
-pub mod Changes
 pub mod Waits

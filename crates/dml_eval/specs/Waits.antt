@@ -2,7 +2,7 @@
 use Rattle.std.specs.Prelude.{◌≡◌, ℕ, ◌+◌, List, [], ◌∷◌, map, Result, Ok, Err}
 use Rattle.path_tree.specs.Plain.{Plain}
 use Rattle.pan_ast.specs.declared.place.Place.{Place}
-use Rattle.pan_ast.specs.Syntax.{Node, Step, Index, Binary, And, Or, AtIndex, AtBinary, AtAnd, AtOr}
+use Rattle.pan_ast.specs.Syntax.{Step}
 use Rattle.pan_ast.specs.Seen.{node_seen, step_seen}
 use Rattle.questions.specs.declared.key.Key.{Key}
 use Rattle.questions.specs.Contents.{Answers}
@@ -10,8 +10,9 @@ use Rattle.questions.specs.Run.{Outcome, then, ◌>>=◌, give}
 use Rattle.dml_meaning.specs.Run.{Env, Run}
 use Rattle.dml_meaning.specs.Around.{Around}
 use Rattle.dml_meaning.specs.Meaning.{Means, spine_run, step_run, steps_run, apply_binary, apply_boolean}
-use Rattle.dml_eval.specs.declared.stop.Exit.{Exit}
-use Rattle.dml_eval.specs.declared.frame.Live.{Live}
+use Rattle.dml_world.specs.declared.stop.Exit.{Exit}
+use Rattle.dml_world.specs.declared.frame.Live.{Live}
+use Rattle.dml_leaves.specs.Weights.{node_weight, step_weight, steps_weight}
 use Rattle.dml_eval.specs.declared.nodes.Operand.{Operand}
 use Rattle.dml_eval.specs.declared.nodes.Operand.TheVariants as operand
 use Rattle.dml_eval.specs.declared.chains.Chain.{Chain}
@@ -20,8 +21,8 @@ use Rattle.dml_eval.specs.declared.chains.Role.TheVariants as role
 use Rattle.dml_eval.specs.declared.chains.Waiting.{Waiting}
 use Rattle.dml_eval.specs.declared.chains.Turn.{Turn}
 use Rattle.dml_eval.specs.declared.chains.Turn.TheVariants as turn
-use Rattle.dml_eval.specs.Seen.{env, meter}
-use Rattle.dml_eval.specs.Exits.{Ends}
+use Rattle.dml_world.specs.Seen.{env, meter}
+use Rattle.dml_world.specs.Exits.{Ends}
 
 -- What each means.
 
@@ -63,28 +64,12 @@ resumed go a answers (w ∷ ws) o =
 abbrev pub Leads : {X : Type 0} → (X → Run Plain) → Result X Exit → Answers → Live → List Key
     → Live → List Key → Run Plain → Type 0
 Leads left (Ok x) answers before old after new run =
-    run answers (env before) (meter before old) ≡ left x answers (env after) (meter after new)
+    run answers (env before) (meter before.work old)
+    ≡ left x answers (env after) (meter after.work new)
 Leads left (Err x) answers before old after new run =
-    Ends x (env after) (meter after new) (run answers (env before) (meter before old))
+    Ends x (env after) (meter after.work new) (run answers (env before) (meter before.work old))
 
 -- How many turns are left at most.
-
-abbrev pub node_weight : Node → ℕ
-node_weight (Index p x i) = 2 + node_weight x
-node_weight (Binary p op x y) = 3 + node_weight x + node_weight y
-node_weight (And p x y) = 3 + node_weight x + node_weight y
-node_weight (Or p x y) = 3 + node_weight x + node_weight y
-node_weight _ = 0
-
-abbrev pub step_weight : Step → ℕ
-step_weight (AtIndex i) = 1
-step_weight (AtBinary op y) = 2 + node_weight y
-step_weight (AtAnd y) = 2 + node_weight y
-step_weight (AtOr y) = 2 + node_weight y
-
-abbrev pub steps_weight : List Step → ℕ
-steps_weight [] = 0
-steps_weight (s ∷ ss) = step_weight s + steps_weight ss
 
 abbrev pub chain_weight : Chain → ℕ
 chain_weight c = 1 + node_weight (node_seen c.first.now) + step_weight (step_seen c.step.now)

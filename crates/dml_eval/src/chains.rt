@@ -1,18 +1,18 @@
 ghost use Rattle.std.specs.Prelude.{◌≡◌, ◌+◌, ◌<◌, ◌∷◌, [], map, IfOk, MatchOption};
-ghost use Rattle.dml_eval.specs.Exits.{Follows};
-ghost use Rattle.dml_eval.specs.Seen.{around_of};
-ghost use Rattle.dml_eval.specs.Waits.{Leads, chain_run, chain_weight, node_weight, resume, step_weight, steps_weight, turn_run, turn_weight, waiting_weight, with_steps};
+ghost use Rattle.dml_world.specs.Exits.{Follows};
+ghost use Rattle.dml_world.specs.Seen.{around_of};
+ghost use Rattle.dml_eval.specs.Waits.{Leads, chain_run, chain_weight, resume, turn_run, turn_weight, waiting_weight, with_steps};
+ghost use Rattle.dml_leaves.specs.Weights.{node_weight, step_weight, steps_weight};
 ghost use Rattle.dml_meaning.specs.Meaning.{eval, second_run, step_run};
 ghost use Rattle.pan_ast.specs.Seen.{item_seen, node_seen, step_seen};
 ghost use Rattle.pan_ast.specs.Syntax.{AtAnd, AtBinary, AtIndex, AtOr};
 
-use crate::frame::{Around, Live};
 use crate::items::open_item;
-use crate::leaf::{apply_binary, apply_boolean, apply_index};
 use crate::nodes::{Operand, run_operand};
-use crate::stop::Exit;
-use crate::world::World;
 use base::Steps;
+use dml_leaves::indexes::apply_index;
+use dml_world::leaf::{apply_binary, apply_boolean};
+use dml_world::{Around, Exit, Live, World};
 use pan_ast::{Item, Node, Place, Step};
 use path_tree::{BinaryOp, Tree};
 use std::alloc::Global;
@@ -79,8 +79,8 @@ pub(crate) fn run_chain<W: World, L: Ledger>(
     steps: &mut Steps<L>,
 ) -> Result<Tree, Exit>
     ensures gives { Follows (λ t. t) result W.answers live.old (W.asked world.old) live.new
-        (W.asked world.new) (chain_run (eval room) (around_of around.now W.reading) chain.entry) }
-    ensures counted { steps.new + live.new.left ≡ steps.old + live.old.left }
+        (W.asked world.new) (chain_run (eval room) (around_of around.now W.reading W.calls) chain.entry) }
+    ensures counted { steps.new + live.new.work.left ≡ steps.old + live.old.work.left }
 {
     let mut waiting = Vec::new(alloc);
     let mut turn = start(alloc, chain, room, around, live, world, steps)?;
@@ -115,10 +115,10 @@ fn start<'a, W: World, L: Ledger>(
     world: &mut W,
     steps: &mut Steps<L>,
 ) -> Result<Turn<'a>, Exit>
-    ensures gives { Leads (turn_run (eval room) (around_of around.now W.reading)) result W.answers
+    ensures gives { Leads (turn_run (eval room) (around_of around.now W.reading W.calls)) result W.answers
         live.old (W.asked world.old) live.new (W.asked world.new)
-        (chain_run (eval room) (around_of around.now W.reading) chain.entry) }
-    ensures counted { steps.new + live.new.left ≡ steps.old + live.old.left }
+        (chain_run (eval room) (around_of around.now W.reading W.calls) chain.entry) }
+    ensures counted { steps.new + live.new.work.left ≡ steps.old + live.old.work.left }
     ensures lighter { IfOk result (λ t. turn_weight t < chain_weight chain.entry) }
 {
     let Chain {
@@ -154,10 +154,10 @@ fn take_up<'a, W: World, L: Ledger>(
     world: &mut W,
     steps: &mut Steps<L>,
 ) -> Result<Turn<'a>, Exit>
-    ensures gives { Leads (turn_run (eval room) (around_of around.now W.reading)) result W.answers
+    ensures gives { Leads (turn_run (eval room) (around_of around.now W.reading W.calls)) result W.answers
         live.old (W.asked world.old) live.new (W.asked world.new)
-        (resume (eval room) (around_of around.now W.reading) waiting.entry value) }
-    ensures counted { steps.new + live.new.left ≡ steps.old + live.old.left }
+        (resume (eval room) (around_of around.now W.reading W.calls) waiting.entry value) }
+    ensures counted { steps.new + live.new.work.left ≡ steps.old + live.old.work.left }
     ensures lighter { IfOk result (λ t. turn_weight t < waiting_weight waiting.entry) }
 {
     let Waiting { place, role, rest } = waiting;
@@ -191,12 +191,12 @@ fn run_step<'a, W: World, L: Ledger>(
     world: &mut W,
     steps: &mut Steps<L>,
 ) -> Result<Turn<'a>, Exit>
-    ensures gives { Leads (turn_run (eval room) (around_of around.now W.reading)) result W.answers
+    ensures gives { Leads (turn_run (eval room) (around_of around.now W.reading W.calls)) result W.answers
         live.old (W.asked world.old) live.new (W.asked world.new)
-        (with_steps (eval room) (around_of around.now W.reading) place.now (map step_seen rest.now)
-        (step_run (eval room) (around_of around.now W.reading) place.now left
+        (with_steps (eval room) (around_of around.now W.reading W.calls) place.now (map step_seen rest.now)
+        (step_run (eval room) (around_of around.now W.reading W.calls) place.now left
         (step_seen step.now))) }
-    ensures counted { steps.new + live.new.left ≡ steps.old + live.old.left }
+    ensures counted { steps.new + live.new.work.left ≡ steps.old + live.old.work.left }
     ensures lighter { IfOk result (λ t. turn_weight t < step_weight (step_seen step.now)
         + steps_weight (map step_seen rest.now)) }
 {
@@ -231,12 +231,12 @@ fn run_index<'a, W: World, L: Ledger>(
     world: &mut W,
     steps: &mut Steps<L>,
 ) -> Result<Turn<'a>, Exit>
-    ensures gives { Leads (turn_run (eval room) (around_of around.now W.reading)) result W.answers
+    ensures gives { Leads (turn_run (eval room) (around_of around.now W.reading W.calls)) result W.answers
         live.old (W.asked world.old) live.new (W.asked world.new)
-        (with_steps (eval room) (around_of around.now W.reading) place.now (map step_seen rest.now)
-        (step_run (eval room) (around_of around.now W.reading) place.now left
+        (with_steps (eval room) (around_of around.now W.reading W.calls) place.now (map step_seen rest.now)
+        (step_run (eval room) (around_of around.now W.reading W.calls) place.now left
         (AtIndex (item_seen item.now)))) }
-    ensures counted { steps.new + live.new.left ≡ steps.old + live.old.left }
+    ensures counted { steps.new + live.new.work.left ≡ steps.old + live.old.work.left }
     ensures lighter { IfOk result (λ t. turn_weight t < 1 + steps_weight (map step_seen rest.now)) }
 {
     let index = open_item(alloc, item, room, around, live, world, steps)?;
@@ -260,12 +260,12 @@ fn run_binary<'a, W: World, L: Ledger>(
     world: &mut W,
     steps: &mut Steps<L>,
 ) -> Result<Turn<'a>, Exit>
-    ensures gives { Leads (turn_run (eval room) (around_of around.now W.reading)) result W.answers
+    ensures gives { Leads (turn_run (eval room) (around_of around.now W.reading W.calls)) result W.answers
         live.old (W.asked world.old) live.new (W.asked world.new)
-        (with_steps (eval room) (around_of around.now W.reading) place.now (map step_seen rest.now)
-        (step_run (eval room) (around_of around.now W.reading) place.now left
+        (with_steps (eval room) (around_of around.now W.reading W.calls) place.now (map step_seen rest.now)
+        (step_run (eval room) (around_of around.now W.reading W.calls) place.now left
         (AtBinary op (node_seen right.now)))) }
-    ensures counted { steps.new + live.new.left ≡ steps.old + live.old.left }
+    ensures counted { steps.new + live.new.work.left ≡ steps.old + live.old.work.left }
     ensures lighter { IfOk result (λ t. turn_weight t < (2 + node_weight (node_seen right.now))
         + steps_weight (map step_seen rest.now)) }
 {
@@ -289,7 +289,7 @@ fn run_binary<'a, W: World, L: Ledger>(
 
 /// `&&`: where the left side is true, the right side decides.
 #[cycle(eval)]
-#[tactic(auto, using(crate::proofs::Trees::boths), unfolding(dml_meaning::specs::Meaning::step_run))]
+#[tactic(auto, using(dml_world::proofs::Booleans::boths), unfolding(dml_meaning::specs::Meaning::step_run))]
 fn run_both<'a, W: World, L: Ledger>(
     alloc: Global,
     place: &'a Place,
@@ -302,12 +302,12 @@ fn run_both<'a, W: World, L: Ledger>(
     world: &mut W,
     steps: &mut Steps<L>,
 ) -> Result<Turn<'a>, Exit>
-    ensures gives { Leads (turn_run (eval room) (around_of around.now W.reading)) result W.answers
+    ensures gives { Leads (turn_run (eval room) (around_of around.now W.reading W.calls)) result W.answers
         live.old (W.asked world.old) live.new (W.asked world.new)
-        (with_steps (eval room) (around_of around.now W.reading) place.now (map step_seen rest.now)
-        (step_run (eval room) (around_of around.now W.reading) place.now left
+        (with_steps (eval room) (around_of around.now W.reading W.calls) place.now (map step_seen rest.now)
+        (step_run (eval room) (around_of around.now W.reading W.calls) place.now left
         (AtAnd (node_seen right.now)))) }
-    ensures counted { steps.new + live.new.left ≡ steps.old + live.old.left }
+    ensures counted { steps.new + live.new.work.left ≡ steps.old + live.old.work.left }
     ensures lighter { IfOk result (λ t. turn_weight t < (2 + node_weight (node_seen right.now))
         + steps_weight (map step_seen rest.now)) }
 {
@@ -322,7 +322,7 @@ fn run_both<'a, W: World, L: Ledger>(
 
 /// `||`: where the left side is false, the right side decides.
 #[cycle(eval)]
-#[tactic(auto, using(crate::proofs::Trees::eithers), unfolding(dml_meaning::specs::Meaning::step_run))]
+#[tactic(auto, using(dml_world::proofs::Booleans::eithers), unfolding(dml_meaning::specs::Meaning::step_run))]
 fn run_either<'a, W: World, L: Ledger>(
     alloc: Global,
     place: &'a Place,
@@ -335,12 +335,12 @@ fn run_either<'a, W: World, L: Ledger>(
     world: &mut W,
     steps: &mut Steps<L>,
 ) -> Result<Turn<'a>, Exit>
-    ensures gives { Leads (turn_run (eval room) (around_of around.now W.reading)) result W.answers
+    ensures gives { Leads (turn_run (eval room) (around_of around.now W.reading W.calls)) result W.answers
         live.old (W.asked world.old) live.new (W.asked world.new)
-        (with_steps (eval room) (around_of around.now W.reading) place.now (map step_seen rest.now)
-        (step_run (eval room) (around_of around.now W.reading) place.now left
+        (with_steps (eval room) (around_of around.now W.reading W.calls) place.now (map step_seen rest.now)
+        (step_run (eval room) (around_of around.now W.reading W.calls) place.now left
         (AtOr (node_seen right.now)))) }
-    ensures counted { steps.new + live.new.left ≡ steps.old + live.old.left }
+    ensures counted { steps.new + live.new.work.left ≡ steps.old + live.old.work.left }
     ensures lighter { IfOk result (λ t. turn_weight t < (2 + node_weight (node_seen right.now))
         + steps_weight (map step_seen rest.now)) }
 {
@@ -367,11 +367,11 @@ fn run_second<'a, W: World, L: Ledger>(
     world: &mut W,
     steps: &mut Steps<L>,
 ) -> Result<Turn<'a>, Exit>
-    ensures gives { Leads (turn_run (eval room) (around_of around.now W.reading)) result W.answers
+    ensures gives { Leads (turn_run (eval room) (around_of around.now W.reading W.calls)) result W.answers
         live.old (W.asked world.old) live.new (W.asked world.new)
-        (with_steps (eval room) (around_of around.now W.reading) place.now (map step_seen rest.now)
-        (second_run (eval room) (around_of around.now W.reading) place.now (node_seen right.now))) }
-    ensures counted { steps.new + live.new.left ≡ steps.old + live.old.left }
+        (with_steps (eval room) (around_of around.now W.reading W.calls) place.now (map step_seen rest.now)
+        (second_run (eval room) (around_of around.now W.reading W.calls) place.now (node_seen right.now))) }
+    ensures counted { steps.new + live.new.work.left ≡ steps.old + live.old.work.left }
     ensures lighter { IfOk result (λ t. turn_weight t < (2 + node_weight (node_seen right.now))
         + steps_weight (map step_seen rest.now)) }
 {

@@ -1,19 +1,17 @@
 ghost use Rattle.std.specs.Prelude.{◌≡◌, ◌+◌, []};
-ghost use Rattle.dml_eval.specs.Exits.{Follows};
-ghost use Rattle.dml_eval.specs.Seen.{around_of};
-ghost use Rattle.dml_meaning.specs.Meaning.{assign_run, block_from, choose, condition_run, eval, item_run, no_indexes, set_run, values_from};
+ghost use Rattle.dml_world.specs.Exits.{Follows};
+ghost use Rattle.dml_world.specs.Seen.{around_of};
+ghost use Rattle.dml_meaning.specs.Meaning.{assign_run, block_from, choose, condition_run, eval, item_run, set_run, values_from};
 ghost use Rattle.questions.specs.Run.{give};
 ghost use Rattle.pan_ast.specs.Seen.{item_seen, items_seen, reference_seen};
 ghost use Rattle.path_tree.specs.Plain.{undef};
 
-use crate::frame::{Around, Live};
-use crate::leaf::{boolean, fault, take_step};
 use crate::loops::{run_for, run_foreach, run_while};
-use crate::names::{may_change, set_value};
 use crate::nodes::run_node;
-use crate::stop::Exit;
-use crate::world::World;
 use base::{Steps, Text};
+use dml_leaves::names::{is_whole, may_change, set_value};
+use dml_world::leaf::{boolean, fault, take_step};
+use dml_world::{Around, Exit, Live, World};
 use pan_ast::{Code, Item, ItemForm, Place, Reference};
 use path_tree::Tree;
 use std::alloc::Global;
@@ -22,7 +20,7 @@ use std::sync::ledger::Ledger;
 /// An item, where `room` more may be open.
 #[cycle(eval)]
 #[tactic(auto, using(pan_ast::proofs::Places::item_place_seen), unfolding(dml_meaning::specs::Meaning::eval))]
-pub fn open_item<W: World, L: Ledger>(
+pub(crate) fn open_item<W: World, L: Ledger>(
     alloc: Global,
     item: &Item,
     room: u64,
@@ -32,9 +30,9 @@ pub fn open_item<W: World, L: Ledger>(
     steps: &mut Steps<L>,
 ) -> Result<Tree, Exit>
     ensures gives { Follows (λ t. t) result W.answers live.old (W.asked world.old) live.new
-        (W.asked world.new) ((eval room).opens (around_of around.now W.reading)
+        (W.asked world.new) ((eval room).opens (around_of around.now W.reading W.calls)
         (item_seen item.now)) }
-    ensures counted { steps.new + live.new.left ≡ steps.old + live.old.left }
+    ensures counted { steps.new + live.new.work.left ≡ steps.old + live.old.work.left }
 {
     take_step(alloc, &item.place, live, world, steps)?;
     if room == 0 {
@@ -56,9 +54,9 @@ fn run_item<W: World, L: Ledger>(
     steps: &mut Steps<L>,
 ) -> Result<Tree, Exit>
     ensures gives { Follows (λ t. t) result W.answers live.old (W.asked world.old) live.new
-        (W.asked world.new) (item_run (eval room) (around_of around.now W.reading)
+        (W.asked world.new) (item_run (eval room) (around_of around.now W.reading W.calls)
         (item_seen item.now)) }
-    ensures counted { steps.new + live.new.left ≡ steps.old + live.old.left }
+    ensures counted { steps.new + live.new.work.left ≡ steps.old + live.old.work.left }
 {
     match &item.form {
         ItemForm::Block(items) => run_block(alloc, items, room, around, live, world, steps),
@@ -133,9 +131,9 @@ fn run_block<W: World, L: Ledger>(
     steps: &mut Steps<L>,
 ) -> Result<Tree, Exit>
     ensures gives { Follows (λ t. t) result W.answers live.old (W.asked world.old) live.new
-        (W.asked world.new) (block_from (eval room) (around_of around.now W.reading)
+        (W.asked world.new) (block_from (eval room) (around_of around.now W.reading W.calls)
         (items_seen items.now) undef) }
-    ensures counted { steps.new + live.new.left ≡ steps.old + live.old.left }
+    ensures counted { steps.new + live.new.work.left ≡ steps.old + live.old.work.left }
 {
     let mut last = Tree::undef();
     'items: for item in items {
@@ -157,9 +155,9 @@ pub(crate) fn open_values<W: World, L: Ledger>(
     steps: &mut Steps<L>,
 ) -> Result<Vec<Tree>, Exit>
     ensures gives { Follows (λ v. v.items) result W.answers live.old (W.asked world.old) live.new
-        (W.asked world.new) (values_from (eval room) (around_of around.now W.reading)
+        (W.asked world.new) (values_from (eval room) (around_of around.now W.reading W.calls)
         (items_seen items.now) []) }
-    ensures counted { steps.new + live.new.left ≡ steps.old + live.old.left }
+    ensures counted { steps.new + live.new.work.left ≡ steps.old + live.old.work.left }
 {
     let mut values = Vec::new(alloc);
     'items: for item in items {
@@ -182,9 +180,9 @@ pub(crate) fn holds<W: World, L: Ledger>(
     steps: &mut Steps<L>,
 ) -> Result<bool, Exit>
     ensures gives { Follows (λ t. t) result W.answers live.old (W.asked world.old) live.new
-        (W.asked world.new) (condition_run (eval room) (around_of around.now W.reading)
+        (W.asked world.new) (condition_run (eval room) (around_of around.now W.reading W.calls)
         (item_seen condition.now)) }
-    ensures counted { steps.new + live.new.left ≡ steps.old + live.old.left }
+    ensures counted { steps.new + live.new.work.left ≡ steps.old + live.old.work.left }
 {
     let value = open_item(alloc, condition, room, around, live, world, steps)?;
     boolean(
@@ -210,10 +208,10 @@ fn run_if<W: World, L: Ledger>(
     steps: &mut Steps<L>,
 ) -> Result<Tree, Exit>
     ensures gives { Follows (λ t. t) result W.answers live.old (W.asked world.old) live.new
-        (W.asked world.new) (choose (eval room) (around_of around.now W.reading)
-        (item_seen condition.now) ((eval room).opens (around_of around.now W.reading)
+        (W.asked world.new) (choose (eval room) (around_of around.now W.reading W.calls)
+        (item_seen condition.now) ((eval room).opens (around_of around.now W.reading W.calls)
         (item_seen then.now)) (give undef)) }
-    ensures counted { steps.new + live.new.left ≡ steps.old + live.old.left }
+    ensures counted { steps.new + live.new.work.left ≡ steps.old + live.old.work.left }
 {
     if holds(alloc, condition, room, around, live, world, steps)? {
         open_item(alloc, then, room, around, live, world, steps)
@@ -236,11 +234,11 @@ fn run_if_else<W: World, L: Ledger>(
     steps: &mut Steps<L>,
 ) -> Result<Tree, Exit>
     ensures gives { Follows (λ t. t) result W.answers live.old (W.asked world.old) live.new
-        (W.asked world.new) (choose (eval room) (around_of around.now W.reading)
-        (item_seen condition.now) ((eval room).opens (around_of around.now W.reading)
-        (item_seen then.now)) ((eval room).opens (around_of around.now W.reading)
+        (W.asked world.new) (choose (eval room) (around_of around.now W.reading W.calls)
+        (item_seen condition.now) ((eval room).opens (around_of around.now W.reading W.calls)
+        (item_seen then.now)) ((eval room).opens (around_of around.now W.reading W.calls)
         (item_seen other.now))) }
-    ensures counted { steps.new + live.new.left ≡ steps.old + live.old.left }
+    ensures counted { steps.new + live.new.work.left ≡ steps.old + live.old.work.left }
 {
     if holds(alloc, condition, room, around, live, world, steps)? {
         open_item(alloc, then, room, around, live, world, steps)
@@ -263,9 +261,9 @@ fn run_assign<W: World, L: Ledger>(
     steps: &mut Steps<L>,
 ) -> Result<Tree, Exit>
     ensures gives { Follows (λ t. t) result W.answers live.old (W.asked world.old) live.new
-        (W.asked world.new) (assign_run (eval room) (around_of around.now W.reading)
+        (W.asked world.new) (assign_run (eval room) (around_of around.now W.reading W.calls)
         (reference_seen reference.now) (item_seen right.now)) }
-    ensures counted { steps.new + live.new.left ≡ steps.old + live.old.left }
+    ensures counted { steps.new + live.new.work.left ≡ steps.old + live.old.work.left }
 {
     let place = &reference.place;
     let name = &reference.name;
@@ -285,17 +283,6 @@ fn run_assign<W: World, L: Ledger>(
     )
 }
 
-/// Whether there is no index.
-#[tactic(auto, using(crate::proofs::Trees::whole))]
-fn is_whole(indexes: &[Item]) -> bool
-    ensures { result ≡ no_indexes (items_seen indexes.now) }
-{
-    if indexes.len() == 0 {
-        return true;
-    }
-    false
-}
-
 /// The indexes, the right side, and then the change.
 #[cycle(eval)]
 #[tactic(auto, unfolding(dml_meaning::specs::Meaning::set_run))]
@@ -312,9 +299,9 @@ fn run_set<W: World, L: Ledger>(
     steps: &mut Steps<L>,
 ) -> Result<Tree, Exit>
     ensures gives { Follows (λ t. t) result W.answers live.old (W.asked world.old) live.new
-        (W.asked world.new) (set_run (eval room) (around_of around.now W.reading) place.now name.now
+        (W.asked world.new) (set_run (eval room) (around_of around.now W.reading W.calls) place.now name.now
         (items_seen indexes.now) (item_seen right.now)) }
-    ensures counted { steps.new + live.new.left ≡ steps.old + live.old.left }
+    ensures counted { steps.new + live.new.work.left ≡ steps.old + live.old.work.left }
 {
     let keys = open_values(alloc, indexes, room, around, live, world, steps)?;
     let value = open_item(alloc, right, room, around, live, world, steps)?;

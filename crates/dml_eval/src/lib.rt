@@ -1,27 +1,21 @@
 //! The evaluator of DML: an item's value, its first fault, or the object that it has to ask for,
 //! with the work used.
 //!
-//! In reading order: `stop` (early ends), `world` (what is asked), `frame` (what stands around DML,
-//! and what it changes), `leaf` (faults, steps, values), `names` and `indexes` (reading and
-//! changing values), and the evaluation proper, in one file per part: `items`, `loops`, `nodes`
-//! (operands), `chains` (operators), `calls`. The built-in functions that look at more than values
-//! (`exists`, `append`, `create` and their like) are not built: they end in want of memory.
+//! What it stands on are the crates `dml_world` (what is asked, and what stands around an item) and
+//! `dml_leaves` (all that opens no item). In reading order, one file per part of the evaluation:
+//! `items`, `loops`, `nodes` (operands), `chains` (operators), `calls`, `references` (arguments that
+//! are references), `built_in` (the built-in functions that look at more than values), `creating`
+//! (the statements of structure templates), and `dml`, the call from outside.
 #![tactic(auto)]
 
+mod built_in;
 mod calls;
 mod chains;
-mod frame;
-mod indexes;
+mod creating;
+mod dml;
 mod items;
-mod leaf;
 mod loops;
-mod names;
 mod nodes;
-mod stop;
-mod values;
-mod world;
+mod references;
 
-pub use frame::{Around, Called, Fixed, Function, Functions, Live};
-pub use items::open_item;
-pub use stop::{Exit, Question};
-pub use world::{Foreign, World, WorldStop};
+pub use dml::run_dml;

@@ -1,24 +1,21 @@
 ghost use Rattle.std.specs.Prelude.{◌≡◌, ◌+◌, ◌<◌, ◌-◌, IfOk, IfSome};
-ghost use Rattle.dml_eval.specs.Exits.{Follows};
-ghost use Rattle.dml_eval.specs.Seen.{around_of};
-ghost use Rattle.dml_meaning.specs.Meaning.{each_of, eval, for_turn, for_turns, item_run, key_value, pair_at, pair_turn, set_pair, while_turn, while_turns};
+ghost use Rattle.dml_world.specs.Exits.{Follows};
+ghost use Rattle.dml_world.specs.Seen.{around_of};
+ghost use Rattle.dml_meaning.specs.Meaning.{each_of, eval, for_turn, for_turns, item_run, pair_at, pair_turn, while_turn, while_turns};
 ghost use Rattle.pan_ast.specs.Seen.{item_seen};
 ghost use Rattle.pan_ast.specs.Syntax.{For, Foreach};
 ghost use Rattle.path_tree.specs.Find.{child_count};
 ghost use Rattle.path_tree.specs.Plain.{undef};
 
-use crate::frame::{Around, Live};
-use crate::indexes::passes;
 use crate::items::{holds, open_item};
-use crate::leaf::fault;
-use crate::names::assign_name;
-use crate::stop::Exit;
-use crate::world::World;
 use base::{Steps, Text};
+use dml_leaves::pairs::set_pair;
 use dml_meaning::Test;
+use dml_world::leaf::{fault, passes};
+use dml_world::{Around, Exit, Live, World};
 use pan_ast::{Code, Item, Place};
 use path_tree::Tree;
-use std::alloc::{AllocError, Global};
+use std::alloc::Global;
 use std::sync::ledger::Ledger;
 
 /// One turn of a `while`, where `left` more may be made: its value, or none where the loop is over.
@@ -37,9 +34,9 @@ fn turn_while<W: World, L: Ledger>(
     steps: &mut Steps<L>,
 ) -> Result<Option<Tree>, Exit>
     ensures gives { Follows (λ t. t) result W.answers live.old (W.asked world.old) live.new
-        (W.asked world.new) (while_turn left (eval room) (around_of around.now W.reading) place.now
+        (W.asked world.new) (while_turn left (eval room) (around_of around.now W.reading W.calls) place.now
         (item_seen condition.now) (item_seen body.now)) }
-    ensures counted { steps.new + live.new.left ≡ steps.old + live.old.left }
+    ensures counted { steps.new + live.new.work.left ≡ steps.old + live.old.work.left }
     ensures goes_on { IfOk result (λ o. IfSome o (λ _. 0 < left)) }
 {
     if !holds(alloc, condition, room, around, live, world, steps)? {
@@ -67,13 +64,13 @@ pub(crate) fn run_while<W: World, L: Ledger>(
     steps: &mut Steps<L>,
 ) -> Result<Tree, Exit>
     ensures gives { Follows (λ t. t) result W.answers live.old (W.asked world.old) live.new
-        (W.asked world.new) (while_turns around.now.fixed.now.max_iteration (eval room)
-        (around_of around.now W.reading) place.now (item_seen condition.now) (item_seen body.now)
+        (W.asked world.new) (while_turns around.now.frame.now.max_iteration (eval room)
+        (around_of around.now W.reading W.calls) place.now (item_seen condition.now) (item_seen body.now)
         undef) }
-    ensures counted { steps.new + live.new.left ≡ steps.old + live.old.left }
+    ensures counted { steps.new + live.new.work.left ≡ steps.old + live.old.work.left }
 {
     let mut last = Tree::undef();
-    let mut left = around.fixed.max_iteration;
+    let mut left = around.frame.max_iteration;
     'turns: while let Some(value) = turn_while(
         alloc, left, place, condition, body, room, around, live, world, steps,
     )? {
@@ -100,9 +97,9 @@ fn turn_for<W: World, L: Ledger>(
     steps: &mut Steps<L>,
 ) -> Result<Option<Tree>, Exit>
     ensures gives { Follows (λ t. t) result W.answers live.old (W.asked world.old) live.new
-        (W.asked world.new) (for_turn left (eval room) (around_of around.now W.reading) place.now
+        (W.asked world.new) (for_turn left (eval room) (around_of around.now W.reading W.calls) place.now
         (item_seen condition.now) (item_seen step.now) (item_seen body.now)) }
-    ensures counted { steps.new + live.new.left ≡ steps.old + live.old.left }
+    ensures counted { steps.new + live.new.work.left ≡ steps.old + live.old.work.left }
     ensures goes_on { IfOk result (λ o. IfSome o (λ _. 0 < left)) }
 {
     let turned = turn_while(
@@ -131,13 +128,13 @@ fn turns_for<W: World, L: Ledger>(
     steps: &mut Steps<L>,
 ) -> Result<Tree, Exit>
     ensures gives { Follows (λ t. t) result W.answers live.old (W.asked world.old) live.new
-        (W.asked world.new) (for_turns around.now.fixed.now.max_iteration (eval room)
-        (around_of around.now W.reading) place.now (item_seen condition.now) (item_seen step.now)
+        (W.asked world.new) (for_turns around.now.frame.now.max_iteration (eval room)
+        (around_of around.now W.reading W.calls) place.now (item_seen condition.now) (item_seen step.now)
         (item_seen body.now) undef) }
-    ensures counted { steps.new + live.new.left ≡ steps.old + live.old.left }
+    ensures counted { steps.new + live.new.work.left ≡ steps.old + live.old.work.left }
 {
     let mut last = Tree::undef();
-    let mut left = around.fixed.max_iteration;
+    let mut left = around.frame.max_iteration;
     'turns: while let Some(value) = turn_for(
         alloc, left, place, condition, step, body, room, around, live, world, steps,
     )? {
@@ -164,10 +161,10 @@ pub(crate) fn run_for<W: World, L: Ledger>(
     steps: &mut Steps<L>,
 ) -> Result<Tree, Exit>
     ensures gives { Follows (λ t. t) result W.answers live.old (W.asked world.old) live.new
-        (W.asked world.new) (item_run (eval room) (around_of around.now W.reading)
+        (W.asked world.new) (item_run (eval room) (around_of around.now W.reading W.calls)
         (For place.now (item_seen first.now) (item_seen condition.now) (item_seen step.now)
         (item_seen body.now))) }
-    ensures counted { steps.new + live.new.left ≡ steps.old + live.old.left }
+    ensures counted { steps.new + live.new.work.left ≡ steps.old + live.old.work.left }
 {
     open_item(alloc, first, room, around, live, world, steps)?;
     turns_for(
@@ -192,30 +189,14 @@ pub(crate) fn run_foreach<W: World, L: Ledger>(
     steps: &mut Steps<L>,
 ) -> Result<Tree, Exit>
     ensures gives { Follows (λ t. t) result W.answers live.old (W.asked world.old) live.new
-        (W.asked world.new) (item_run (eval room) (around_of around.now W.reading)
+        (W.asked world.new) (item_run (eval room) (around_of around.now W.reading W.calls)
         (Foreach place.now key.now value.now (item_seen container.now) (item_seen body.now))) }
-    ensures counted { steps.new + live.new.left ≡ steps.old + live.old.left }
+    ensures counted { steps.new + live.new.work.left ≡ steps.old + live.old.work.left }
 {
     let walked = open_item(alloc, container, room, around, live, world, steps)?;
     walk(
         alloc, place, key, value, &walked, body, room, around, live, world, steps,
     )
-}
-
-/// The key of the child at a place: its index in a list, its key in a dict.
-#[tactic(auto, using(crate::proofs::Trees::keys))]
-fn key_at(alloc: Global, walked: &Tree, i: usize) -> Result<Tree, AllocError>
-    requires { i < child_count walked.now }
-    ensures { IfOk result (λ t. t ≡ key_value i walked.now) }
-{
-    let _size = walked.size();
-    match walked.key_at(i) {
-        None => Ok(Tree::long(i as i64)),
-        Some(key) => match Tree::text(alloc, key) {
-            Ok(value) => Ok(value),
-            Err(_) => Err(AllocError),
-        },
-    }
 }
 
 /// One turn of a `foreach`, over the child at a place.
@@ -237,49 +218,16 @@ fn turn_pair<W: World, L: Ledger>(
 ) -> Result<Tree, Exit>
     requires within { i < child_count walked.now }
     ensures gives { Follows (λ t. t) result W.answers live.old (W.asked world.old) live.new
-        (W.asked world.new) (pair_turn (around.now.fixed.now.max_iteration
-        - i) (eval room) (around_of around.now W.reading) place.now key.now value.now
+        (W.asked world.new) (pair_turn (around.now.frame.now.max_iteration
+        - i) (eval room) (around_of around.now W.reading W.calls) place.now key.now value.now
         (item_seen body.now) (pair_at i walked.now)) }
-    ensures counted { steps.new + live.new.left ≡ steps.old + live.old.left }
+    ensures counted { steps.new + live.new.work.left ≡ steps.old + live.old.work.left }
 {
-    if around.fixed.max_iteration <= i as u64 {
+    if around.frame.max_iteration <= i as u64 {
         return Err(fault(alloc, Code::Iterations, place));
     }
     set_pair(alloc, i, place, key, value, walked, around, live, world)?;
     open_item(alloc, body, room, around, live, world, steps)
-}
-
-/// Sets the names of key and value.
-fn set_pair<W: World>(
-    alloc: Global,
-    i: usize,
-    place: &Place,
-    key: &Text,
-    value: &Text,
-    walked: &Tree,
-    around: &Around<'_>,
-    live: &mut Live,
-    world: &W,
-) -> Result<(), Exit>
-    requires { i < child_count walked.now }
-    ensures gives { Follows (λ t. t) result W.answers live.old (W.asked world.now) live.new
-        (W.asked world.now) (set_pair (around_of around.now W.reading) place.now key.now value.now
-        (pair_at i walked.now)) }
-    ensures left { live.new.left ≡ live.old.left }
-{
-    let Some(child) = walked.child_at(i) else {
-        return Err(Exit::Memory);
-    };
-    assign_name(
-        alloc,
-        place,
-        key,
-        &key_at(alloc, walked, i)?,
-        around,
-        live,
-        world,
-    )?;
-    assign_name(alloc, place, value, child, around, live, world)
 }
 
 /// The turns of a `foreach`: the value of the last one.
@@ -299,9 +247,9 @@ fn walk<W: World, L: Ledger>(
     steps: &mut Steps<L>,
 ) -> Result<Tree, Exit>
     ensures gives { Follows (λ t. t) result W.answers live.old (W.asked world.old) live.new
-        (W.asked world.new) (each_of (eval room) (around_of around.now W.reading) place.now key.now
+        (W.asked world.new) (each_of (eval room) (around_of around.now W.reading W.calls) place.now key.now
         value.now (item_seen body.now) walked.now) }
-    ensures counted { steps.new + live.new.left ≡ steps.old + live.old.left }
+    ensures counted { steps.new + live.new.work.left ≡ steps.old + live.old.work.left }
 {
     if !passes(Test::Resource, walked.kind()) {
         return Err(fault(alloc, Code::BadArgument, place));

@@ -1,23 +1,21 @@
 ghost use Rattle.std.specs.Prelude.{◌≡◌, ◌+◌, ◌≤◌, IfOk};
-ghost use Rattle.dml_eval.specs.Exits.{Follows};
-ghost use Rattle.dml_eval.specs.Seen.{around_of};
-ghost use Rattle.dml_eval.specs.Waits.{Leads, node_weight, operand_run, operand_weight};
+ghost use Rattle.dml_world.specs.Exits.{Follows};
+ghost use Rattle.dml_world.specs.Seen.{around_of};
+ghost use Rattle.dml_eval.specs.Waits.{Leads, operand_run, operand_weight};
+ghost use Rattle.dml_leaves.specs.Weights.{node_weight};
 ghost use Rattle.dml_meaning.specs.Meaning.{eval, node_run};
 ghost use Rattle.pan_ast.specs.Seen.{node_seen};
-ghost use Rattle.path_tree.specs.Plain as plain;
 
 use crate::calls::run_call;
 use crate::chains::{Chain, run_chain};
-use crate::frame::{Around, Live};
 use crate::items::open_item;
-use crate::leaf::{apply_unary, fault, literal};
-use crate::names::run_name;
-use crate::stop::Exit;
-use crate::world::World;
-use base::{Steps, Text};
+use base::Steps;
+use dml_leaves::names::run_name;
+use dml_world::leaf::{apply_unary, fault, literal, text_value};
+use dml_world::{Around, Exit, Live, World};
 use pan_ast::{Code, Form, Node, Place};
 use path_tree::{Tree, UnaryOp};
-use std::alloc::{AllocError, Global};
+use std::alloc::Global;
 use std::sync::ledger::Ledger;
 
 /// What an operand is: a value, which was evaluated, or a chain, which was not.
@@ -25,16 +23,6 @@ use std::sync::ledger::Ledger;
 pub(crate) enum Operand<'a> {
     Value(Tree),
     Chain(Chain<'a>),
-}
-
-/// The value of a text literal.
-fn text_value(text: &Text) -> Result<Tree, AllocError>
-    ensures { IfOk result (λ t. t ≡ plain.text text.now) }
-{
-    match Tree::shared_text(text) {
-        Ok(value) => Ok(value),
-        Err(_) => Err(AllocError),
-    }
 }
 
 /// An operand, or a chain.
@@ -49,9 +37,9 @@ pub(crate) fn run_node<W: World, L: Ledger>(
     steps: &mut Steps<L>,
 ) -> Result<Tree, Exit>
     ensures gives { Follows (λ t. t) result W.answers live.old (W.asked world.old) live.new
-        (W.asked world.new) (node_run (eval room) (around_of around.now W.reading)
+        (W.asked world.new) (node_run (eval room) (around_of around.now W.reading W.calls)
         (node_seen node.now)) }
-    ensures counted { steps.new + live.new.left ≡ steps.old + live.old.left }
+    ensures counted { steps.new + live.new.work.left ≡ steps.old + live.old.work.left }
 {
     match run_operand(alloc, node, room, around, live, world, steps)? {
         Operand::Value(value) => Ok(value),
@@ -61,7 +49,7 @@ pub(crate) fn run_node<W: World, L: Ledger>(
 
 /// An operand, where it is no chain.
 #[cycle(eval)]
-#[tactic(auto, using(pan_ast::proofs::Forms::nodes, dml_meaning::proofs::Chains::at_spine, crate::proofs::Waits::weight_spine), unfolding(dml_meaning::specs::Meaning::node_run))]
+#[tactic(auto, using(pan_ast::proofs::Forms::nodes, dml_meaning::proofs::Chains::at_spine, dml_leaves::proofs::Weights::weight_spine), unfolding(dml_meaning::specs::Meaning::node_run))]
 pub(crate) fn run_operand<'a, W: World, L: Ledger>(
     alloc: Global,
     node: &'a Node,
@@ -71,10 +59,10 @@ pub(crate) fn run_operand<'a, W: World, L: Ledger>(
     world: &mut W,
     steps: &mut Steps<L>,
 ) -> Result<Operand<'a>, Exit>
-    ensures gives { Leads (operand_run (eval room) (around_of around.now W.reading)) result
+    ensures gives { Leads (operand_run (eval room) (around_of around.now W.reading W.calls)) result
         W.answers live.old (W.asked world.old) live.new (W.asked world.new)
-        (node_run (eval room) (around_of around.now W.reading) (node_seen node.now)) }
-    ensures counted { steps.new + live.new.left ≡ steps.old + live.old.left }
+        (node_run (eval room) (around_of around.now W.reading W.calls) (node_seen node.now)) }
+    ensures counted { steps.new + live.new.work.left ≡ steps.old + live.old.work.left }
     ensures lighter { IfOk result (λ o. operand_weight o ≤ node_weight (node_seen node.now)) }
 {
     let place = &node.place;
@@ -119,9 +107,9 @@ fn open_sign<W: World, L: Ledger>(
     steps: &mut Steps<L>,
 ) -> Result<Tree, Exit>
     ensures gives { Follows (λ t. t) result W.answers live.old (W.asked world.old) live.new
-        (W.asked world.new) ((eval room).signs (around_of around.now W.reading) place.now op
+        (W.asked world.new) ((eval room).signs (around_of around.now W.reading W.calls) place.now op
         (node_seen operand.now)) }
-    ensures counted { steps.new + live.new.left ≡ steps.old + live.old.left }
+    ensures counted { steps.new + live.new.work.left ≡ steps.old + live.old.work.left }
 {
     if room == 0 {
         return Err(fault(alloc, Code::CallDepth, place));

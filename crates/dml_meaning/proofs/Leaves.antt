@@ -16,7 +16,7 @@ use Rattle.pan_ast.specs.Syntax.{Item, Node, Reference}
 use Rattle.pan_ast.specs.Templates.{Template}
 use Rattle.questions.specs.declared.key.Key.{Key}
 use Rattle.questions.specs.declared.key.Key.TheVariants.{File, Under}
-use Rattle.questions.specs.Contents.{Content, TooLong, Bytes, Failed, Circular, NoValue, Value, is_circular_answer}
+use Rattle.questions.specs.Contents.{Content, Failed, Circular, NoValue, Value, is_circular_answer}
 use Rattle.pan_ast.specs.Detail.{fault_with}
 use Rattle.questions.specs.Run.{Run, give}
 use Rattle.questions.specs.Laws.{is_circular}
@@ -24,7 +24,7 @@ use Rattle.questions.proofs.Process.{Either}
 use Rattle.questions.proofs.Lawful.{Lawful, FailsCircular, lawful_bind, lawful_give, lawful_return, lawful_fail, lawful_now, lawful_become, lawful_cond, lawful_step, lawful_step_then, lawful_ask_then, lawful_ask_file}
 use Rattle.dml_meaning.specs.Run.{Look}
 use Rattle.dml_meaning.specs.Around.{Around}
-use Rattle.dml_meaning.specs.Lookups.{Present, Long, Whole, or_next, asked_file, first_present, looked_up, on_bytes, or_fault, structure_named, Looked, looked_in, looked_under, look_other, look_at, look_by, look}
+use Rattle.dml_meaning.specs.Lookups.{Present, Long, Whole, or_next, asked_file, tried, first_present, looked_up, on_bytes, or_fault, named_so, of_kind, template_named, structure_named, Looked, looked_in, looked_under, look_other, look_at, look_by, look}
 use Rattle.dml_meaning.specs.Meaning.{Means, Purpose}
 
 -- what may be asked about an object: any file, and any other object; no file reads as the fault of a circular one
@@ -57,15 +57,17 @@ pub ruleset pieces = (lawful_bind, lawful_give, lawful_return, lawful_fail, lawf
 asked_lawful : (may : Key → Type 0) → ((f : List ℕ) → may (File f)) → (p : Place) (f : List ℕ) → Lawful may 0 (asked_file p f)
 asked_lawful may ok p f = search (pieces, lawful_ask_file)
 
-next_lawful : (may : Key → Type 0) (f : List ℕ) (next : Look (Option Present)) (c : Content) → Lawful may 0 next → Lawful may 0 (or_next f next c)
-next_lawful may f next TooLong h = search pieces
-next_lawful may f next (Bytes bs) h = search pieces
-next_lawful may f next _ h = h
+tried_lawful : (may : Key → Type 0) → ((f : List ℕ) → may (File f)) → (p : Place) (f : List ℕ) → Lawful may 0 (tried p f)
+tried_lawful may ok p f = search (pieces, asked_lawful)
+
+next_lawful : (may : Key → Type 0) (next : Look (Option Present)) (x : Option Present) → Lawful may 0 next → Lawful may 0 (or_next next x)
+next_lawful may next (Some x) h = search pieces
+next_lawful may next None h = h
 
 first_lawful : (may : Key → Type 0) → ((f : List ℕ) → may (File f)) → (p : Place) (fs : List (List ℕ)) → Lawful may 0 (first_present p fs)
 unfolding first_present
 first_lawful may ok p [] = search pieces
-first_lawful may ok p (f ∷ fs) = let next = first_lawful may ok p fs in search (pieces, asked_lawful, next_lawful)
+first_lawful may ok p (f ∷ fs) = let next = first_lawful may ok p fs in search (pieces, tried_lawful, next_lawful)
 
 pub looked_up_lawful : (may : Key → Type 0) (a : Around) → Fits may a → (p : Place) (holds : Bool) (name suffix : List ℕ) → Lawful may 0 (looked_up a p holds name suffix)
 looked_up_lawful may a w p holds name suffix = search (pieces, first_lawful)
@@ -79,11 +81,21 @@ fault_lawful : {X : Type 0} → (may : Key → Type 0) (r : Result X Fault) → 
 fault_lawful may (Ok x) h = search pieces
 fault_lawful may (Err f) h = lawful_fail may 0 f (h f refl)
 
+named_so_lawful : (may : Key → Type 0) (name : List ℕ) (z : Template) → Lawful may 0 (named_so name z)
+named_so_lawful may name z = search pieces
+
+of_kind_lawful : (may : Key → Type 0) (p : Place) (name : List ℕ) (z : Template) → Lawful may 0 (of_kind p name z)
+of_kind_lawful may p name z = search pieces
+
+pub template_lawful : (may : Key → Type 0) (a : Around) → Fits may a → (p : Place) (name : List ℕ) → Lawful may 0 (template_named a p name)
+unfolding template_named
+template_lawful may a w p name =
+    let read = λ (f bs : List ℕ). fault_lawful may (a.reading f bs) (w.plain f bs) in
+    search (pieces, looked_up_lawful, bytes_lawful, named_so_lawful)
+
 pub structure_lawful : (may : Key → Type 0) (a : Around) → Fits may a → (p : Place) (name : List ℕ) → Lawful may 0 (structure_named a p name)
 unfolding structure_named
-structure_lawful may a w p name =
-    let read = λ (f bs : List ℕ). fault_lawful may (a.reading f bs) (w.plain f bs) in
-    search (pieces, looked_up_lawful, bytes_lawful)
+structure_lawful may a w p name = search (pieces, template_lawful, of_kind_lawful)
 
 -- paths: F31 exactly where the answer is Circular
 

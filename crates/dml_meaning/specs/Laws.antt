@@ -13,6 +13,7 @@ use Rattle.questions.specs.Told.{Ending, answer_by, whole}
 use Rattle.dml_meaning.specs.Run.{Env, Run}
 use Rattle.dml_meaning.specs.Around.{Around}
 use Rattle.dml_meaning.specs.Meaning.{eval}
+use Rattle.dml_meaning.specs.declared.limits.TheConstants.{MAX_OPEN_ITEMS}
 
 -- no file's fault is that of a circular object
 pub record IsReading (reading : List ℕ → List ℕ → Result Template Fault) : Type 0 where
@@ -36,9 +37,9 @@ abbrev pub is_circular_end : Result Ended Fault → Bool
 is_circular_end (Ok x) = false
 is_circular_end (Err f) = is_circular f.code
 
--- where 1,000 items may be open
+-- where as many items may be open as ever
 abbrev pub item_meaning : Around → Item → Run Plain
-item_meaning a i = (eval 1000).opens a i
+item_meaning a i = (eval MAX_OPEN_ITEMS).opens a i
 
 abbrev pub item_told : Around → Item → Env → List (Key × Content) → Outcome Env Plain
 item_told a i e pairs = item_meaning a i (answer_in pairs) e whole

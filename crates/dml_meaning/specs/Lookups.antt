@@ -1,9 +1,10 @@
 -- Files that are looked up by a name, and values that are read by a path.
 use Rattle.std.specs.Prelude.{ℕ, Bool, true, false, List, [], ◌∷◌, Option, Some, None, Result, Ok, Err, codes, bytes_eq, cond}
 use Rattle.load_path.specs.Candidates.{candidates}
-use Rattle.path_tree.specs.Plain.{Plain, list, text, Items, no_items, item}
+use Rattle.path_tree.specs.Plain.{Plain, list}
 use Rattle.path_tree.specs.Grammar.{is_name}
-use Rattle.path_tree.specs.Find.{get}
+use Rattle.path_tree.specs.Find.{get, text_of}
+use Rattle.path_tree.specs.Lists.{items_in}
 use Rattle.path_tree.specs.Paths.{path_of}
 use Rattle.path_tree.specs.declared.path.Term.{Term}
 use Rattle.path_tree.specs.declared.path.Path.{Path}
@@ -22,15 +23,18 @@ use Rattle.questions.specs.Run.{Run, ◌>>=◌, give, fail_about, fail_with, ste
 use Rattle.dml_meaning.specs.Run.{Look}
 use Rattle.dml_meaning.specs.Around.{Around, found}
 
--- the texts among the items of a list
-abbrev pub texts_in : Items → List (List ℕ)
-texts_in no_items = []
-texts_in (item (text t) ts) = t ∷ texts_in ts
-texts_in (item t ts) = texts_in ts
+abbrev pub with_text : Option (List ℕ) → List (List ℕ) → List (List ℕ)
+with_text None texts = texts
+with_text (Some t) texts = t ∷ texts
+
+-- the texts among values
+abbrev pub texts_in : List Plain → List (List ℕ)
+texts_in [] = []
+texts_in (t ∷ ts) = with_text (text_of t) (texts_in ts)
 
 -- the prefixes that a LOADPATH gives
 abbrev pub load_path : Option Plain → List (List ℕ)
-load_path (Some (list ts)) = texts_in ts
+load_path (Some (list ts)) = texts_in (items_in ts)
 load_path _ = []
 
 -- the file names under which a name is looked for
@@ -43,10 +47,10 @@ pub data Present : Type 0 where
   Long : List ℕ → Present
   Whole : List ℕ → List ℕ → Present
 
-abbrev pub or_next : List ℕ → Look (Option Present) → Content → Look (Option Present)
-or_next f next TooLong = give (Some (Long f))
-or_next f next (Bytes bs) = give (Some (Whole f bs))
-or_next f next _ = next
+abbrev pub present : List ℕ → Content → Option Present
+present f TooLong = Some (Long f)
+present f (Bytes bs) = Some (Whole f bs)
+present f _ = None
 
 -- a file is asked, which is a step
 abbrev pub asked_file : Place → List ℕ → Look Content
@@ -54,12 +58,17 @@ asked_file p f = do
   _ ← step p
   ask (File f)
 
+abbrev pub tried : Place → List ℕ → Look (Option Present)
+tried p f = asked_file p f >>= (λ content. give (present f content))
+
+abbrev pub or_next : Look (Option Present) → Option Present → Look (Option Present)
+or_next next (Some x) = give (Some x)
+or_next next None = next
+
 -- the first of these files that is there
 unfoldable pub first_present : Place → List (List ℕ) → Look (Option Present)
 first_present p [] = give None
-first_present p (f ∷ fs) = do
-  content ← asked_file p f
-  or_next f (first_present p fs) content
+first_present p (f ∷ fs) = tried p f >>= or_next (first_present p fs)
 
 -- a file by a name with a suffix; a name that is none finds nothing, and no file is asked
 abbrev pub looked_up : Around → Place → Bool → List ℕ → List ℕ → Look (Option Present)
@@ -89,13 +98,16 @@ is_structure _ = false
 abbrev pub of_kind : Place → List ℕ → Template → Look Template
 of_kind p name z = cond (is_structure z.kind) (give z) (fail_about code.WrongKind p name)
 
--- the structure template of a name
-unfoldable pub structure_named : Around → Place → List ℕ → Look Template
-structure_named a p name = do
+-- the template of a name, as its file spells it: the file's first fault is that of the lookup
+unfoldable pub template_named : Around → Place → List ℕ → Look Template
+template_named a p name = do
   file ← looked_up a p (is_name name) name (codes ".pan")
   z ← on_bytes p name (λ f bs. or_fault (a.reading f bs)) file
-  w ← named_so name z
-  of_kind p name w
+  named_so name z
+
+-- the structure template of a name
+unfoldable pub structure_named : Around → Place → List ℕ → Look Template
+structure_named a p name = template_named a p name >>= of_kind p name
 
 -- what stands at a path of this object or of another
 pub data Looked : Type 0 where

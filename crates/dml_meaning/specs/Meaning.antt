@@ -6,12 +6,14 @@ use Rattle.std.specs.Str.{is_utf8}
 use Rattle.path_tree.specs.Plain.{Plain, dict, list, text, long, boolean, undef, null, Items as Trees, no_items, item, Fields, no_fields, field}
 use Rattle.load_path.specs.FileNames.{is_file_name}
 use Rattle.path_tree.specs.Grammar.{is_key, is_name}
-use Rattle.path_tree.specs.Find.{get, child_at, child_count, field_key_at}
+use Rattle.path_tree.specs.Find.{get, child_at, child_count, field_key_at, kind_of, text_of}
 use Rattle.path_tree.specs.Paths.{path_of}
 use Rattle.path_tree.specs.Put.{put}
 use Rattle.path_tree.specs.Remove.{remove}
 use Rattle.path_tree.specs.declared.operators.UnaryOp.{UnaryOp}
 use Rattle.path_tree.specs.declared.operators.BinaryOp.{BinaryOp}
+use Rattle.path_tree.specs.declared.kind.Kind.{Kind}
+use Rattle.path_tree.specs.declared.kind.Kind.TheVariants as kind
 use Rattle.path_tree.specs.declared.refused.Refused.{Refused}
 use Rattle.path_tree.specs.declared.refused.Refused.TheVariants as refused
 use Rattle.path_tree.specs.declared.path.Term.{Term}
@@ -35,15 +37,15 @@ use Rattle.dml_meaning.specs.declared.words.Own.{Own}
 use Rattle.dml_meaning.specs.declared.words.Own.TheVariants as own
 use Rattle.dml_meaning.specs.declared.words.Side.{Side}
 use Rattle.dml_meaning.specs.declared.words.Test.{Test}
-use Rattle.dml_meaning.specs.declared.words.ValueCall.{ValueCall}
+use Rattle.dml_meaning.specs.declared.words.Test.TheVariants as test
 use Rattle.questions.specs.Run as questions
 use Rattle.questions.specs.Run.{◌>>=◌, give, return_with, fail, fail_about, step, now, become, scoped, still}
 use Rattle.dml_meaning.specs.Run.{Env, Run}
-use Rattle.dml_meaning.specs.Around.{Around, Called, in_call, in_create, in_include, in_template, in_statement, found, with_local, without_local, found_function}
+use Rattle.dml_meaning.specs.Around.{Around, Called, ValueCall, in_call, in_create, in_include, in_template, in_statement, found, with_local, without_local, found_function}
 use Rattle.dml_meaning.specs.Indexes.{at_index, changed, deleted}
-use Rattle.dml_meaning.specs.Words.{automatic_of, own_of, value_call_of}
+use Rattle.dml_meaning.specs.Words.{automatic_of, own_of}
 use Rattle.path_tree.specs.Lists.{list_of}
-use Rattle.dml_meaning.specs.Values.{has_null, is_nothing, is_container, extended, passes_option, value_called}
+use Rattle.dml_meaning.specs.Values.{has_null, is_nothing, is_container, extended, passes, passes_option}
 use Rattle.dml_meaning.specs.Lookups.{Looked, NoObject, Nothing, There, Present, look, looked_up, on_bytes, structure_named}
 
 -- why a reference stands as an argument: to be read, to be deleted by a call at a place, to be
@@ -150,6 +152,14 @@ abbrev pub or_refuse : Place → Result Plain Refused → Run Plain
 or_refuse p (Ok t) = give t
 or_refuse p (Err r) = fail (code_of r) p
 
+-- goes on with a text; any other value is a bad argument
+abbrev pub on_text_of : Place → (List ℕ → Run Plain) → Option (List ℕ) → Run Plain
+on_text_of p next (Some t) = next t
+on_text_of p next None = fail code.BadArgument p
+
+abbrev pub on_text : Place → (List ℕ → Run Plain) → Plain → Run Plain
+on_text p next v = on_text_of p next (text_of v)
+
 abbrev pub as_boolean : Code → Place → Plain → Run Bool
 as_boolean c p (boolean b) = give b
 as_boolean c p _ = fail c p
@@ -218,6 +228,12 @@ values_from go a (more i is) done = do
   t ← go.opens a i
   values_from go a is (done ++ t ∷ [])
 
+-- what an index of a reference leads to, from what was reached so far
+abbrev pub index_step : Place → Option Plain → Plain → Run (Option Plain)
+index_step p t k = do
+  _ ← step p
+  give (option_and_then (at_index k) t)
+
 -- the indexes of a reference after those that were looked at; all: also where they lead nowhere
 unfoldable pub reach_from : Bool → Means → Around → Place → Items → List Plain → Option Plain
     → Run Reached
@@ -225,8 +241,8 @@ reach_from all go a p none ks t = give (record { keys = ks; value = t })
 reach_from all go a p (more i is) ks t =
     cond (is_none t && not all) (give (record { keys = ks; value = t })) (do
       k ← go.opens a i
-      _ ← step p
-      reach_from all go a p is (ks ++ k ∷ []) (option_and_then (at_index k) t))
+      u ← index_step p t k
+      reach_from all go a p is (ks ++ k ∷ []) u)
 
 abbrev pub is_change : Purpose → Bool
 is_change ToChange = true
@@ -243,11 +259,15 @@ start_run a (ToDelete q) x whole = do
   t ← or_fail_about code.NoVariable q x (root_of e x)
   give (Some t)
 
-unfoldable pub reach_run : Means → Around → Purpose → Reference → Run Reached
-reach_run go a w (Refer p x is) = do
+-- the name of a reference
+abbrev pub started : Around → Purpose → Reference → Run (Option Plain)
+started a w (Refer p x is) = do
   _ ← step p
-  t ← start_run a w x (no_indexes is)
-  reach_from (is_change w) go a p is [] t
+  start_run a w x (no_indexes is)
+
+unfoldable pub reach_run : Means → Around → Purpose → Reference → Run Reached
+reach_run go a w (Refer p x is) =
+    started a w (Refer p x is) >>= reach_from (is_change w) go a p is []
 
 abbrev pub reference_on : Node → Items → Option Reference
 reference_on (Name p x) is = Some (Refer p x is)
@@ -397,57 +417,70 @@ put_fault (Err _) p d = fail_about code.BadPath p d
 
 abbrev pub assigned_at : {S : Type 0} → Place → List ℕ → List Term → Plain → Plain
     → questions.Run S Plain
-assigned_at p d ms t null = give (remove ms t)
-assigned_at p d ms t v = put_fault (put ms v t) p d
+assigned_at p d ms t v = cond (is_nothing v) (give (remove ms t)) (put_fault (put ms v t) p d)
 
 abbrev pub is_set : Option Plain → Bool
 is_set None = false
 is_set (Some undef) = false
 is_set (Some t) = true
 
+-- the DML of an assignment, where SELF is what stands at the path, and the change
+abbrev pub assign_value : {S : Type 0} → Means → Around → Place → List ℕ → List Term → Item → Plain
+    → questions.Run S Plain
+assign_value go a p d ms i t =
+    dml_run go a false (unwrap_or (get ms t) undef) i >>= assigned_at p d ms t
+
 -- an assignment to a path of what is made; a conditional one only where the path is not set
 unfoldable pub assignment_run : {S : Type 0} → Means → Around → Place → List ℕ → List Term → Bool
     → Item → Plain → questions.Run S Plain
-assignment_run go a p d ms conditional i t = cond (conditional && is_set (get ms t)) (give t) (do
-  v ← dml_run go a false (unwrap_or (get ms t) undef) i
-  assigned_at p d ms t v)
+assignment_run go a p d ms conditional i t =
+    cond (conditional && is_set (get ms t)) (give t) (assign_value go a p d ms i t)
 
-abbrev pub assign_under : Means → Around → Place → List ℕ → Bool → Item → Plain → Anchor → List Term
-    → Run Plain
-assign_under go a p d c i t anchor.Absolute ms = fail code.WrongStatement p
-assign_under go a p d c i t anchor.Relative ms = assignment_run go a p d ms c i t
-assign_under go a p d c i t (anchor.External o) ms = fail_about code.BadPath p d
+-- the terms of a relative path: a structure template assigns to no other
+abbrev pub relative_by : Place → List ℕ → Anchor → List Term → Run (List Term)
+relative_by p d anchor.Absolute ms = fail code.WrongStatement p
+relative_by p d anchor.Relative ms = give ms
+relative_by p d (anchor.External o) ms = fail_about code.BadPath p d
 
-abbrev pub assign_by : Means → Around → Place → List ℕ → Bool → Item → Plain → Result Path PathError
-    → Run Plain
-assign_by go a p d c i t (Err e) = fail_about code.BadPath p d
-assign_by go a p d c i t (Ok path) = assign_under go a p d c i t path.anchor path.terms
+abbrev pub relative_terms : Place → List ℕ → Result Path PathError → Run (List Term)
+relative_terms p d (Err e) = fail_about code.BadPath p d
+relative_terms p d (Ok path) = relative_by p d path.anchor path.terms
+
+abbrev pub assign_by : Means → Around → Place → List ℕ → Bool → Item → Plain → Run Plain
+assign_by go a p d c i t =
+    relative_terms p d (path_of d) >>= (λ ms. assignment_run go a p d ms c i t)
 
 -- how a template is included, by its name
 abbrev pub Includes : Type 0
 Includes = Around → Place → List ℕ → Plain → Run Plain
 
+-- undef and null include nothing
+abbrev pub include_by : Includes → Around → Place → Plain → Plain → Option (List ℕ) → Run Plain
+include_by including a p t v (Some name) = including a p name t
+include_by including a p t v None =
+    cond (passes test.Defined (kind_of v)) (fail code.BadArgument p) (give t)
+
 abbrev pub include_value : Includes → Around → Place → Plain → Plain → Run Plain
-include_value including a p t (text name) = including a p name t
-include_value including a p t undef = give t
-include_value including a p t null = give t
-include_value including a p t _ = fail code.BadArgument p
+include_value including a p t v = include_by including a p t v (text_of v)
 
 -- a statement of a structure template, over what is made so far
 unfoldable pub statement_run : Includes → Means → Around → Place → StatementForm → Plain → Run Plain
-statement_run including go a p (statement.Assign false d c i) t =
-    assign_by go a p d c i t (path_of d)
+statement_run including go a p (statement.Assign false d c i) t = assign_by go a p d c i t
 statement_run including go a p (statement.Include i) t = do
   v ← dml_run go a true undef i
   include_value including a p t v
 statement_run including go a p _ t = fail code.WrongStatement p
 
+-- a statement costs a step when it begins
+abbrev pub begin_statement : Includes → Means → Around → Statement → Plain → Run Plain
+begin_statement including go a s t = do
+  _ ← step s.place
+  statement_run including go a s.place s.form t
+
 unfoldable pub statements_from : Includes → Means → Around → List Statement → Plain → Run Plain
 statements_from including go a [] t = give t
-statements_from including go a (s ∷ ss) t = do
-  _ ← step s.place
-  u ← statement_run including go a s.place s.form t
-  statements_from including go a ss u
+statements_from including go a (s ∷ ss) t =
+    begin_statement including go a s t >>= statements_from including go a ss
 
 -- a structure template that is included where n more may be open
 unfoldable pub included : ℕ → Means → Includes
@@ -456,42 +489,39 @@ included (suc n) go a p name t = do
   z ← still (structure_named a p name)
   statements_from (included n go) go (in_template (in_include a) z.name) z.statements t
 
-abbrev pub with_pair : List ℕ → Plain → Option (List (List ℕ × Plain))
-    → Option (List (List ℕ × Plain))
-with_pair k v None = None
-with_pair k v (Some ps) = Some ((k, v) ∷ ps)
+-- a key is set; null removes it
+abbrev pub set_key : Place → Plain → Plain → List ℕ → Run Plain
+set_key p v t k = cond (is_key k) (assigned_at p k (term.Key k ∷ []) t v) (fail code.BadIndex p)
 
--- the keys and values that `create` takes after the name
-abbrev pub key_pairs : List Plain → Option (List (List ℕ × Plain))
-key_pairs [] = Some []
-key_pairs (text k ∷ v ∷ ts) = with_pair k v (key_pairs ts)
-key_pairs _ = None
+-- whether values are keys, each with its value behind it
+abbrev pub are_pairs : List Plain → Bool
+are_pairs [] = true
+are_pairs (k ∷ []) = false
+are_pairs (k ∷ v ∷ ts) = is_some (text_of k) && are_pairs ts
 
--- each key set in turn; null removes it
-abbrev pub set_key : Place → List ℕ → Plain → Plain → Run Plain
-set_key p k v t = cond (is_key k) (assigned_at p k (term.Key k ∷ []) t v) (fail code.BadIndex p)
+-- each key of such pairs set in turn
+unfoldable pub set_keys : Place → List Plain → Plain → Run Plain
+set_keys p (k ∷ v ∷ ts) t = do
+  u ← on_text p (set_key p v t) k
+  set_keys p ts u
+set_keys p _ t = give t
 
-unfoldable pub set_keys : Place → List (List ℕ × Plain) → Plain → Run Plain
-set_keys p [] t = give t
-set_keys p (pair ∷ pairs) t = do
-  u ← set_key p pair.0 pair.1 t
-  set_keys p pairs u
-
--- 50 includes may be open
-unfoldable pub create_named : Means → Around → Place → List ℕ → List (List ℕ × Plain) → Run Plain
-create_named go a p name pairs = cond (nat_eq a.calls_left 0) (fail code.CallDepth p) (do
+-- what the statements of a structure template make, from an empty dict on
+abbrev pub created : Means → Around → Place → List ℕ → Run Plain
+created go a p name = do
   z ← still (structure_named a p name)
-  t ← statements_from (included (50 - a.includes) go) go (in_template (in_create a) z.name)
-      z.statements (dict no_fields)
-  set_keys p pairs t)
+  statements_from (included a.includes_left go) go (in_template (in_create a) z.name) z.statements
+      (dict no_fields)
 
-abbrev pub create_by : Means → Around → Place → List ℕ → Option (List (List ℕ × Plain)) → Run Plain
-create_by go a p name (Some pairs) = create_named go a p name pairs
-create_by go a p name None = fail code.BadArgument p
+unfoldable pub create_named : Means → Around → Place → List Plain → List ℕ → Run Plain
+create_named go a p pairs name =
+    cond (nat_eq a.calls_left 0) (fail code.CallDepth p) (created go a p name >>= set_keys p pairs)
 
+-- the name of a structure template, and the keys that are set in what it makes
 abbrev pub create_run : Means → Around → Place → List Plain → Run Plain
-create_run go a p (text name ∷ ts) = create_by go a p name (key_pairs ts)
-create_run go a p _ = fail code.BadArgument p
+create_run go a p [] = fail code.BadArgument p
+create_run go a p (name ∷ pairs) =
+    cond (are_pairs pairs) (on_text p (create_named go a p pairs) name) (fail code.BadArgument p)
 
 -- Built-in functions that look at more than values.
 
@@ -504,26 +534,34 @@ abbrev pub is_there : Looked → Bool
 is_there (There v) = true
 is_there _ = false
 
-abbrev pub path_exists_run : Around → Place → Plain → Run Plain
-path_exists_run a p (text t) = still (look a p t) >>= (λ x. give (boolean (is_there x)))
-path_exists_run a p _ = fail code.BadArgument p
+abbrev pub path_exists_run : Around → Place → List ℕ → Run Plain
+path_exists_run a p t = still (look a p t) >>= (λ x. give (boolean (is_there x)))
 
--- a list, where undef is an empty one, that takes a value
-abbrev pub as_list : Place → Plain → Plain → Run Trees
-as_list p null u = fail code.BadArgument p
-as_list p t null = fail code.BadArgument p
-as_list p (list ts) u = give ts
-as_list p undef u = give no_items
-as_list p _ u = fail code.BadArgument p
+-- a list, where undef is an empty one
+abbrev pub list_by : Place → Plain → Kind → Run Plain
+list_by p t kind.List = give t
+list_by p t kind.Undef = give (list no_items)
+list_by p t _ = fail code.BadArgument p
+
+-- a list that takes a value
+abbrev pub as_list : Place → Plain → Plain → Run Plain
+as_list p t u = cond (is_nothing u) (fail code.BadArgument p) (list_by p t (kind_of t))
+
+abbrev pub set_self : Plain → Run Plain
+set_self t = do
+  e ← now
+  _ ← become (record e { self = t })
+  give t
+
+abbrev pub extend_list : Place → Side → Plain → Plain → Run Plain
+extend_list p s t u = as_list p t u >>= (λ l. or_refuse p (extended s l u))
 
 abbrev pub extend_self : Around → Place → Side → Plain → Run Plain
 extend_self a p s v =
     cond (is_nothing v) (fail code.BadArgument p) (cond a.fixed (fail code.SelfChange p) (do
       e ← now
-      ts ← as_list p e.self v
-      t ← or_refuse p (extended s ts v)
-      _ ← become (record e { self = t })
-      give t))
+      t ← extend_list p s e.self v
+      set_self t))
 
 abbrev pub file_text : Place → List ℕ → List ℕ → Run Plain
 file_text p f bs = cond (is_utf8 bs) (give (text bs)) (fail code.BadArgument p)
@@ -531,22 +569,26 @@ file_text p f bs = cond (is_utf8 bs) (give (text bs)) (fail code.BadArgument p)
 abbrev pub if_there : Plain → Option Present → Run Plain
 if_there t x = give (cond (is_some x) t undef)
 
--- a built-in function of the values of its arguments, and of what stands around it
-unfoldable pub own_run : Means → Around → Place → Own → List Plain → Run Plain
-own_run go a p (own.Extend s) (v ∷ []) = extend_self a p s v
-own_run go a p own.Value (text t ∷ []) = still (look a p t) >>= value_found p t
-own_run go a p own.PathExists (t ∷ []) = path_exists_run a p t
-own_run go a p own.Create ts = create_run go a p ts
-own_run go a p own.IfExists (text t ∷ []) =
+-- a built-in function of one text, and of what stands around it
+unfoldable pub text_run : Around → Place → Own → List ℕ → Run Plain
+text_run a p own.Value t = still (look a p t) >>= value_found p t
+text_run a p own.PathExists t = path_exists_run a p t
+text_run a p own.IfExists t =
     still (looked_up a p (is_name t) t (codes ".pan")) >>= if_there (text t)
-own_run go a p own.FileContents (text t ∷ []) =
+text_run a p own.FileContents t =
     still (looked_up a p (is_file_name t) t []) >>= on_bytes p t (file_text p)
-own_run go a p own.FileExists (text t ∷ []) =
+text_run a p own.FileExists t =
     still (looked_up a p (is_file_name t) t []) >>= (λ x. give (boolean (is_some x)))
-own_run go a p own.Error (text t ∷ []) = fail_about code.UserError p t
-own_run go a p own.Return (t ∷ []) = return_with t
-own_run go a p own.Ignore ts = give undef
-own_run go a p _ _ = fail code.BadArgument p
+text_run a p own.Error t = fail_about code.UserError p t
+text_run a p _ t = fail code.BadArgument p
+
+-- a built-in function of the values of its arguments, and of what stands around it
+unfoldable pub own_run : Around → Place → Own → List Plain → Run Plain
+own_run a p (own.Extend s) (v ∷ []) = extend_self a p s v
+own_run a p own.Return (v ∷ []) = return_with v
+own_run a p own.Ignore vs = give undef
+own_run a p b (v ∷ []) = on_text p (text_run a p b) v
+own_run a p b vs = fail code.BadArgument p
 
 -- an argument that is a reference, or another one: what it leads to, or its value
 abbrev pub value_or_nothing : Means → Around → Item → Option Reference → Run (Option Plain)
@@ -560,7 +602,7 @@ test_run go a q i =
 abbrev pub exists_by : Means → Around → Place → Item → Option Reference → Run Plain
 exists_by go a p i (Some r) =
     go.reaches a ToRead (item_place i) r >>= (λ x. give (boolean (is_some x.value)))
-exists_by go a p i None = go.opens a i >>= path_exists_run a p
+exists_by go a p i None = go.opens a i >>= on_text p (path_exists_run a p)
 
 -- without what was reached
 abbrev pub without_root : List ℕ → List Plain → Env → Env
@@ -587,28 +629,35 @@ abbrev pub copy_extended : Means → Around → Place → Side → Item → Item
 copy_extended go a p s l v = do
   t ← go.opens a l
   u ← go.opens a v
-  ts ← as_list p t u
-  or_refuse p (extended s ts u)
+  extend_list p s t u
 
 -- SELF may be changed here, or the name is another one
 abbrev pub may_extend : Around → Place → List ℕ → Run (Unit {0})
 may_extend a p x = cond (is_self (automatic_of x) && a.fixed) (fail code.SelfChange p) (give tt)
 
-abbrev pub reference_extended : Means → Around → Place → Side → Item → Reference → Item → Run Plain
-reference_extended go a p s l (Refer q x is) v = do
-  r ← go.reaches a ToChange (item_place l) (Refer q x is)
-  u ← go.opens a v
-  ts ← as_list p (unwrap_or r.value undef) u
+abbrev pub extend_reached : Around → Place → Side → List ℕ → Reached → Plain → Run Plain
+extend_reached a p s x r u = do
+  l ← as_list p (unwrap_or r.value undef) u
   _ ← may_extend a p x
-  t ← or_refuse p (extended s ts u)
+  t ← or_refuse p (extended s l u)
   _ ← change p x r.keys t
   give t
 
+-- q: the place of the reference as an item
+abbrev pub reference_extended : Means → Around → Place → Side → Place → Reference → Item → Run Plain
+reference_extended go a p s q (Refer o x is) v = do
+  r ← go.reaches a ToChange q (Refer o x is)
+  u ← go.opens a v
+  extend_reached a p s x r u
+
 abbrev pub extend_by : Means → Around → Place → Side → Item → Item → Option Reference → Run Plain
 extend_by go a p s l v None = copy_extended go a p s l v
-extend_by go a p s l v (Some (Refer q x is)) = now
-    >>= (λ e. cond (is_changed a x e) (reference_extended go a p s l (Refer q x is) v)
-    (copy_extended go a p s l v))
+extend_by go a p s l v (Some (Refer q x is)) = now >>= (λ e. cond (is_changed a x e)
+    (reference_extended go a p s (item_place l) (Refer q x is) v) (copy_extended go a p s l v))
+
+-- a built-in function of the values of its arguments
+abbrev pub own_values_run : Means → Around → Place → Own → Items → Run Plain
+own_values_run go a p b args = values_from go a args [] >>= own_run a p b
 
 -- a built-in function that looks at more than values: those that take references look at how an
 -- argument is written
@@ -617,23 +666,24 @@ own_call_run go a p (own.Is q) (more i none) = test_run go a q i
 own_call_run go a p own.Exists (more i none) = exists_by go a p i (reference_in i)
 own_call_run go a p own.Delete (more i none) = delete_by go a p i (reference_in i)
 own_call_run go a p (own.Extend s) (more l (more v none)) = extend_by go a p s l v (reference_in l)
-own_call_run go a p b args = values_from go a args [] >>= own_run go a p b
+own_call_run go a p own.Create args = values_from go a args [] >>= create_run go a p
+own_call_run go a p b args = own_values_run go a p b args
 
 -- a built-in function of values
 abbrev pub values_run : Means → Around → Place → ValueCall → Items → Run Plain
-values_run go a p v args = values_from go a args [] >>= (λ ts. or_refuse p (value_called v ts))
+values_run go a p call args = values_from go a args [] >>= (λ ts. or_refuse p (call ts))
 
 -- a call, by what its name names
 unfoldable pub call_by : Means → Around → Place → List ℕ → Items → Option Own → Option ValueCall
     → Run Plain
 call_by go a p f args (Some b) v = own_call_run go a p b args
-call_by go a p f args None (Some v) = values_run go a p v args
+call_by go a p f args None (Some call) = values_run go a p call args
 call_by go a p f args None None = function_run go a p f args (found_function a.functions f)
 
 abbrev pub call_run : Means → Around → Place → List ℕ → Items → Run Plain
 call_run go a p f args = do
   _ ← step p
-  call_by go a p f args (own_of f) (value_call_of f)
+  call_by go a p f args (own_of f) (a.calls f)
 
 -- Chains and items.
 

@@ -1,2 +1,4 @@
 pub mod Json
+pub mod Dependencies
+-- What inner contracts use.
 pub mod Children

@@ -1,9 +1,12 @@
-//! The text of a profile: a tree as one line of compact JSON (RFC 8259), keys in byte order.
+//! The two texts of an object: its profile, a tree as one line of compact JSON (RFC 8259) with keys in byte order, and
+//! its dependency file.
 //!
-//! In reading order: `writing` (a tree as JSON tokens), `text` (the line).
+//! In reading order: `writing` (a tree as JSON tokens), `text` (the line), `dependencies`.
 #![tactic(auto)]
 
+mod dependencies;
 mod text;
 mod writing;
 
+pub use dependencies::dep_text;
 pub use text::{json_text, profile_text};

@@ -1,12 +1,18 @@
-//! The compiler as a program. It makes the host's devices, calls `pan_top::pan` and ends with its status.
+//! The compiler as a program. It makes a runner of objects and the host's devices, calls `pan_top::pan` and ends with its
+//! status.
 #![tactic(auto)]
 
-use base::Text;
+ghost use Rattle.std.specs.Prelude.{◌≡◌, ◌<◌};
+
+use base::{Steps, Text};
 use outside::{HostShelf, HostSink, HostSource};
 use pan_top::{Status, pan};
 use std::alloc::AllocError;
+use std::marker::Brand;
 use std::process::ExitCode;
+use std::sync::ledger::{Blank, Ledger};
 use std::{env, io};
+use written_runner::Written;
 
 /// The program's words, without its name.
 fn words(rt: &HostRuntime) -> io::Result<Vec<Text>> {
@@ -17,21 +23,36 @@ fn words(rt: &HostRuntime) -> io::Result<Vec<Text>> {
     Ok(words)
 }
 
-fn run(rt: &HostRuntime) -> Result<Status, AllocError> {
+fn run<L: Ledger>(rt: &HostRuntime, blank: Blank) -> Result<Status, AllocError>
+    requires name { blank.name ≡ L.name }
+    requires parts { blank.parts ≡ L.parts }
+    requires some { 0 < blank.parts }
+{
     let words = match words(rt) {
         Ok(words) => words,
         Err(error) if error.kind() == io::ErrorKind::OutOfMemory => return Err(AllocError),
         // A word that is not UTF-8 is no word of a command.
         Err(_) => Vec::new(rt.alloc()),
     };
+    // The place of the runner of the language: until it stands, objects are written ones.
+    let mut runner = Written::new(rt.alloc());
     let mut source = HostSource::new(rt.clone()?);
     let mut shelf = HostShelf::new(rt.clone()?);
     let mut out = HostSink::new(rt.stdout());
-    Ok(pan(rt.alloc(), &words, &mut source, &mut shelf, &mut out))
+    let mut steps = Steps::<L>::new(blank);
+    Ok(pan(
+        rt.alloc(),
+        &words,
+        &mut runner,
+        &mut source,
+        &mut shelf,
+        &mut out,
+        &mut steps,
+    ))
 }
 
 fn main(rt: HostRuntime) -> ExitCode {
-    match run(&rt) {
+    match run::<Brand>(&rt, Blank::new(1)) {
         Ok(status) => ExitCode::from(status.exit_code()),
         Err(AllocError) => ExitCode::from(Status::Memory.exit_code()),
     }

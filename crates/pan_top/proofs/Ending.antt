@@ -16,6 +16,7 @@ use Rattle.publication.specs.OwnNames.{is_file_of}
 use Rattle.publication.specs.Stands.{Stand, Stands, Meets, untouched}
 use Rattle.publication.specs.Troubles.{published}
 use Rattle.publication.specs.declared.want.Want.{Want}
+use Rattle.runner.specs.Meaning.{Meaning}
 use Rattle.scans.specs.Scans.{scanned_of}
 use Rattle.pan_top.specs.Rounds.{scanned_session}
 use Rattle.pan_top.specs.Session.{Session, Finished, WritesEarly, Says, Comes, TakesEarly, session_of}
@@ -42,17 +43,17 @@ early_none text held (E.Publishing m) = refl
 early_none text held E.Out = none_of text held
 early_none text held E.Memory = none_of text held
 
-early_none_at : (told : Option (List (List MemFile))) (words : List (List ℕ)) (held : Option (List ℕ)) (e : End) → IfSome told (λ ps. WritesEarly (session_of words ps).text e held held)
-early_none_at None words held e = tt
-early_none_at (Some ps) words held e = early_none (session_of words ps).text held e
+early_none_at : (told : Option (List (List MemFile))) {M : Type 0} (meaning : Meaning M) (words : List (List ℕ)) (held : Option (List ℕ)) (e : End) → IfSome told (λ ps. WritesEarly (session_of meaning words ps).text e held held)
+early_none_at None meaning words held e = tt
+early_none_at (Some ps) meaning words held e = early_none (session_of meaning words ps).text held e
 
 pub unwritten : {T : Type 0} (r : Result T End) (text : List ℕ) (held : Option (List ℕ)) → IfErr r (λ e. WritesEarly text e held held)
 unwritten (Ok x) text held = tt
 unwritten (Err e) text held = early_none text held e
 
-pub unwritten_at : {T : Type 0} (r : Result T End) (told : Option (List (List MemFile))) (words : List (List ℕ)) (held : Option (List ℕ)) → IfErr r (λ e. IfSome told (λ ps. WritesEarly (session_of words ps).text e held held))
-unwritten_at (Ok x) told words held = tt
-unwritten_at (Err e) told words held = early_none_at told words held e
+pub unwritten_at : {T : Type 0} (r : Result T End) (told : Option (List (List MemFile))) {M : Type 0} (meaning : Meaning M) (words : List (List ℕ)) (held : Option (List ℕ)) → IfErr r (λ e. IfSome told (λ ps. WritesEarly (session_of meaning words ps).text e held held))
+unwritten_at (Ok x) told meaning words held = tt
+unwritten_at (Err e) told meaning words held = early_none_at told meaning words held e
 
 -- a text that could not be written whole
 early_part : (text : List ℕ) (old new : Option (List ℕ)) (e : End) → IsEndOf OfSink e → AppendsPart old text new → WritesEarly text e old new
@@ -94,38 +95,38 @@ stopped_from E.Memory shelf old mid new same stopped = (stopped.0, leaves_from (
 finished_from : (s : Session) (status : Status) (text_old text_new : Option (List ℕ)) (old mid new : List ℕ → Cell) → AreSame old mid → Finished s status text_old text_new mid new → Finished s status text_old text_new old new
 finished_from s status text_old text_new old mid new same f = record { status = f.status; text = f.text; shelf = λ n. meets_from (s.shelf n) (old n) (mid n) (new n) (same n) (f.shelf n) }
 
-early_usage : (told : Option (List (List MemFile))) (words : List (List ℕ)) (old new : Option (List ℕ)) (e : End) → is_command words ≡ false → IsEndOf OfSink e → AppendsPart old (codes "usage fault\n") new → IfSome told (λ ps. WritesEarly (session_of words ps).text e old new)
-early_usage None words old new e other kind part = tt
-early_usage (Some ps) words old new e other kind part = rw other (early_part (codes "usage fault\n") old new e kind part)
+early_usage : (told : Option (List (List MemFile))) {M : Type 0} (meaning : Meaning M) (words : List (List ℕ)) (old new : Option (List ℕ)) (e : End) → is_command words ≡ false → IsEndOf OfSink e → AppendsPart old (codes "usage fault\n") new → IfSome told (λ ps. WritesEarly (session_of meaning words ps).text e old new)
+early_usage None meaning words old new e other kind part = tt
+early_usage (Some ps) meaning words old new e other kind part = rw other (early_part (codes "usage fault\n") old new e kind part)
 
-pub usage_unwritten : (told : Option (List (List MemFile))) (words : List (List ℕ)) (old new : Option (List ℕ)) (r : Result Status End) → is_command words ≡ false → IfErr r (IsEndOf OfSink) → OnErr r (AppendsPart old (codes "usage fault\n") new) → IfErr r (λ e. IfSome told (λ ps. WritesEarly (session_of words ps).text e old new))
-usage_unwritten told words old new (Ok status) other kind part = tt
-usage_unwritten told words old new (Err e) other kind part = early_usage told words old new e other kind part
+pub usage_unwritten : (told : Option (List (List MemFile))) {M : Type 0} (meaning : Meaning M) (words : List (List ℕ)) (old new : Option (List ℕ)) (r : Result Status End) → is_command words ≡ false → IfErr r (IsEndOf OfSink) → OnErr r (AppendsPart old (codes "usage fault\n") new) → IfErr r (λ e. IfSome told (λ ps. WritesEarly (session_of meaning words ps).text e old new))
+usage_unwritten told meaning words old new (Ok status) other kind part = tt
+usage_unwritten told meaning words old new (Err e) other kind part = early_usage told meaning words old new e other kind part
 
 -- a command's session is that of its scan, over a shelf that opening left as it was
-stopped_at : (told now : Option (List (List MemFile))) (words : List (List ℕ)) (old mid new : List ℕ → Cell) (e : End) → now ≡ told → is_command words ≡ true → AreSame old mid → IfSome now (λ ps. Stopped e (scanned_session (scanned_of (next_picture ps))).shelf mid new) → IfSome told (λ ps. Stopped e (session_of words ps).shelf old new)
-stopped_at None None words old mid new e is command same stopped = tt
-stopped_at None (Some qs) words old mid new e is command same stopped = tt
-stopped_at (Some ps) None words old mid new e is command same stopped = cc
-stopped_at (Some ps) (Some qs) words old mid new e is command same stopped =
+stopped_at : (told now : Option (List (List MemFile))) {M : Type 0} (meaning : Meaning M) (words : List (List ℕ)) (old mid new : List ℕ → Cell) (e : End) → now ≡ told → is_command words ≡ true → AreSame old mid → IfSome now (λ ps. Stopped e (scanned_session meaning (scanned_of (next_picture ps))).shelf mid new) → IfSome told (λ ps. Stopped e (session_of meaning words ps).shelf old new)
+stopped_at None None meaning words old mid new e is command same stopped = tt
+stopped_at None (Some qs) meaning words old mid new e is command same stopped = tt
+stopped_at (Some ps) None meaning words old mid new e is command same stopped = cc
+stopped_at (Some ps) (Some qs) meaning words old mid new e is command same stopped =
     let pictures : qs ≡ ps = cc in
-    subst (λ s. Stopped e s.shelf old new) (sym (session_is words ps command)) (stopped_from e (scanned_session (scanned_of (next_picture ps))).shelf old mid new same (rw pictures at stopped))
+    subst (λ s. Stopped e s.shelf old new) (sym (session_is meaning words ps command)) (stopped_from e (scanned_session meaning (scanned_of (next_picture ps))).shelf old mid new same (rw pictures at stopped))
 
-finished_at : (told now : Option (List (List MemFile))) (words : List (List ℕ)) (status : Status) (text_old text_new : Option (List ℕ)) (old mid new : List ℕ → Cell) → now ≡ told → is_command words ≡ true → AreSame old mid → IfSome now (λ ps. Finished (scanned_session (scanned_of (next_picture ps))) status text_old text_new mid new) → IfSome told (λ ps. Finished (session_of words ps) status text_old text_new old new)
-finished_at None None words status text_old text_new old mid new is command same f = tt
-finished_at None (Some qs) words status text_old text_new old mid new is command same f = tt
-finished_at (Some ps) None words status text_old text_new old mid new is command same f = cc
-finished_at (Some ps) (Some qs) words status text_old text_new old mid new is command same f =
+finished_at : (told now : Option (List (List MemFile))) {M : Type 0} (meaning : Meaning M) (words : List (List ℕ)) (status : Status) (text_old text_new : Option (List ℕ)) (old mid new : List ℕ → Cell) → now ≡ told → is_command words ≡ true → AreSame old mid → IfSome now (λ ps. Finished (scanned_session meaning (scanned_of (next_picture ps))) status text_old text_new mid new) → IfSome told (λ ps. Finished (session_of meaning words ps) status text_old text_new old new)
+finished_at None None meaning words status text_old text_new old mid new is command same f = tt
+finished_at None (Some qs) meaning words status text_old text_new old mid new is command same f = tt
+finished_at (Some ps) None meaning words status text_old text_new old mid new is command same f = cc
+finished_at (Some ps) (Some qs) meaning words status text_old text_new old mid new is command same f =
     let pictures : qs ≡ ps = cc in
-    subst (λ s. Finished s status text_old text_new old new) (sym (session_is words ps command)) (finished_from (scanned_session (scanned_of (next_picture ps))) status text_old text_new old mid new same (rw pictures at f))
+    subst (λ s. Finished s status text_old text_new old new) (sym (session_is meaning words ps command)) (finished_from (scanned_session meaning (scanned_of (next_picture ps))) status text_old text_new old mid new same (rw pictures at f))
 
-early_at : (told now : Option (List (List MemFile))) (words : List (List ℕ)) (e : End) (text_old text_new : Option (List ℕ)) → now ≡ told → is_command words ≡ true → IfSome now (λ ps. WritesEarly (scanned_session (scanned_of (next_picture ps))).text e text_old text_new) → IfSome told (λ ps. WritesEarly (session_of words ps).text e text_old text_new)
-early_at None None words e text_old text_new is command w = tt
-early_at None (Some qs) words e text_old text_new is command w = tt
-early_at (Some ps) None words e text_old text_new is command w = cc
-early_at (Some ps) (Some qs) words e text_old text_new is command w =
+early_at : (told now : Option (List (List MemFile))) {M : Type 0} (meaning : Meaning M) (words : List (List ℕ)) (e : End) (text_old text_new : Option (List ℕ)) → now ≡ told → is_command words ≡ true → IfSome now (λ ps. WritesEarly (scanned_session meaning (scanned_of (next_picture ps))).text e text_old text_new) → IfSome told (λ ps. WritesEarly (session_of meaning words ps).text e text_old text_new)
+early_at None None meaning words e text_old text_new is command w = tt
+early_at None (Some qs) meaning words e text_old text_new is command w = tt
+early_at (Some ps) None meaning words e text_old text_new is command w = cc
+early_at (Some ps) (Some qs) meaning words e text_old text_new is command w =
     let pictures : qs ≡ ps = cc in
-    subst (λ s. WritesEarly s.text e text_old text_new) (sym (session_is words ps command)) (rw pictures at w)
+    subst (λ s. WritesEarly s.text e text_old text_new) (sym (session_is meaning words ps command)) (rw pictures at w)
 
 -- a run that ended early, and its line
 comes_by : (s : Session) (status : Status) (e : End) (text_old text_new : Option (List ℕ)) (coming_old coming_new : Option (List (List MemFile))) (old new : List ℕ → Cell) → Stopped e s.shelf old new → TakesEarly e coming_old coming_new → Says s.text status e text_old text_new → Comes s status text_old text_new coming_old coming_new old new
@@ -139,27 +140,27 @@ comes_by s ShelfFault e text_old text_new coming_old coming_new old new stopped 
 comes_by s OutFault e text_old text_new coming_old coming_new old new stopped takes says = record { end = e; pictures = takes; shelf = stopped; text = says }
 comes_by s Memory e text_old text_new coming_old coming_new old new stopped takes says = record { end = e; pictures = takes; shelf = stopped; text = says }
 
-pub comes : (told : Option (List (List MemFile))) (words : List (List ℕ)) (status : Status) (e : End) (text_old text_mid text_new : Option (List ℕ)) (coming_old coming_new : Option (List (List MemFile))) (old new : List ℕ → Cell) → IfSome told (λ ps. Stopped e (session_of words ps).shelf old new) → IfSome told (λ ps. WritesEarly (session_of words ps).text e text_old text_mid) → TakesEarly e coming_old coming_new → ((text : List ℕ) (before : Option (List ℕ)) → WritesEarly text e before text_mid → Says text status e before text_new) → IfSome told (λ ps. Comes (session_of words ps) status text_old text_new coming_old coming_new old new)
-comes None words status e text_old text_mid text_new coming_old coming_new old new stopped early takes says = tt
-comes (Some ps) words status e text_old text_mid text_new coming_old coming_new old new stopped early takes says = comes_by (session_of words ps) status e text_old text_new coming_old coming_new old new stopped takes (says (session_of words ps).text text_old early)
+pub comes : (told : Option (List (List MemFile))) {M : Type 0} (meaning : Meaning M) (words : List (List ℕ)) (status : Status) (e : End) (text_old text_mid text_new : Option (List ℕ)) (coming_old coming_new : Option (List (List MemFile))) (old new : List ℕ → Cell) → IfSome told (λ ps. Stopped e (session_of meaning words ps).shelf old new) → IfSome told (λ ps. WritesEarly (session_of meaning words ps).text e text_old text_mid) → TakesEarly e coming_old coming_new → ((text : List ℕ) (before : Option (List ℕ)) → WritesEarly text e before text_mid → Says text status e before text_new) → IfSome told (λ ps. Comes (session_of meaning words ps) status text_old text_new coming_old coming_new old new)
+comes None meaning words status e text_old text_mid text_new coming_old coming_new old new stopped early takes says = tt
+comes (Some ps) meaning words status e text_old text_mid text_new coming_old coming_new old new stopped early takes says = comes_by (session_of meaning words ps) status e text_old text_new coming_old coming_new old new stopped takes (says (session_of meaning words ps).text text_old early)
 
-pub stopped_result : (told now : Option (List (List MemFile))) (words : List (List ℕ)) (old mid new : List ℕ → Cell) (r : Result Status End) → now ≡ told → is_command words ≡ true → AreSame old mid → IfErr r (λ e. IfSome now (λ ps. Stopped e (scanned_session (scanned_of (next_picture ps))).shelf mid new)) → IfErr r (λ e. IfSome told (λ ps. Stopped e (session_of words ps).shelf old new))
-stopped_result told now words old mid new (Ok status) is command same stopped = tt
-stopped_result told now words old mid new (Err e) is command same stopped = stopped_at told now words old mid new e is command same stopped
+pub stopped_result : (told now : Option (List (List MemFile))) {M : Type 0} (meaning : Meaning M) (words : List (List ℕ)) (old mid new : List ℕ → Cell) (r : Result Status End) → now ≡ told → is_command words ≡ true → AreSame old mid → IfErr r (λ e. IfSome now (λ ps. Stopped e (scanned_session meaning (scanned_of (next_picture ps))).shelf mid new)) → IfErr r (λ e. IfSome told (λ ps. Stopped e (session_of meaning words ps).shelf old new))
+stopped_result told now meaning words old mid new (Ok status) is command same stopped = tt
+stopped_result told now meaning words old mid new (Err e) is command same stopped = stopped_at told now meaning words old mid new e is command same stopped
 
-pub finished_result : (told now : Option (List (List MemFile))) (words : List (List ℕ)) (text_old text_new : Option (List ℕ)) (old mid new : List ℕ → Cell) (r : Result Status End) → now ≡ told → is_command words ≡ true → AreSame old mid → IfOk r (λ status. IfSome now (λ ps. Finished (scanned_session (scanned_of (next_picture ps))) status text_old text_new mid new)) → IfOk r (λ status. IfSome told (λ ps. Finished (session_of words ps) status text_old text_new old new))
-finished_result told now words text_old text_new old mid new (Ok status) is command same f = finished_at told now words status text_old text_new old mid new is command same f
-finished_result told now words text_old text_new old mid new (Err e) is command same f = tt
+pub finished_result : (told now : Option (List (List MemFile))) {M : Type 0} (meaning : Meaning M) (words : List (List ℕ)) (text_old text_new : Option (List ℕ)) (old mid new : List ℕ → Cell) (r : Result Status End) → now ≡ told → is_command words ≡ true → AreSame old mid → IfOk r (λ status. IfSome now (λ ps. Finished (scanned_session meaning (scanned_of (next_picture ps))) status text_old text_new mid new)) → IfOk r (λ status. IfSome told (λ ps. Finished (session_of meaning words ps) status text_old text_new old new))
+finished_result told now meaning words text_old text_new old mid new (Ok status) is command same f = finished_at told now meaning words status text_old text_new old mid new is command same f
+finished_result told now meaning words text_old text_new old mid new (Err e) is command same f = tt
 
-pub early_result : (told now : Option (List (List MemFile))) (words : List (List ℕ)) (text_old text_new : Option (List ℕ)) (r : Result Status End) → now ≡ told → is_command words ≡ true → IfErr r (λ e. IfSome now (λ ps. WritesEarly (scanned_session (scanned_of (next_picture ps))).text e text_old text_new)) → IfErr r (λ e. IfSome told (λ ps. WritesEarly (session_of words ps).text e text_old text_new))
-early_result told now words text_old text_new (Ok status) is command w = tt
-early_result told now words text_old text_new (Err e) is command w = early_at told now words e text_old text_new is command w
+pub early_result : (told now : Option (List (List MemFile))) {M : Type 0} (meaning : Meaning M) (words : List (List ℕ)) (text_old text_new : Option (List ℕ)) (r : Result Status End) → now ≡ told → is_command words ≡ true → IfErr r (λ e. IfSome now (λ ps. WritesEarly (scanned_session meaning (scanned_of (next_picture ps))).text e text_old text_new)) → IfErr r (λ e. IfSome told (λ ps. WritesEarly (session_of meaning words ps).text e text_old text_new))
+early_result told now meaning words text_old text_new (Ok status) is command w = tt
+early_result told now meaning words text_old text_new (Err e) is command w = early_at told now meaning words e text_old text_new is command w
 
-usage_at : (told : Option (List (List MemFile))) (words : List (List ℕ)) (text_old text_new : Option (List ℕ)) (old : List ℕ → Cell) → is_command words ≡ false → text_new ≡ option_map (λ held. held ++ codes "usage fault\n") text_old → IfSome told (λ ps. Finished (session_of words ps) Usage text_old text_new old old)
-usage_at None words text_old text_new old other text = tt
-usage_at (Some ps) words text_old text_new old other text = rw other (record { status = refl; text = text; shelf = λ n. refl })
+usage_at : (told : Option (List (List MemFile))) {M : Type 0} (meaning : Meaning M) (words : List (List ℕ)) (text_old text_new : Option (List ℕ)) (old : List ℕ → Cell) → is_command words ≡ false → text_new ≡ option_map (λ held. held ++ codes "usage fault\n") text_old → IfSome told (λ ps. Finished (session_of meaning words ps) Usage text_old text_new old old)
+usage_at None meaning words text_old text_new old other text = tt
+usage_at (Some ps) meaning words text_old text_new old other text = rw other (record { status = refl; text = text; shelf = λ n. refl })
 
 -- the line of a usage fault was written
-pub usage_written : (told : Option (List (List MemFile))) (words : List (List ℕ)) (text_old text_new : Option (List ℕ)) (old : List ℕ → Cell) (r : Result Status End) → is_command words ≡ false → IfOk r (λ status. status ≡ Usage) → OnOk r (text_new ≡ option_map (λ held. held ++ codes "usage fault\n") text_old) → IfOk r (λ status. IfSome told (λ ps. Finished (session_of words ps) status text_old text_new old old))
-usage_written told words text_old text_new old (Ok status) other is text = subst (λ s. IfSome told (λ ps. Finished (session_of words ps) s text_old text_new old old)) (sym is) (usage_at told words text_old text_new old other text)
-usage_written told words text_old text_new old (Err e) other is text = tt
+pub usage_written : (told : Option (List (List MemFile))) {M : Type 0} (meaning : Meaning M) (words : List (List ℕ)) (text_old text_new : Option (List ℕ)) (old : List ℕ → Cell) (r : Result Status End) → is_command words ≡ false → IfOk r (λ status. status ≡ Usage) → OnOk r (text_new ≡ option_map (λ held. held ++ codes "usage fault\n") text_old) → IfOk r (λ status. IfSome told (λ ps. Finished (session_of meaning words ps) status text_old text_new old old))
+usage_written told meaning words text_old text_new old (Ok status) other is text = subst (λ s. IfSome told (λ ps. Finished (session_of meaning words ps) s text_old text_new old old)) (sym is) (usage_at told meaning words text_old text_new old other text)
+usage_written told meaning words text_old text_new old (Err e) other is text = tt

@@ -3,5 +3,6 @@ pub mod Publishing
 pub mod Naming
 pub mod Wanting
 pub mod Ending
-pub mod Reading
 pub mod Taking
+pub mod Counting
+pub mod Runs

@@ -4,7 +4,6 @@ use Rattle.std.specs.Prelude.{flat_map, Result, Ok, Err, OnOk, OnErr}
 use Rattle.std.specs.List.Sorted.{IsSorted}
 use Rattle.std.specs.Cmp.Lexicographic.{slice_cmp}
 use Rattle.std.specs.Ordering.{nat_cmp}
-use Rattle.load_path.specs.declared.picture.PictureFile.{PictureFile}
 use Rattle.outside.specs.Cells.{Cell, AreSame}
 use Rattle.outside.specs.declared.shelf.Change.{Change}
 use Rattle.outside.specs.declared.source.MemFile.{MemFile}
@@ -16,6 +15,7 @@ use Rattle.pan_top.specs.declared.status.Status.{Status}
 use Rattle.pan_top.specs.declared.status.Status.TheVariants.{Clean, SomeFaults, Usage, SourceFault, ShelfFault, OutFault, Memory, NumbersSpent, TooMuch}
 use Rattle.pan_top.specs.Commands.{is_command}
 use Rattle.pan_top.specs.Ends.{status_of}
+use Rattle.runner.specs.Meaning.{Meaning}
 use Rattle.scans.specs.Scans.{scanned_of}
 use Rattle.publication.specs.Listings.{Lists}
 use Rattle.publication.specs.Changing.{removal, planned, stand, Made, Begun, AreListed, Tells}
@@ -66,45 +66,41 @@ part_by (Some ws) names old mid new before between now same kept listed begun = 
 tells_from : (old mid : List ℕ → Cell) → AreSame old mid → Tells old → Tells mid
 tells_from old mid same told n = ap is_some (same n) ∙ told n
 
-publishes_at : (told now : Option (List (List MemFile))) (words : List (List ℕ)) (names : List (List ℕ)) (old mid new : List ℕ → Cell) (before between last : Option (List Change)) → now ≡ told → is_command words ≡ true → AreSame old mid → between ≡ before → AreListed names mid → IfSome now (λ ps. MadeOver (scanned_session (scanned_of (next_picture ps))).wants names mid new between last) → IfSome told (λ ps. Publishes (session_of words ps).wants old new before last)
-publishes_at None None words names old mid new before between last is command same kept listed made = tt
-publishes_at None (Some qs) words names old mid new before between last is command same kept listed made = tt
-publishes_at (Some ps) None words names old mid new before between last is command same kept listed made = cc
-publishes_at (Some ps) (Some qs) words names old mid new before between last is command same kept listed made =
+publishes_at : (told now : Option (List (List MemFile))) {M : Type 0} (meaning : Meaning M) (words : List (List ℕ)) (names : List (List ℕ)) (old mid new : List ℕ → Cell) (before between last : Option (List Change)) → now ≡ told → is_command words ≡ true → AreSame old mid → between ≡ before → AreListed names mid → IfSome now (λ ps. MadeOver (scanned_session meaning (scanned_of (next_picture ps))).wants names mid new between last) → IfSome told (λ ps. Publishes (session_of meaning words ps).wants old new before last)
+publishes_at None None meaning words names old mid new before between last is command same kept listed made = tt
+publishes_at None (Some qs) meaning words names old mid new before between last is command same kept listed made = tt
+publishes_at (Some ps) None meaning words names old mid new before between last is command same kept listed made = cc
+publishes_at (Some ps) (Some qs) meaning words names old mid new before between last is command same kept listed made =
     let pictures : qs ≡ ps = cc in
-    subst (λ s. Publishes s.wants old new before last) (sym (session_is words ps command)) (publishes_by (scanned_session (scanned_of (next_picture ps))).wants names old mid new before between last same kept listed (rw pictures at made))
+    subst (λ s. Publishes s.wants old new before last) (sym (session_is meaning words ps command)) (publishes_by (scanned_session meaning (scanned_of (next_picture ps))).wants names old mid new before between last same kept listed (rw pictures at made))
 
-part_at : (told now : Option (List (List MemFile))) (words : List (List ℕ)) (names : List (List ℕ)) (old mid new : List ℕ → Cell) (before between last : Option (List Change)) → now ≡ told → is_command words ≡ true → AreSame old mid → between ≡ before → AreListed names mid → IfSome now (λ ps. BegunOver (scanned_session (scanned_of (next_picture ps))).wants names mid new between last) → IfSome told (λ ps. PublishesPart (session_of words ps).wants old new before last)
-part_at None None words names old mid new before between last is command same kept listed begun = tt
-part_at None (Some qs) words names old mid new before between last is command same kept listed begun = tt
-part_at (Some ps) None words names old mid new before between last is command same kept listed begun = cc
-part_at (Some ps) (Some qs) words names old mid new before between last is command same kept listed begun =
+part_at : (told now : Option (List (List MemFile))) {M : Type 0} (meaning : Meaning M) (words : List (List ℕ)) (names : List (List ℕ)) (old mid new : List ℕ → Cell) (before between last : Option (List Change)) → now ≡ told → is_command words ≡ true → AreSame old mid → between ≡ before → AreListed names mid → IfSome now (λ ps. BegunOver (scanned_session meaning (scanned_of (next_picture ps))).wants names mid new between last) → IfSome told (λ ps. PublishesPart (session_of meaning words ps).wants old new before last)
+part_at None None meaning words names old mid new before between last is command same kept listed begun = tt
+part_at None (Some qs) meaning words names old mid new before between last is command same kept listed begun = tt
+part_at (Some ps) None meaning words names old mid new before between last is command same kept listed begun = cc
+part_at (Some ps) (Some qs) meaning words names old mid new before between last is command same kept listed begun =
     let pictures : qs ≡ ps = cc in
-    subst (λ s. PublishesPart s.wants old new before last) (sym (session_is words ps command)) (part_by (scanned_session (scanned_of (next_picture ps))).wants names old mid new before between last same kept listed (rw pictures at begun))
+    subst (λ s. PublishesPart s.wants old new before last) (sym (session_is meaning words ps command)) (part_by (scanned_session meaning (scanned_of (next_picture ps))).wants names old mid new before between last same kept listed (rw pictures at begun))
 
-pub publishes_result : (told now : Option (List (List MemFile))) (words : List (List ℕ)) (names : List (List ℕ)) (old mid new : List ℕ → Cell) (before between last : Option (List Change)) (r : Result Status End) → now ≡ told → is_command words ≡ true → AreSame old mid → between ≡ before → AreListed names mid → OnOk r (Tells mid → IfSome now (λ ps. MadeOver (scanned_session (scanned_of (next_picture ps))).wants names mid new between last)) → OnOk r (Tells old → IfSome told (λ ps. Publishes (session_of words ps).wants old new before last))
-publishes_result told now words names old mid new before between last (Ok status) is command same kept listed made = λ tells. publishes_at told now words names old mid new before between last is command same kept listed (made (tells_from old mid same tells))
-publishes_result told now words names old mid new before between last (Err e) is command same kept listed made = tt
+pub publishes_result : (told now : Option (List (List MemFile))) {M : Type 0} (meaning : Meaning M) (words : List (List ℕ)) (names : List (List ℕ)) (old mid new : List ℕ → Cell) (before between last : Option (List Change)) (r : Result Status End) → now ≡ told → is_command words ≡ true → AreSame old mid → between ≡ before → AreListed names mid → OnOk r (Tells mid → IfSome now (λ ps. MadeOver (scanned_session meaning (scanned_of (next_picture ps))).wants names mid new between last)) → OnOk r (Tells old → IfSome told (λ ps. Publishes (session_of meaning words ps).wants old new before last))
+publishes_result told now meaning words names old mid new before between last (Ok status) is command same kept listed made = λ tells. publishes_at told now meaning words names old mid new before between last is command same kept listed (made (tells_from old mid same tells))
+publishes_result told now meaning words names old mid new before between last (Err e) is command same kept listed made = tt
 
-pub part_result : (told now : Option (List (List MemFile))) (words : List (List ℕ)) (names : List (List ℕ)) (old mid new : List ℕ → Cell) (before between last : Option (List Change)) (r : Result Status End) → now ≡ told → is_command words ≡ true → AreSame old mid → between ≡ before → AreListed names mid → OnErr r (Tells mid → IfSome now (λ ps. BegunOver (scanned_session (scanned_of (next_picture ps))).wants names mid new between last)) → OnErr r (Tells old → IfSome told (λ ps. PublishesPart (session_of words ps).wants old new before last))
-part_result told now words names old mid new before between last (Ok status) is command same kept listed begun = tt
-part_result told now words names old mid new before between last (Err e) is command same kept listed begun = λ tells. part_at told now words names old mid new before between last is command same kept listed (begun (tells_from old mid same tells))
+pub part_result : (told now : Option (List (List MemFile))) {M : Type 0} (meaning : Meaning M) (words : List (List ℕ)) (names : List (List ℕ)) (old mid new : List ℕ → Cell) (before between last : Option (List Change)) (r : Result Status End) → now ≡ told → is_command words ≡ true → AreSame old mid → between ≡ before → AreListed names mid → OnErr r (Tells mid → IfSome now (λ ps. BegunOver (scanned_session meaning (scanned_of (next_picture ps))).wants names mid new between last)) → OnErr r (Tells old → IfSome told (λ ps. PublishesPart (session_of meaning words ps).wants old new before last))
+part_result told now meaning words names old mid new before between last (Ok status) is command same kept listed begun = tt
+part_result told now meaning words names old mid new before between last (Err e) is command same kept listed begun = λ tells. part_at told now meaning words names old mid new before between last is command same kept listed (begun (tells_from old mid same tells))
 
 -- nothing was done before the run ended
 part_none : (ws : Option (List Want)) (old new : List ℕ → Cell) (before now : Option (List Change)) → AreSame old new → now ≡ before → PublishesPart ws old new before now
 part_none None old new before now same kept = (kept, same)
 part_none (Some ws) old new before now same kept = inl (kept, same)
 
-part_none_at : (told : Option (List (List MemFile))) (words : List (List ℕ)) (old new : List ℕ → Cell) (before now : Option (List Change)) → AreSame old new → now ≡ before → IfSome told (λ ps. PublishesPart (session_of words ps).wants old new before now)
-part_none_at None words old new before now same kept = tt
-part_none_at (Some ps) words old new before now same kept = part_none (session_of words ps).wants old new before now same kept
+part_none_at : (told : Option (List (List MemFile))) {M : Type 0} (meaning : Meaning M) (words : List (List ℕ)) (old new : List ℕ → Cell) (before now : Option (List Change)) → AreSame old new → now ≡ before → IfSome told (λ ps. PublishesPart (session_of meaning words ps).wants old new before now)
+part_none_at None meaning words old new before now same kept = tt
+part_none_at (Some ps) meaning words old new before now same kept = part_none (session_of meaning words ps).wants old new before now same kept
 
-pub untouched_result : {T : Type 0} (told : Option (List (List MemFile))) (words : List (List ℕ)) (old new : List ℕ → Cell) (before now : Option (List Change)) (r : Result T End) → AreSame old new → now ≡ before → OnErr r (Tells old → IfSome told (λ ps. PublishesPart (session_of words ps).wants old new before now))
-untouched_result told words old new before now r same kept = on_err r (λ tells. part_none_at told words old new before now same kept)
-
-pub over_none_at : (told : Option (List (List MemFile))) (names : List (List ℕ)) (old new : List ℕ → Cell) (before now : Option (List Change)) → AreSame old new → now ≡ before → IfSome told (λ ps. BegunOver (scanned_session (scanned_of (next_picture ps))).wants names old new before now)
-over_none_at None names old new before now same kept = tt
-over_none_at (Some ps) names old new before now same kept = over_none (scanned_session (scanned_of (next_picture ps))).wants names old new before now same kept
+pub untouched_result : {T : Type 0} (told : Option (List (List MemFile))) {M : Type 0} (meaning : Meaning M) (words : List (List ℕ)) (old new : List ℕ → Cell) (before now : Option (List Change)) (r : Result T End) → AreSame old new → now ≡ before → OnErr r (Tells old → IfSome told (λ ps. PublishesPart (session_of meaning words ps).wants old new before now))
+untouched_result told meaning words old new before now r same kept = on_err r (λ tells. part_none_at told meaning words old new before now same kept)
 
 -- by the status
 ended : (e : End) (ws : Option (List Want)) (old new : List ℕ → Cell) (before now : Option (List Change)) → PublishesPart ws old new before now → IsInOrder (status_of e) ws old new before now
@@ -130,27 +126,22 @@ own_by ShelfFault ws old new before now own all = absurd own
 own_by OutFault ws old new before now own all = absurd own
 own_by Memory ws old new before now own all = absurd own
 
-pub in_order_early : (told : Option (List (List MemFile))) (words : List (List ℕ)) (e : End) (status : Status) (old new : List ℕ → Cell) (before now : Option (List Change)) → Concludes e status → IfSome told (λ ps. PublishesPart (session_of words ps).wants old new before now) → IfSome told (λ ps. IsInOrder status (session_of words ps).wants old new before now)
-in_order_early None words e status old new before now how part = tt
-in_order_early (Some ps) words e status old new before now how part = early_by e status (session_of words ps).wants old new before now how part
+pub in_order_early : (told : Option (List (List MemFile))) {M : Type 0} (meaning : Meaning M) (words : List (List ℕ)) (e : End) (status : Status) (old new : List ℕ → Cell) (before now : Option (List Change)) → Concludes e status → IfSome told (λ ps. PublishesPart (session_of meaning words ps).wants old new before now) → IfSome told (λ ps. IsInOrder status (session_of meaning words ps).wants old new before now)
+in_order_early None meaning words e status old new before now how part = tt
+in_order_early (Some ps) meaning words e status old new before now how part = early_by e status (session_of meaning words ps).wants old new before now how part
 
-pub in_order_own : (told : Option (List (List MemFile))) (words : List (List ℕ)) (status : Status) (old new : List ℕ → Cell) (before now : Option (List Change)) → IsSessions status → IfSome told (λ ps. Publishes (session_of words ps).wants old new before now) → IfSome told (λ ps. IsInOrder status (session_of words ps).wants old new before now)
-in_order_own None words status old new before now own all = tt
-in_order_own (Some ps) words status old new before now own all = own_by status (session_of words ps).wants old new before now own all
+pub in_order_own : (told : Option (List (List MemFile))) {M : Type 0} (meaning : Meaning M) (words : List (List ℕ)) (status : Status) (old new : List ℕ → Cell) (before now : Option (List Change)) → IsSessions status → IfSome told (λ ps. Publishes (session_of meaning words ps).wants old new before now) → IfSome told (λ ps. IsInOrder status (session_of meaning words ps).wants old new before now)
+in_order_own None meaning words status old new before now own all = tt
+in_order_own (Some ps) meaning words status old new before now own all = own_by status (session_of meaning words ps).wants old new before now own all
 
 -- the words are no command
-usage_none : (told : Option (List (List MemFile))) (words : List (List ℕ)) (old : List ℕ → Cell) (before : Option (List Change)) → is_command words ≡ false → IfSome told (λ ps. Publishes (session_of words ps).wants old old before before)
-usage_none None words old before other = tt
-usage_none (Some ps) words old before other = rw other (refl, λ n. refl)
+usage_none : (told : Option (List (List MemFile))) {M : Type 0} (meaning : Meaning M) (words : List (List ℕ)) (old : List ℕ → Cell) (before : Option (List Change)) → is_command words ≡ false → IfSome told (λ ps. Publishes (session_of meaning words ps).wants old old before before)
+usage_none None meaning words old before other = tt
+usage_none (Some ps) meaning words old before other = rw other (refl, λ n. refl)
 
-pub usage_result : (told : Option (List (List MemFile))) (words : List (List ℕ)) (old : List ℕ → Cell) (before : Option (List Change)) (r : Result Status End) → is_command words ≡ false → OnOk r (Tells old → IfSome told (λ ps. Publishes (session_of words ps).wants old old before before))
-usage_result told words old before (Ok status) other = λ tells. usage_none told words old before other
-usage_result told words old before (Err e) other = tt
-
--- a scanned picture is its round's
-pub scan_at : (told : Option (List (List MemFile))) (got : Option (List PictureFile)) (P : Option (List Want) → Type 0) → IfSome told (λ ps. got ≡ scanned_of (next_picture ps)) → P (scanned_session got).wants → IfSome told (λ ps. P (scanned_session (scanned_of (next_picture ps))).wants)
-scan_at None got P is p = tt
-scan_at (Some ps) got P is p = subst (λ s. P (scanned_session s).wants) is p
+pub usage_result : (told : Option (List (List MemFile))) {M : Type 0} (meaning : Meaning M) (words : List (List ℕ)) (old : List ℕ → Cell) (before : Option (List Change)) (r : Result Status End) → is_command words ≡ false → OnOk r (Tells old → IfSome told (λ ps. Publishes (session_of meaning words ps).wants old old before before))
+usage_result told meaning words old before (Ok status) other = λ tells. usage_none told meaning words old before other
+usage_result told meaning words old before (Err e) other = tt
 
 -- the names on the shelf, after they were listed
 pub listed_on : (names : List (List ℕ)) (old mid : List ℕ → Cell) → AreSame old mid → Lists names old → IsSorted (slice_cmp nat_cmp) names → AreListed names mid

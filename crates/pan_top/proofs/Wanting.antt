@@ -1,65 +1,31 @@
 -- What the answers of a picture want is proper: each name is own, and none is there twice.
-use Rattle.std.proofs.Common.{◌≡◌, ℕ, ◌-◌, Bool, true, false, List, [], ◌∷◌, ◌++◌, Option, Some, None, nat_eq, length, drop, map, fold, ◌||◌, refl, sym, ap, ◌∙◌, arith}
+use Rattle.std.proofs.Common.{◌≡◌, ℕ, ◌-◌, Bool, true, false, List, [], ◌∷◌, ◌++◌, Option, Some, None, nat_eq, length, drop, map, fold, ◌||◌, refl, sym, ap, subst, ◌∙◌, arith}
 use Rattle.std.specs.Prelude.{bytes_eq, codes}
-use Rattle.std.specs.List.{ends_with}
-use Rattle.std.specs.Ordering.{nat_cmp, is_eq, match_ordering, ordering_reverse}
-use Rattle.std.specs.declared.cmp.Ordering.{Ordering}
-use Rattle.std.specs.declared.cmp.Ordering.TheVariants.{Less, Equal, Greater}
+use Rattle.std.specs.List.{ends_with, AllByRecursion}
+use Rattle.std.specs.List.Sorted.{IsStrictlySortedBy}
+use Rattle.std.specs.Ordering.{nat_cmp, is_eq}
+use Rattle.std.specs.declared.cmp.Ordering.TheVariants.{Less}
 use Rattle.std.specs.Cmp.Lexicographic.{slice_cmp}
-use Rattle.std.specs.BTreeMap.{insert_entry}
-use Rattle.std.proofs.lemmas.Cmp.{nat_list_cmp_total}
 use Rattle.std.proofs.lemmas.Map.Text.{is_eq-slice_cmp}
 use Rattle.std.proofs.lemmas.Slice.Eq.{bytes_eq-Decides}
 use Rattle.std.proofs.lemmas.List.{append_cancel_right, length-append}
+use Rattle.json_profile.proofs.Ordered.{rising_insert}
 use Rattle.load_path.specs.declared.picture.PictureFile.{PictureFile}
 use Rattle.publication.specs.OwnNames.{is_own}
 use Rattle.publication.specs.Wants.{wanted, proper, wants_of}
 use Rattle.publication.specs.declared.profile.Profile as published
+use Rattle.runner.specs.Meaning.{Meaning}
 use Rattle.session.specs.Sessions.{profile_of, profiles_of}
+use Rattle.session.specs.declared.Answer.{Answer}
 use Rattle.session.specs.declared.Outcome.{Outcome}
 use Rattle.session.specs.declared.Outcome.TheVariants.{Profile, Fault}
-use Rattle.pan_top.specs.Answers.{Object, object_of, with_object, with_outcome, answer_of, answers_of}
-use Rattle.pan_top.specs.Objects.{dependencies_of}
-use Rattle.pan_top.specs.Rounds.{wants_among}
+use Rattle.pan_top.specs.Answers.{answers_of}
+use Rattle.pan_top.specs.Objects.{object_of, with_name, with_object, objects_of}
+use Rattle.pan_top.specs.Rounds.{name_of, wants_among}
+use Rattle.pan_top.proofs.Naming.{names_same}
 
--- the outcomes stand in byte order of names
-abbrev IsAbove : List ℕ → List (List ℕ × Outcome) → Type 0
-IsAbove n [] = Unit {0}
-IsAbove n (e ∷ es) = (slice_cmp nat_cmp n e.0 ≡ Less) × IsAbove n es
-
-abbrev IsRising : List (List ℕ × Outcome) → Type 0
-IsRising [] = Unit {0}
-IsRising (e ∷ es) = IsAbove e.0 es × IsRising es
-
-above_trans : (m n : List ℕ) (es : List (List ℕ × Outcome)) → slice_cmp nat_cmp m n ≡ Less → IsAbove n es → IsAbove m es
-above_trans m n [] below above = tt
-above_trans m n (e ∷ es) below above = (nat_list_cmp_total.trans m n e.0 below above.0, above_trans m n es below above.1)
-
-above_by : (m n : List ℕ) (v : Outcome) (e : List ℕ × Outcome) (es rest : List (List ℕ × Outcome)) (o : Ordering) → slice_cmp nat_cmp m n ≡ Less → IsAbove m (e ∷ es) → IsAbove m rest → IsAbove m (match_ordering o ((n, v) ∷ e ∷ es) ((e.0, v) ∷ es) (e ∷ rest))
-above_by m n v e es rest Less below above ih = (below, above)
-above_by m n v e es rest Equal below above ih = above
-above_by m n v e es rest Greater below above ih = (above.0, ih)
-
-above_insert : (m n : List ℕ) (v : Outcome) (es : List (List ℕ × Outcome)) → slice_cmp nat_cmp m n ≡ Less → IsAbove m es → IsAbove m (insert_entry (slice_cmp nat_cmp) es n v)
-above_insert m n v [] below above = (below, tt)
-above_insert m n v (e ∷ es) below above = above_by m n v e es (insert_entry (slice_cmp nat_cmp) es n v) (slice_cmp nat_cmp n e.0) below above (above_insert m n v es below above.1)
-
-rising_by : (n : List ℕ) (v : Outcome) (e : List ℕ × Outcome) (es rest : List (List ℕ × Outcome)) (o : Ordering) → slice_cmp nat_cmp n e.0 ≡ o → IsRising (e ∷ es) → (slice_cmp nat_cmp e.0 n ≡ Less → IsAbove e.0 rest) → IsRising rest → IsRising (match_ordering o ((n, v) ∷ e ∷ es) ((e.0, v) ∷ es) (e ∷ rest))
-rising_by n v e es rest Less is rising over ih = ((is, above_trans n e.0 es is rising.0), rising)
-rising_by n v e es rest Equal is rising over ih = rising
-rising_by n v e es rest Greater is rising over ih = (over (nat_list_cmp_total.antisymm e.0 n ∙ ap ordering_reverse is), ih)
-
-rising_insert : (n : List ℕ) (v : Outcome) (es : List (List ℕ × Outcome)) → IsRising es → IsRising (insert_entry (slice_cmp nat_cmp) es n v)
-rising_insert n v [] rising = (tt, tt)
-rising_insert n v (e ∷ es) rising = rising_by n v e es (insert_entry (slice_cmp nat_cmp) es n v) (slice_cmp nat_cmp n e.0) refl rising (λ below. above_insert e.0 n v es below rising.0) (rising_insert n v es rising.1)
-
-rising_with : (o : Option Object) (es : List (List ℕ × Outcome)) → IsRising es → IsRising (with_object o es)
-rising_with None es rising = rising
-rising_with (Some o) es rising = rising_insert o.name _ es rising
-
-rising_fold : (fs : List PictureFile) (es : List (List ℕ × Outcome)) → IsRising es → IsRising (fold with_outcome es fs)
-rising_fold [] es rising = rising
-rising_fold (f ∷ fs) es rising = rising_fold fs (with_outcome es f) (rising_with (object_of f) es rising)
+abbrev IsAbove : List ℕ → List (List ℕ) → Type 0
+IsAbove m ns = AllByRecursion (λ n. slice_cmp nat_cmp m n ≡ Less) ns
 
 -- names with suffixes
 drop_all : (n s : List ℕ) → drop (length n) (n ++ s) ≡ s
@@ -115,21 +81,34 @@ past : (o : Outcome) (name deps m : List ℕ) (rest : List published.Profile) �
 past (Profile json) name deps m rest x y h = rw (x, y) h
 past (Fault line) name deps m rest x y h = h
 
-no_json : (es : List (List ℕ × Outcome)) (n : List ℕ) → IsAbove n es → wanted (wants_among (map answer_of es)) (n ++ codes ".json") ≡ None
+no_json : (answers : List Answer) (n : List ℕ) → IsAbove n (map name_of answers) → wanted (wants_among answers) (n ++ codes ".json") ≡ None
 no_json [] n above = refl
-no_json (e ∷ es) n above = past e.1 e.0 (dependencies_of e.0) (n ++ codes ".json") (profiles_of (map answer_of es)) (other_name e.0 n (codes ".json") (below_other n e.0 above.0)) (dep_json e.0 n) (no_json es n above.1)
+no_json (a ∷ answers) n above = past a.outcome a.name a.deps (n ++ codes ".json") (profiles_of answers) (other_name a.name n (codes ".json") (below_other n a.name above.0)) (dep_json a.name n) (no_json answers n above.1)
 
-no_dep : (es : List (List ℕ × Outcome)) (n : List ℕ) → IsAbove n es → wanted (wants_among (map answer_of es)) (n ++ codes ".dep") ≡ None
+no_dep : (answers : List Answer) (n : List ℕ) → IsAbove n (map name_of answers) → wanted (wants_among answers) (n ++ codes ".dep") ≡ None
 no_dep [] n above = refl
-no_dep (e ∷ es) n above = past e.1 e.0 (dependencies_of e.0) (n ++ codes ".dep") (profiles_of (map answer_of es)) (json_dep e.0 n) (other_name e.0 n (codes ".dep") (below_other n e.0 above.0)) (no_dep es n above.1)
+no_dep (a ∷ answers) n above = past a.outcome a.name a.deps (n ++ codes ".dep") (profiles_of answers) (json_dep a.name n) (other_name a.name n (codes ".dep") (below_other n a.name above.0)) (no_dep answers n above.1)
 
 one_more : (o : Outcome) (name deps : List ℕ) (rest : List published.Profile) → wanted (wants_of rest) (name ++ codes ".json") ≡ None → wanted (wants_of rest) (name ++ codes ".dep") ≡ None → proper (wants_of rest) ≡ true → proper (wants_of (profile_of name deps o rest)) ≡ true
 one_more (Profile json) name deps rest x y ok = rw (own_json name, dep_json name name, x, own_dep name, y, ok) refl
 one_more (Fault line) name deps rest x y ok = ok
 
-wants_proper : (es : List (List ℕ × Outcome)) → IsRising es → proper (wants_among (map answer_of es)) ≡ true
+wants_proper : (answers : List Answer) → IsStrictlySortedBy (slice_cmp nat_cmp) (map name_of answers) → proper (wants_among answers) ≡ true
+unfolding IsStrictlySortedBy
 wants_proper [] rising = refl
-wants_proper (e ∷ es) rising = one_more e.1 e.0 (dependencies_of e.0) (profiles_of (map answer_of es)) (no_json es e.0 rising.0) (no_dep es e.0 rising.0) (wants_proper es rising.1)
+wants_proper (a ∷ answers) rising = one_more a.outcome a.name a.deps (profiles_of answers) (no_json answers a.name rising.0) (no_dep answers a.name rising.0) (wants_proper answers rising.1)
 
-pub answers_proper : (files : List PictureFile) → proper (wants_among (answers_of files)) ≡ true
-answers_proper files = wants_proper (fold with_outcome [] files) (rising_fold files [] tt)
+rising_with : (o : Option (List ℕ)) (names : List (List ℕ)) → IsStrictlySortedBy (slice_cmp nat_cmp) names → IsStrictlySortedBy (slice_cmp nat_cmp) (with_name names o)
+rising_with None names rising = rising
+rising_with (Some n) names rising = rising_insert n names rising
+
+rising_fold : (fs : List PictureFile) (names : List (List ℕ)) → IsStrictlySortedBy (slice_cmp nat_cmp) names → IsStrictlySortedBy (slice_cmp nat_cmp) (fold with_object names fs)
+rising_fold [] names rising = rising
+rising_fold (f ∷ fs) names rising = rising_fold fs (with_object names f) (rising_with (object_of f) names rising)
+
+objects_rising : (files : List PictureFile) → IsStrictlySortedBy (slice_cmp nat_cmp) (objects_of files)
+unfolding IsStrictlySortedBy
+objects_rising files = rising_fold files [] tt
+
+pub answers_proper : {T : Type 0} (meaning : Meaning T) (files : List PictureFile) → proper (wants_among (answers_of meaning files)) ≡ true
+answers_proper meaning files = wants_proper (answers_of meaning files) (subst (IsStrictlySortedBy (slice_cmp nat_cmp)) (sym (names_same meaning files (objects_of files))) (objects_rising files))

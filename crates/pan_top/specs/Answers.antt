@@ -1,53 +1,75 @@
--- What the objects of a picture come to.
-use Rattle.std.specs.Prelude.{ℕ, ◌-◌, Bool, List, [], Option, Some, None, is_some, if◌then◌else◌, nat_eq, codes, map, fold, length, take, ◌&&◌}
-use Rattle.std.specs.List.{ends_with}
-use Rattle.std.specs.BTreeMap.{insert_entry}
-use Rattle.std.specs.Cmp.Lexicographic.{slice_cmp}
-use Rattle.std.specs.Ordering.{nat_cmp}
+-- What the objects of a picture come to, by what a runner means.
+use Rattle.std.specs.Prelude.{ℕ, List, [], ◌++◌, Some, None, Ok, Err, codes, fold, map}
+use Rattle.asking.specs.Asked.{Ran, Finished, Stops, Lost}
+use Rattle.json_profile.specs.Dependencies.{dep_text_of}
+use Rattle.json_profile.specs.Json.{profile_of}
 use Rattle.load_path.specs.declared.picture.PictureFile.{PictureFile}
-use Rattle.load_path.specs.declared.picture.Content.{Content}
-use Rattle.load_path.specs.declared.picture.Content.TheVariants as content
+use Rattle.pan_ast.specs.Detail.{fault_with}
+use Rattle.pan_ast.specs.Printed.{line_of}
+use Rattle.pan_ast.specs.declared.fault.Code.TheVariants.{NotSupported}
+use Rattle.pan_ast.specs.declared.fault.Fault.{Fault}
+use Rattle.pan_ast.specs.declared.place.Place.{Place}
+use Rattle.path_tree.specs.Plain.{Plain}
+use Rattle.questions.specs.declared.key.Key.{Key}
+use Rattle.runner.specs.Ends.{End, Verdict}
+use Rattle.runner.specs.Meaning.{Meaning, build_run, check_run, counted}
 use Rattle.session.specs.declared.Answer.{Answer}
 use Rattle.session.specs.declared.Outcome.{Outcome}
-use Rattle.path_tree.specs.Grammar.{is_name}
-use Rattle.pan_lexer.specs.Objects.{is_object}
-use Rattle.pan_top.specs.Objects.{outcome_of, dependencies_of}
+use Rattle.session.specs.declared.Outcome.TheVariants as outcome
+use Rattle.pan_top.specs.Objects.{objects_of}
+use Rattle.pan_top.specs.Told.{told}
 
--- an object: its name, and the text of its template
-pub record Object : Type 0 where
-  pub name : List ℕ
-  pub text : List ℕ
+-- an outcome, with what the build asked and what the check asked
+abbrev pub answer_with : List ℕ → Outcome → List (Key × ℕ) → List (Key × ℕ) → Answer
+answer_with name o build later =
+    record { name = name; outcome = o; deps = dep_text_of build later }
 
--- the name of a template's file without its suffix
-abbrev pub stem_of : List ℕ → Option (List ℕ)
-stem_of n = if ends_with nat_eq n (codes ".pan") then Some (take (length n - 4) n) else None
+abbrev pub fault_answer : List ℕ → Fault → List (Key × ℕ) → List (Key × ℕ) → Answer
+fault_answer name fault = answer_with name (outcome.Fault (line_of fault))
 
-abbrev pub object_with : Option (List ℕ) → Content → Option Object
-object_with None c = None
-object_with (Some n) content.TooLong = None
-object_with (Some n) (content.Bytes text) =
-    if is_name n && is_object text then Some (record { name = n; text = text }) else None
+-- the begin of an object's file
+abbrev pub start_of : List ℕ → Place
+start_of name = record { file = name ++ codes ".pan"; line = 1; column = 1 }
 
--- The object that a file is the template of: NAME of `NAME.pan`, where NAME is a template name and
--- the text begins as an object template.
-abbrev pub object_of : PictureFile → Option Object
-object_of f = object_with (stem_of f.name) f.content
+-- an object that asks for another one is not supported
+abbrev pub stopped : List ℕ → List ℕ → Answer
+stopped name other = fault_answer name (fault_with NotSupported (start_of name) other) [] []
 
-abbrev pub is_object_file : PictureFile → Bool
-is_object_file f = is_some (object_of f)
+-- Where the check gives no fault, the profile of the tree. A run that is lost comes from no runner.
+abbrev pub checked : List ℕ → Plain → List (Key × ℕ) → Ran Key Verdict → Answer
+checked name tree build (Finished later None) =
+    answer_with name (outcome.Profile (profile_of tree)) build later
+checked name tree build (Finished later (Some fault)) = fault_answer name fault build later
+checked name tree build (Stops other) = stopped name other
+checked name tree build Lost = stopped name []
 
-abbrev pub with_object : Option Object → List (List ℕ × Outcome) → List (List ℕ × Outcome)
-with_object None outcomes = outcomes
-with_object (Some o) outcomes =
-    insert_entry (slice_cmp nat_cmp) outcomes o.name (outcome_of o.name o.text)
+module _ {T : Type 0} (meaning : Meaning T) (files : List PictureFile) where
+  -- what was built is checked, over the same picture
+  abbrev pub built : List ℕ → Ran Key (End T) → Answer
+  built name (Finished build (Ok b)) =
+      checked name b.tree build (check_run meaning b (told files))
+  built name (Finished build (Err fault)) = fault_answer name fault build []
+  built name (Stops other) = stopped name other
+  built name Lost = stopped name []
 
--- the outcomes with that of the object of this file, in byte order of names
-abbrev pub with_outcome : List (List ℕ × Outcome) → PictureFile → List (List ℕ × Outcome)
-with_outcome outcomes f = with_object (object_of f) outcomes
+  unfoldable pub answer_of : List ℕ → Answer
+  answer_of name = built name (build_run meaning name (told files))
 
-abbrev pub answer_of : List ℕ × Outcome → Answer
-answer_of e = record { name = e.0; outcome = e.1; deps = dependencies_of e.0 }
+  -- a runner's count after the check, where there is one
+  abbrev pub with_check : Ran Key (End T) → ℕ → ℕ
+  with_check (Finished build (Ok b)) n = counted n
+  with_check (Finished build (Err fault)) n = n
+  with_check (Stops other) n = n
+  with_check Lost n = n
+
+  -- and after an object was built and checked
+  unfoldable pub count_after : ℕ → List ℕ → ℕ
+  count_after n name = with_check (build_run meaning name (told files)) (counted n)
 
 -- the answers of a picture's objects, in byte order of names
-abbrev pub answers_of : List PictureFile → List Answer
-answers_of files = map answer_of (fold with_outcome [] files)
+abbrev pub answers_of : {T : Type 0} → Meaning T → List PictureFile → List Answer
+answers_of meaning files = map (answer_of meaning files) (objects_of files)
+
+-- a runner's count after each was built and checked once
+abbrev pub count_after_all : {T : Type 0} → Meaning T → List PictureFile → ℕ → ℕ
+count_after_all meaning files n = fold (count_after meaning files) n (objects_of files)

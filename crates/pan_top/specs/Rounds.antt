@@ -1,5 +1,5 @@
 -- A build behind its words, and the statuses that its parts end with.
-use Rattle.std.specs.Prelude.{◌≡◌, ℕ, Bool, true, false, List, [], Option, Some, None, if◌then◌else◌, codes, nat_lt, count_by, map, ◌⊎◌}
+use Rattle.std.specs.Prelude.{◌≡◌, ℕ, Bool, true, false, List, [], Option, Some, None, if◌then◌else◌, codes, nat_lt, length, map, ◌⊎◌}
 use Rattle.base.specs.declared.limits.TheConstants.{MAX_OBJECTS}
 use Rattle.load_path.specs.declared.picture.PictureFile.{PictureFile}
 use Rattle.outside.specs.Cells.{Cell, AreSame}
@@ -9,16 +9,20 @@ use Rattle.publication.specs.Stands.{untouched}
 use Rattle.publication.specs.Troubles.{published}
 use Rattle.publication.specs.Wants.{wants_of}
 use Rattle.publication.specs.declared.want.Want.{Want}
+use Rattle.runner.specs.Meaning.{Meaning}
 use Rattle.session.specs.Sessions.{profiles_of}
 use Rattle.session.specs.Texts.{report, faults_in}
 use Rattle.session.specs.declared.Answer.{Answer}
-use Rattle.pan_top.specs.Answers.{answers_of, is_object_file}
-use Rattle.pan_top.specs.Compiler.{name_of}
+use Rattle.pan_top.specs.Answers.{answers_of}
 use Rattle.pan_top.specs.Ends.{status_of}
+use Rattle.pan_top.specs.Objects.{objects_of}
 use Rattle.pan_top.specs.Session.{Session, line_alone}
 use Rattle.pan_top.specs.declared.status.End.{End}
 use Rattle.pan_top.specs.declared.status.Status.{Status}
 use Rattle.pan_top.specs.declared.status.Status.TheVariants.{Clean, SomeFaults, Usage, OutFault, Memory, TooMuch}
+
+abbrev pub name_of : Answer → List ℕ
+name_of a = a.name
 
 abbrev pub report_of : List Answer → List ℕ
 report_of answers = report answers (map name_of answers)
@@ -40,14 +44,14 @@ build_of answers = record {
   wants = Some (wants_among answers);
 }
 
-abbrev pub round_of : List PictureFile → Session
-round_of picture =
-    if nat_lt MAX_OBJECTS (count_by is_object_file picture) then too_much
-    else build_of (answers_of picture)
+abbrev pub round_of : {T : Type 0} → Meaning T → List PictureFile → Session
+round_of meaning picture =
+    if nat_lt MAX_OBJECTS (length (objects_of picture)) then too_much
+    else build_of (answers_of meaning picture)
 
-abbrev pub scanned_session : Option (List PictureFile) → Session
-scanned_session None = too_much
-scanned_session (Some picture) = round_of picture
+abbrev pub scanned_session : {T : Type 0} → Meaning T → Option (List PictureFile) → Session
+scanned_session meaning None = too_much
+scanned_session meaning (Some picture) = round_of meaning picture
 
 -- a publication was made, or begun, over these names; where there is none, nothing was done
 abbrev pub MadeOver : Option (List Want) → List (List ℕ) → (List ℕ → Cell) → (List ℕ → Cell)

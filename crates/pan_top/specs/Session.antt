@@ -1,19 +1,25 @@
--- The session of a call, by the words and the pictures that the source has to give, and how a call
--- ends.
-use Rattle.std.specs.Prelude.{◌≡◌, ◌≤◌, ℕ, List, [], Option, Some, None, if◌then◌else◌, codes, option_map, ◌⊎◌}
+-- The session of a call, by what a runner means, the words, and the pictures that the source has to
+-- give; and how a call ends.
+use Rattle.std.specs.Prelude.{◌≡◌, ◌≤◌, ℕ, List, [], Option, Some, None, if◌then◌else◌, codes, length, nat_lt, option_map, ◌⊎◌}
+use Rattle.base.specs.declared.limits.TheConstants.{MAX_OBJECTS}
+use Rattle.load_path.specs.declared.picture.PictureFile.{PictureFile}
 use Rattle.outside.specs.Cells.{Cell, AreSame}
 use Rattle.outside.specs.Contents.{Appends, AppendsPart}
-use Rattle.outside.specs.Pictures.{later_pictures}
+use Rattle.outside.specs.Pictures.{next_picture, later_pictures}
 use Rattle.outside.specs.declared.shelf.Change.{Change}
 use Rattle.outside.specs.declared.source.MemFile.{MemFile}
 use Rattle.publication.specs.Changing.{AreListed, Makes, Begins}
 use Rattle.publication.specs.Stands.{Stand, Stands, untouched}
 use Rattle.publication.specs.Wants.{wants_of}
 use Rattle.publication.specs.declared.want.Want.{Want}
+use Rattle.runner.specs.Meaning.{Meaning}
 use Rattle.session.specs.Sessions.{Next, GoesOn, Quits, SpendsNumbers, IsTooMuch, Round, Done, next, started, answers, profiles_of}
+use Rattle.scans.specs.Scans.{scanned_of}
+use Rattle.pan_top.specs.Answers.{count_after_all}
 use Rattle.pan_top.specs.Commands.{is_command}
 use Rattle.pan_top.specs.Compiler.{Compiled, compiler, nothing}
 use Rattle.pan_top.specs.Ends.{status_of, line_of, Stopped}
+use Rattle.pan_top.specs.Objects.{objects_of}
 use Rattle.pan_top.specs.declared.status.End.{End}
 use Rattle.pan_top.specs.declared.status.End.TheVariants as E
 use Rattle.pan_top.specs.declared.status.Status.{Status}
@@ -35,22 +41,36 @@ line_alone line status = record { text = line; status = status; shelf = untouche
 abbrev pub build_round : Round
 build_round = record { line = codes "build"; scan = Done; troubles = [] }
 
--- the session of what a round leads to
-abbrev pub session_after : Next Compiled → Session
-session_after (GoesOn t) = record {
-  text = t.text;
-  status = if t.has_faults then SomeFaults else Clean;
-  shelf = t.shelf;
-  wants = Some (wants_of (profiles_of (answers compiler t)));
-}
-session_after Quits = line_alone [] Clean
-session_after SpendsNumbers = line_alone (codes "numbers spent\n") NumbersSpent
-session_after IsTooMuch = line_alone (codes "too much\n") TooMuch
+module _ {T : Type 0} (meaning : Meaning T) where
+  -- the session of what a round leads to
+  abbrev pub session_after : Next Compiled → Session
+  session_after (GoesOn t) = record {
+    text = t.text;
+    status = if t.has_faults then SomeFaults else Clean;
+    shelf = t.shelf;
+    wants = Some (wants_of (profiles_of (answers (compiler meaning) t)));
+  }
+  session_after Quits = line_alone [] Clean
+  session_after SpendsNumbers = line_alone (codes "numbers spent\n") NumbersSpent
+  session_after IsTooMuch = line_alone (codes "too much\n") TooMuch
 
-abbrev pub session_of : List (List ℕ) → List (List MemFile) → Session
-session_of words pictures =
-    if is_command words then session_after (next compiler build_round (started nothing pictures))
-    else line_alone (codes "usage fault\n") Usage
+  abbrev pub session_of : List (List ℕ) → List (List MemFile) → Session
+  session_of words pictures =
+      if is_command words
+      then session_after (next (compiler meaning) build_round (started nothing pictures))
+      else line_alone (codes "usage fault\n") Usage
+
+-- a runner's count after the session of these words: each object of the scan was built and checked
+-- once, unless it is too much
+abbrev pub scan_count : {T : Type 0} → Meaning T → Option (List PictureFile) → ℕ → ℕ
+scan_count meaning None n = n
+scan_count meaning (Some picture) n =
+    if nat_lt MAX_OBJECTS (length (objects_of picture)) then n
+    else count_after_all meaning picture n
+
+abbrev pub count_of : {T : Type 0} → Meaning T → List (List ℕ) → List (List MemFile) → ℕ → ℕ
+count_of meaning words pictures n =
+    if is_command words then scan_count meaning (scanned_of (next_picture pictures)) n else n
 
 -- the session came to its end: its text is written, and the shelf is the session's
 pub record Finished (s : Session) (reached : Status) (held_old held_new : Option (List ℕ))
@@ -182,3 +202,11 @@ IsCounted ShelfFault before now = before ≤ now
 IsCounted OutFault before now = before ≤ now
 IsCounted Memory before now = before ≤ now
 IsCounted _ before now = now ≡ before
+
+-- A runner's count, by the status: where the session came to its end, the session's own.
+abbrev pub IsRun : Status → ℕ → ℕ → Type 0
+IsRun SourceFault count now = Unit {0}
+IsRun ShelfFault count now = Unit {0}
+IsRun OutFault count now = Unit {0}
+IsRun Memory count now = Unit {0}
+IsRun _ count now = now ≡ count

@@ -9,19 +9,24 @@ ghost use Rattle.scans.specs.Scans.{scanned_of};
 ghost use Rattle.pan_top.specs.Commands.{is_command, source_in, out_in};
 ghost use Rattle.pan_top.specs.Ends.{IsEndOf, Caused, OfSink, IsRoundEnd, Stopped, status_of, line_of};
 ghost use Rattle.pan_top.specs.Rounds.{report_of, wants_among, build_status, build_of, round_of, scanned_session, MadeOver, BegunOver, IsSessions, IsBuilds, IsUsage, Concludes};
-ghost use Rattle.pan_top.specs.Session.{Session, session_of, Finished, WritesEarly, Says, Comes, IsUsageEnd, Completes, Takes, TakesEarly, IsPassed, IsOpened, IsPerhapsOpened, IsCounted, IsInOrder, Publishes, PublishesPart};
+ghost use Rattle.pan_top.specs.Session.{Session, session_of, Finished, WritesEarly, Says, Comes, IsUsageEnd, Completes, Takes, TakesEarly, IsPassed, IsOpened, IsPerhapsOpened, IsCounted, IsInOrder, IsRun, Publishes, PublishesPart, count_of, scan_count};
+ghost use Rattle.pan_top.specs.Told.{directories, limits};
 ghost use Rattle.pan_top.specs.declared.status.Status.{Status};
 
-use crate::answers::{answers, count_objects, names, profiles};
 use crate::devices::{list_shelf, next_scan, open_shelf, open_source, publish, write};
+use crate::objects::objects;
+use crate::profiles::{names, profiles};
+use crate::running::answers;
 use crate::status::{End, Status};
 use crate::words::command;
-use base::Text;
 use base::limits::MAX_OBJECTS;
+use base::{Steps, Text};
 use load_path::Picture;
 use outside::{Shelf, Sink, Source};
+use runner::Runner;
 use session::{Answer, count_faults, report};
 use std::alloc::{AllocError, Global};
+use std::sync::ledger::Ledger;
 
 /// A session that ends with a line.
 fn end_with_line<O: Sink>(out: &mut O, line: &[u8], status: Status) -> Result<Status, End>
@@ -83,27 +88,31 @@ fn build<H: Shelf, O: Sink>(
 }
 
 /// One build over a scanned picture.
-fn round<H: Shelf, O: Sink>(
+fn round<R: Runner, H: Shelf, O: Sink, L: Ledger>(
     alloc: Global,
-    picture: &Picture,
+    runner: &mut R,
+    picture: Picture,
     listed: &[Text],
     shelf: &mut H,
     out: &mut O,
+    steps: &mut Steps<L>,
 ) -> Result<Status, End>
     requires { Lists listed.now (H.cell shelf.old) }
-    ensures ok { IfOk result (λ status. Finished (round_of picture.now) status (O.held out.old)
-        (O.held out.new) (H.cell shelf.old) (H.cell shelf.new)) }
+    ensures ok { IfOk result (λ status. Finished (round_of (R.meaning directories limits) picture)
+        status (O.held out.old) (O.held out.new) (H.cell shelf.old) (H.cell shelf.new)) }
     ensures own { IfOk result IsBuilds }
-    ensures text { IfErr result (λ e. WritesEarly (round_of picture.now).text e (O.held out.old)
-        (O.held out.new)) }
-    ensures shelf { IfErr result (λ e. Stopped e (round_of picture.now).shelf (H.cell shelf.old)
-        (H.cell shelf.new)) }
-    ensures made { OnOk result (Tells (H.cell shelf.old) → MadeOver (round_of picture.now).wants
-        listed.now (H.cell shelf.old) (H.cell shelf.new) (H.changes shelf.old)
-        (H.changes shelf.new)) }
-    ensures begun { OnErr result (Tells (H.cell shelf.old) → BegunOver (round_of picture.now).wants
-        listed.now (H.cell shelf.old) (H.cell shelf.new) (H.changes shelf.old)
-        (H.changes shelf.new)) }
+    ensures text { IfErr result (λ e. WritesEarly (round_of (R.meaning directories limits)
+        picture).text e (O.held out.old) (O.held out.new)) }
+    ensures shelf { IfErr result (λ e. Stopped e (round_of (R.meaning directories limits)
+        picture).shelf (H.cell shelf.old) (H.cell shelf.new)) }
+    ensures made { OnOk result (Tells (H.cell shelf.old) → MadeOver (round_of
+        (R.meaning directories limits) picture).wants listed.now (H.cell shelf.old)
+        (H.cell shelf.new) (H.changes shelf.old) (H.changes shelf.new)) }
+    ensures begun { OnErr result (Tells (H.cell shelf.old) → BegunOver (round_of
+        (R.meaning directories limits) picture).wants listed.now (H.cell shelf.old)
+        (H.cell shelf.new) (H.changes shelf.old) (H.changes shelf.new)) }
+    ensures runs { OnOk result (R.runs_of runner.new ≡ scan_count (R.meaning directories limits)
+        (Some picture) (R.runs_of runner.old)) }
     ensures kind { IfErr result IsRoundEnd }
     ensures opened { H.opened shelf.new ≡ H.opened shelf.old }
     ensures shelf_cause { Caused Status.ShelfFault (H.fault_count shelf.old)
@@ -111,38 +120,46 @@ fn round<H: Shelf, O: Sink>(
     ensures out_cause { Caused Status.OutFault (O.fault_count out.old) (O.fault_count out.new)
         result }
 {
-    if count_objects(picture.files()) > MAX_OBJECTS {
+    let names = objects(alloc, picture.files())?;
+    if names.len() > MAX_OBJECTS {
         return end_with_line(out, b"too much\n", Status::TooMuch);
     }
-    let answers = answers(alloc, picture.files())?;
+    let answers = answers(alloc, runner, picture, &names, steps)?;
     build(alloc, answers, listed, shelf, out)
 }
 
 /// Scans the source, and builds what was scanned.
-fn scan_and_build<S: Source, H: Shelf, O: Sink>(
+fn scan_and_build<R: Runner, S: Source, H: Shelf, O: Sink, L: Ledger>(
     alloc: Global,
+    runner: &mut R,
     source: &mut S,
     listed: &[Text],
     shelf: &mut H,
     out: &mut O,
+    steps: &mut Steps<L>,
 ) -> Result<Status, End>
     requires { Lists listed.now (H.cell shelf.old) }
-    ensures ok { IfOk result (λ status. IfSome (S.coming source.old)
-        (λ ps. Finished (scanned_session (scanned_of (next_picture ps))) status (O.held out.old)
-        (O.held out.new) (H.cell shelf.old) (H.cell shelf.new))) }
+    ensures ok { IfOk result (λ status. IfSome (S.coming source.old) (λ ps. Finished
+        (scanned_session (R.meaning directories limits) (scanned_of (next_picture ps))) status
+        (O.held out.old) (O.held out.new) (H.cell shelf.old) (H.cell shelf.new))) }
     ensures own { IfOk result IsBuilds }
-    ensures text { IfErr result (λ e. IfSome (S.coming source.old)
-        (λ ps. WritesEarly (scanned_session (scanned_of (next_picture ps))).text e (O.held out.old)
-        (O.held out.new))) }
-    ensures shelf { IfErr result (λ e. IfSome (S.coming source.old)
-        (λ ps. Stopped e (scanned_session (scanned_of (next_picture ps))).shelf (H.cell shelf.old)
-        (H.cell shelf.new))) }
-    ensures made { OnOk result (Tells (H.cell shelf.old) → IfSome (S.coming source.old)
-        (λ ps. MadeOver (scanned_session (scanned_of (next_picture ps))).wants listed.now
-        (H.cell shelf.old) (H.cell shelf.new) (H.changes shelf.old) (H.changes shelf.new))) }
-    ensures begun { OnErr result (Tells (H.cell shelf.old) → IfSome (S.coming source.old)
-        (λ ps. BegunOver (scanned_session (scanned_of (next_picture ps))).wants listed.now
-        (H.cell shelf.old) (H.cell shelf.new) (H.changes shelf.old) (H.changes shelf.new))) }
+    ensures text { IfErr result (λ e. IfSome (S.coming source.old) (λ ps. WritesEarly
+        (scanned_session (R.meaning directories limits) (scanned_of (next_picture ps))).text e
+        (O.held out.old) (O.held out.new))) }
+    ensures shelf { IfErr result (λ e. IfSome (S.coming source.old) (λ ps. Stopped e
+        (scanned_session (R.meaning directories limits) (scanned_of (next_picture ps))).shelf
+        (H.cell shelf.old) (H.cell shelf.new))) }
+    ensures made { OnOk result (Tells (H.cell shelf.old) → IfSome (S.coming source.old) (λ ps.
+        MadeOver (scanned_session (R.meaning directories limits) (scanned_of
+        (next_picture ps))).wants listed.now (H.cell shelf.old) (H.cell shelf.new)
+        (H.changes shelf.old) (H.changes shelf.new))) }
+    ensures begun { OnErr result (Tells (H.cell shelf.old) → IfSome (S.coming source.old) (λ ps.
+        BegunOver (scanned_session (R.meaning directories limits) (scanned_of
+        (next_picture ps))).wants listed.now (H.cell shelf.old) (H.cell shelf.new)
+        (H.changes shelf.old) (H.changes shelf.new))) }
+    ensures runs { OnOk result (IfSome (S.coming source.old) (λ ps. R.runs_of runner.new ≡
+        scan_count (R.meaning directories limits) (scanned_of (next_picture ps))
+        (R.runs_of runner.old))) }
     ensures taken { OnOk result (IsPassed (S.coming source.old) (S.coming source.new)) }
     ensures perhaps { (S.coming source.new ≡ S.coming source.old) ⊎
         (IsPassed (S.coming source.old) (S.coming source.new)) }
@@ -160,31 +177,35 @@ fn scan_and_build<S: Source, H: Shelf, O: Sink>(
     let Some(picture) = next_scan(alloc, source)? else {
         return end_with_line(out, b"too much\n", Status::TooMuch);
     };
-    round(alloc, &picture, listed, shelf, out)
+    round(alloc, runner, picture, listed, shelf, out, steps)
 }
 
 /// The session, by the words.
-fn run<S: Source, H: Shelf, O: Sink>(
+fn run<R: Runner, S: Source, H: Shelf, O: Sink, L: Ledger>(
     alloc: Global,
     words: &[Text],
+    runner: &mut R,
     source: &mut S,
     shelf: &mut H,
     out: &mut O,
+    steps: &mut Steps<L>,
 ) -> Result<Status, End>
-    ensures ok { IfOk result (λ status. IfSome (S.coming source.old)
-        (λ ps. Finished (session_of words.now ps) status (O.held out.old) (O.held out.new)
+    ensures ok { IfOk result (λ status. IfSome (S.coming source.old) (λ ps. Finished (session_of
+        (R.meaning directories limits) words.now ps) status (O.held out.old) (O.held out.new)
         (H.cell shelf.old) (H.cell shelf.new))) }
     ensures own { IfOk result IsSessions }
-    ensures text { IfErr result (λ e. IfSome (S.coming source.old)
-        (λ ps. WritesEarly (session_of words.now ps).text e (O.held out.old) (O.held out.new))) }
-    ensures shelf { IfErr result (λ e. IfSome (S.coming source.old)
-        (λ ps. Stopped e (session_of words.now ps).shelf (H.cell shelf.old) (H.cell shelf.new))) }
-    ensures made { OnOk result (Tells (H.cell shelf.old) → IfSome (S.coming source.old)
-        (λ ps. Publishes (session_of words.now ps).wants (H.cell shelf.old) (H.cell shelf.new)
-        (H.changes shelf.old) (H.changes shelf.new))) }
-    ensures begun { OnErr result (Tells (H.cell shelf.old) → IfSome (S.coming source.old)
-        (λ ps. PublishesPart (session_of words.now ps).wants (H.cell shelf.old) (H.cell shelf.new)
-        (H.changes shelf.old) (H.changes shelf.new))) }
+    ensures text { IfErr result (λ e. IfSome (S.coming source.old) (λ ps. WritesEarly (session_of
+        (R.meaning directories limits) words.now ps).text e (O.held out.old) (O.held out.new))) }
+    ensures shelf { IfErr result (λ e. IfSome (S.coming source.old) (λ ps. Stopped e (session_of
+        (R.meaning directories limits) words.now ps).shelf (H.cell shelf.old) (H.cell shelf.new))) }
+    ensures made { OnOk result (Tells (H.cell shelf.old) → IfSome (S.coming source.old) (λ ps.
+        Publishes (session_of (R.meaning directories limits) words.now ps).wants (H.cell shelf.old)
+        (H.cell shelf.new) (H.changes shelf.old) (H.changes shelf.new))) }
+    ensures begun { OnErr result (Tells (H.cell shelf.old) → IfSome (S.coming source.old) (λ ps.
+        PublishesPart (session_of (R.meaning directories limits) words.now ps).wants
+        (H.cell shelf.old) (H.cell shelf.new) (H.changes shelf.old) (H.changes shelf.new))) }
+    ensures runs { OnOk result (IfSome (S.coming source.old) (λ ps. R.runs_of runner.new ≡
+        count_of (R.meaning directories limits) words.now ps (R.runs_of runner.old))) }
     ensures usage { IfOk result (λ status. IsUsage (is_command words.now) status) }
     ensures quiet { IfErr result (λ e. is_command words.now ≡ false → IsEndOf OfSink e) }
     ensures taken { IfOk result (λ status. Takes status (S.coming source.old)
@@ -214,7 +235,7 @@ fn run<S: Source, H: Shelf, O: Sink>(
     open_source(source, folders.source.as_str())?;
     open_shelf(shelf, folders.out.as_str())?;
     let listed = list_shelf(alloc, shelf)?;
-    scan_and_build(alloc, source, &listed, shelf, out)
+    scan_and_build(alloc, runner, source, &listed, shelf, out, steps)
 }
 
 /// The line of an end.
@@ -260,22 +281,27 @@ fn conclude<O: Sink>(alloc: Global, end: &End, out: &mut O) -> Status
 
 /// The compiler: compiles the templates of a source into profiles on a shelf, and writes a report.
 ///
-/// The words are the program's, without its name. What the call writes, what it leaves on the shelf and its
-/// status are those of the words' session with the source's next picture; a fault of a device, and want of
-/// memory, end it early.
-pub fn pan<S: Source, H: Shelf, O: Sink>(
+/// The words are the program's, without its name. Each object is built and checked by the runner. What the call writes,
+/// what it leaves on the shelf and its status are those of the words' session with the source's next picture, by what
+/// the runner means; a fault of a device, and want of memory, end it early.
+pub fn pan<R: Runner, S: Source, H: Shelf, O: Sink, L: Ledger>(
     alloc: Global,
     words: &[Text],
+    runner: &mut R,
     source: &mut S,
     shelf: &mut H,
     out: &mut O,
+    steps: &mut Steps<L>,
 ) -> Status
-    ensures session { IfSome (S.coming source.old) (λ ps. Comes (session_of words.now ps) result
-        (O.held out.old) (O.held out.new) (S.coming source.old) (S.coming source.new)
-        (H.cell shelf.old) (H.cell shelf.new)) }
-    ensures order { Tells (H.cell shelf.old) → IfSome (S.coming source.old)
-        (λ ps. IsInOrder result (session_of words.now ps).wants (H.cell shelf.old)
+    ensures session { IfSome (S.coming source.old) (λ ps. Comes (session_of
+        (R.meaning directories limits) words.now ps) result (O.held out.old) (O.held out.new)
+        (S.coming source.old) (S.coming source.new) (H.cell shelf.old) (H.cell shelf.new)) }
+    ensures order { Tells (H.cell shelf.old) → IfSome (S.coming source.old) (λ ps. IsInOrder result
+        (session_of (R.meaning directories limits) words.now ps).wants (H.cell shelf.old)
         (H.cell shelf.new) (H.changes shelf.old) (H.changes shelf.new)) }
+    ensures runs { IfSome (S.coming source.old) (λ ps. IsRun result
+        (count_of (R.meaning directories limits) words.now ps (R.runs_of runner.old))
+        (R.runs_of runner.new)) }
     ensures taken { Takes result (S.coming source.old) (S.coming source.new) }
     ensures source_opened { IsOpened result (source_in words.now) (S.opened source.old)
         (S.opened source.new) }
@@ -297,7 +323,7 @@ pub fn pan<S: Source, H: Shelf, O: Sink>(
         (Rose (H.fault_count shelf.old) (H.fault_count shelf.new) → ⊥) →
         (Rose (O.fault_count out.old) (O.fault_count out.new) → ⊥) → Completes result }
 {
-    match run(alloc, words, source, shelf, out) {
+    match run(alloc, words, runner, source, shelf, out, steps) {
         Ok(status) => status,
         Err(end) => conclude(alloc, &end, out),
     }

@@ -16,3 +16,6 @@ unfolding steps_run
 chains::run_chain-returns-in-None-pop-clause-gives g t c =
     let empty : length c.turns.waiting.items ≡ 0 = omega (arith, c.turns.waiting.ok.0, c.in-None-pop.ensures.cases.0) in
     sym c.turns.invariant.gives ∙ resumed_none _ _ _ c.turns.waiting.items _ _ empty (search rules)
+
+pub creating::run_created-run_statements-requires : goal.creating::run_created-run_statements-requires
+creating::run_created-run_statements-requires g t c = ?

@@ -1,0 +1,23 @@
+-- Keys and values, two by two.
+use Rattle.std.proofs.Common.{◌≡◌, ap, refl, true, List, [], ◌∷◌}
+use Rattle.path_tree.specs.Plain.{Plain}
+use Rattle.pan_ast.specs.declared.place.Place.{Place}
+use Rattle.questions.specs.Contents.{Answers}
+use Rattle.questions.specs.Run.{Meter, Done, then}
+use Rattle.dml_meaning.specs.Run.{Env}
+use Rattle.dml_meaning.specs.Meaning.{on_text, set_key, set_keys}
+use Rattle.dml_leaves.specs.Changes.{is_short}
+
+-- the first pair, and those behind it
+pub keys_more : (p : Place) (ts us : List Plain) (k v t : Plain) (o : Answers) (e : Env) (m : Meter) → ts ≡ k ∷ v ∷ us → set_keys p ts t o e m ≡ then (on_text p (set_key p v t) k o e m) (λ u. set_keys p us u o)
+unfolding set_keys
+keys_more p ts us k v t o e m is = ap (λ xs. set_keys p xs t o e m) is
+
+-- no pair
+pub keys_end : (p : Place) (ts : List Plain) (t : Plain) (o : Answers) (e : Env) (m : Meter) → is_short ts ≡ true → set_keys p ts t o e m ≡ Done t e m
+unfolding set_keys
+keys_end p [] t o e m h = refl
+keys_end p (k ∷ []) t o e m h = refl
+keys_end p (k ∷ v ∷ ts) t o e m h = absurd cc
+
+pub ruleset pairs = (keys_more, keys_end)

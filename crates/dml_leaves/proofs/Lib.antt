@@ -1,0 +1,4 @@
+pub mod Trees
+pub mod Indexed
+pub mod Weights
+pub mod KeyValues

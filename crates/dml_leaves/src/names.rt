@@ -1,0 +1,296 @@
+ghost use Rattle.std.specs.Prelude.{◌≡◌, IfOk, is_some, option_copied, unwrap_or, Some, None, option_and_then, pos, OnOk, not, ◌&&◌, ◌+◌};
+ghost use Rattle.dml_world.specs.Exits.{Follows, IsFault};
+ghost use Rattle.dml_leaves.specs.Changes.{IsLocalChange, IsRootChange};
+ghost use Rattle.dml_meaning.specs.Indexes.{changed};
+ghost use Rattle.path_tree.specs.Plain as plain;
+ghost use Rattle.path_tree.specs.Find.{child_count};
+ghost use Rattle.dml_meaning.specs.Words.{automatic_of};
+ghost use Rattle.dml_meaning.specs.Around.{found};
+ghost use Rattle.dml_world.specs.Seen.{around_of, env};
+ghost use Rattle.dml_meaning.specs.Meaning.{assign_name, automatic_value, change, in_function, may_change, may_change_by, name_run, no_indexes, read, root_of, set_value, value_of};
+ghost use Rattle.pan_ast.specs.Seen.{items_seen};
+
+use crate::indexes::{Unchanged, change_tree};
+use assign_rules::Variables;
+use base::{Steps, Text};
+use dml_meaning::{Automatic, automatic_name};
+use dml_world::leaf::{fault, fault_on, take_step, take_steps};
+use dml_world::{Around, Called, Exit, Live, World};
+use pan_ast::{Code, Item, Place};
+use path_tree::Tree;
+use std::alloc::{AllocError, Global};
+use std::sync::ledger::Ledger;
+
+/// The text of a name as a value.
+fn name_value(alloc: Global, text: &str) -> Result<Tree, AllocError>
+    ensures { IfOk result (λ t. t ≡ plain.text text.now) }
+{
+    match Tree::text(alloc, text) {
+        Ok(value) => Ok(value),
+        Err(_) => Err(AllocError),
+    }
+}
+
+/// How many arguments the open call has.
+#[tactic(auto, using(path_tree::proofs::Counts::few_children))]
+fn argument_count(called: &Called) -> Tree
+    ensures { result ≡ plain.long (pos (child_count called.now.arguments)) }
+{
+    let _size = called.arguments.size();
+    Tree::long(called.arguments.len() as i64)
+}
+
+/// The value of an automatic name, where it is there.
+fn automatic_value<W: World>(
+    alloc: Global,
+    name: Automatic,
+    around: &Around<'_>,
+    live: &Live,
+    world: &W,
+) -> Result<Option<Tree>, AllocError>
+    ensures { IfOk result (λ t. t ≡ automatic_value (around_of around.now W.reading W.calls)
+        live.now.self_value name) }
+{
+    match name {
+        Automatic::OwnValue => Ok(Some(live.self_value.copy()?)),
+        Automatic::Object => Ok(Some(name_value(alloc, around.frame.object.as_str())?)),
+        Automatic::Template => Ok(Some(name_value(alloc, around.frame.template.as_str())?)),
+        Automatic::Arguments => match &around.called {
+            None => Ok(None),
+            Some(called) => Ok(Some(called.arguments.copy()?)),
+        },
+        Automatic::Count => match &around.called {
+            None => Ok(None),
+            Some(called) => Ok(Some(argument_count(called))),
+        },
+        Automatic::Function => match &around.called {
+            None => Ok(None),
+            Some(called) => Ok(Some(name_value(alloc, called.name.as_str())?)),
+        },
+    }
+}
+
+/// The value of an automatic name, by its text.
+fn automatic_named<W: World>(
+    alloc: Global,
+    name: &Text,
+    around: &Around<'_>,
+    live: &Live,
+    world: &W,
+) -> Result<Option<Tree>, AllocError>
+    ensures { IfOk result (λ t. t ≡ option_and_then
+        (automatic_value (around_of around.now W.reading W.calls) live.now.self_value)
+        (automatic_of name.now)) }
+{
+    match automatic_name(name.as_str()) {
+        Some(automatic) => automatic_value(alloc, automatic, around, live, world),
+        None => Ok(None),
+    }
+}
+
+/// The value of a name: of the local, else of the automatic name, else of the global.
+pub fn find_value<W: World>(
+    alloc: Global,
+    name: &Text,
+    around: &Around<'_>,
+    live: &Live,
+    world: &W,
+) -> Result<Option<Tree>, AllocError>
+    ensures { IfOk result (λ t. t ≡ value_of (around_of around.now W.reading W.calls) name.now
+        (env live.now)) }
+{
+    if let Some(value) = live.locals.find(name.as_str()) {
+        return Ok(Some(value.copy()?));
+    }
+    if let Some(value) = automatic_named(alloc, name, around, live, world)? {
+        return Ok(Some(value));
+    }
+    match around.frame.globals.value(name.as_str()) {
+        Some(value) => Ok(Some(value.copy()?)),
+        None => Ok(None),
+    }
+}
+
+/// The value of a name that has one.
+fn read<W: World>(
+    alloc: Global,
+    place: &Place,
+    name: &Text,
+    around: &Around<'_>,
+    live: &Live,
+    world: &W,
+) -> Result<Tree, Exit>
+    ensures { Follows (λ t. t) result W.answers live.now (W.asked world.now) live.now
+        (W.asked world.now) (read (around_of around.now W.reading W.calls) place.now name.now) }
+{
+    match find_value(alloc, name, around, live, world)? {
+        Some(value) => Ok(value),
+        None => Err(fault_on(alloc, Code::NoVariable, place, name.as_str())),
+    }
+}
+
+/// A name, with its step.
+pub fn run_name<W: World, L: Ledger>(
+    alloc: Global,
+    place: &Place,
+    name: &Text,
+    around: &Around<'_>,
+    live: &mut Live,
+    world: &W,
+    steps: &mut Steps<L>,
+) -> Result<Tree, Exit>
+    ensures gives { Follows (λ t. t) result W.answers live.old (W.asked world.now) live.new
+        (W.asked world.now) (name_run (around_of around.now W.reading W.calls) place.now name.now) }
+    ensures counted { steps.new + live.new.work.left ≡ steps.old + live.old.work.left }
+{
+    take_step(alloc, place, live, world, steps)?;
+    read(alloc, place, name, around, live, world)
+}
+
+/// Whether a reference has no index.
+#[tactic(auto, using(crate::proofs::Trees::whole))]
+pub fn is_whole(indexes: &[Item]) -> bool
+    ensures { result ≡ no_indexes (items_seen indexes.now) }
+{
+    if indexes.len() == 0 {
+        return true;
+    }
+    false
+}
+
+/// Whether a name is that of a global and of no local.
+fn is_only_global(name: &Text, around: &Around<'_>, live: &Live) -> bool
+    ensures { result ≡ (is_some (found around.now.frame.now.globals.now.variables name.now)
+        && not (is_some (found live.now.locals name.now))) }
+{
+    around.frame.globals.value(name.as_str()).is_some() && live.locals.find(name.as_str()).is_none()
+}
+
+/// Whether a name may be changed, at an index or as a whole.
+pub fn may_change<W: World>(
+    alloc: Global,
+    place: &Place,
+    name: &Text,
+    whole: bool,
+    around: &Around<'_>,
+    live: &Live,
+    world: &W,
+) -> Result<(), Exit>
+    ensures { Follows (λ t. t) result W.answers live.now (W.asked world.now) live.now
+        (W.asked world.now) (may_change (around_of around.now W.reading W.calls) place.now name.now whole) }
+{
+    match automatic_name(name.as_str()) {
+        Some(Automatic::OwnValue) => {
+            if around.self_use.is_fixed() || whole {
+                return Err(fault(alloc, Code::SelfChange, place));
+            }
+        }
+        Some(_) => return Err(fault_on(alloc, Code::GlobalChange, place, name.as_str())),
+        None => {
+            if is_only_global(name, around, live) {
+                return Err(fault_on(alloc, Code::GlobalChange, place, name.as_str()));
+            }
+        }
+    }
+    Ok(())
+}
+
+/// Changes what is at indexes of a local, which begins as undef. It is taken out meanwhile, so that
+/// nothing is copied.
+#[tactic(auto, using(assign_rules::proofs::Entries::put_back))]
+fn change_local(
+    alloc: Global,
+    name: &Text,
+    keys: &[Tree],
+    value: &Tree,
+    locals: &mut Variables,
+) -> Result<(), Unchanged>
+    ensures { IsLocalChange result name.now locals.old locals.new
+        (changed keys.now value.now (unwrap_or (found locals.old name.now) plain.undef)) }
+{
+    let mut root = match locals.take(name.as_str()) {
+        Some(root) => root,
+        None => Tree::undef(),
+    };
+    change_tree(alloc, keys, value, &mut root)?;
+    locals.set(name, root)?;
+    Ok(())
+}
+
+/// Changes what is at indexes of SELF or of a local.
+fn change_root(
+    alloc: Global,
+    name: &Text,
+    keys: &[Tree],
+    value: &Tree,
+    live: &mut Live,
+) -> Result<(), Unchanged>
+    ensures change { IsRootChange result name.now live.old live.new
+        (changed keys.now value.now (unwrap_or (root_of (env live.old) name.now) plain.undef)) }
+    ensures left { live.new.work.left ≡ live.old.work.left }
+{
+    match automatic_name(name.as_str()) {
+        Some(Automatic::OwnValue) => change_tree(alloc, keys, value, &mut live.self_value),
+        Some(_) | None => change_local(alloc, name, keys, value, &mut live.locals),
+    }
+}
+
+/// Changes what is at indexes of SELF or of a local, or says at a place why not.
+pub fn change<W: World>(
+    alloc: Global,
+    place: &Place,
+    name: &Text,
+    keys: &[Tree],
+    value: &Tree,
+    live: &mut Live,
+    world: &W,
+) -> Result<(), Exit>
+    ensures gives { Follows (λ t. t) result W.answers live.old (W.asked world.now) live.new
+        (W.asked world.now) (change place.now name.now keys.now value.now) }
+    ensures left { live.new.work.left ≡ live.old.work.left }
+{
+    match change_root(alloc, name, keys, value, live) {
+        Ok(()) => Ok(()),
+        Err(Unchanged::Code(code)) => Err(fault(alloc, code, place)),
+        Err(Unchanged::Memory) => Err(Exit::Memory),
+    }
+}
+
+/// A step for each index, and the change.
+pub fn set_value<W: World, L: Ledger>(
+    alloc: Global,
+    place: &Place,
+    name: &Text,
+    keys: &[Tree],
+    value: Tree,
+    live: &mut Live,
+    world: &W,
+    steps: &mut Steps<L>,
+) -> Result<Tree, Exit>
+    ensures gives { Follows (λ t. t) result W.answers live.old (W.asked world.now) live.new
+        (W.asked world.now) (set_value place.now name.now keys.now value) }
+    ensures counted { steps.new + live.new.work.left ≡ steps.old + live.old.work.left }
+{
+    take_steps(alloc, keys.len(), place, live, world, steps)?;
+    change(alloc, place, name, keys, &value, live, world)?;
+    Ok(value)
+}
+
+/// Sets a name by the rules of assignment.
+pub fn assign_name<W: World>(
+    alloc: Global,
+    place: &Place,
+    name: &Text,
+    value: &Tree,
+    around: &Around<'_>,
+    live: &mut Live,
+    world: &W,
+) -> Result<(), Exit>
+    ensures gives { Follows (λ t. t) result W.answers live.old (W.asked world.now) live.new
+        (W.asked world.now) (assign_name (around_of around.now W.reading W.calls) place.now name.now
+        value.now) }
+    ensures left { live.new.work.left ≡ live.old.work.left }
+{
+    may_change(alloc, place, name, true, around, live, world)?;
+    change(alloc, place, name, &[], value, live, world)
+}

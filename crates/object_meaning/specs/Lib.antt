@@ -1,0 +1,4 @@
+pub mod Rest
+pub mod Builds
+pub mod Checks
+pub mod Meanings

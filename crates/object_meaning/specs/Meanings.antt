@@ -1,0 +1,16 @@
+-- Builds and checks of objects, as what a runner means.
+use Rattle.std.specs.Prelude.{ℕ, List}
+use Rattle.pan_ast.specs.declared.work.Limits.{Limits}
+use Rattle.questions.specs.Told.{work_of}
+use Rattle.runner.specs.Meaning.{Meaning}
+use Rattle.object_meaning.specs.Rest.{Rest}
+use Rattle.object_meaning.specs.Builds.{site_at, build, build_told}
+use Rattle.object_meaning.specs.Checks.{check, check_told}
+
+abbrev pub meaning_of : List (List ℕ) → Limits → Meaning Rest
+meaning_of dirs limits = record {
+  build = λ object. build (site_at dirs limits object);
+  build_work = λ object pairs. work_of (build_told (site_at dirs limits object) pairs);
+  check = λ b. check (site_at dirs limits b.object) b;
+  check_work = λ b pairs. work_of (check_told (site_at dirs limits b.object) b pairs);
+}

@@ -1,0 +1,79 @@
+ghost use Rattle.std.specs.Prelude.{◌≡◌, ◌+◌, Ok, map};
+ghost use Rattle.dml_world.specs.Exits.{Tells};
+ghost use Rattle.dml_world.specs.Seen.{meter};
+ghost use Rattle.object_meaning.specs.Builds.{build_ending, built_of, built_run, defaults_run};
+ghost use Rattle.object_run.specs.Ended.{IsFilled, ended};
+ghost use Rattle.template_meaning.specs.Program.{no_program};
+ghost use Rattle.template_run.specs.Seen.{program_of, site_of};
+
+use crate::rest::Rest;
+use base::Steps;
+use defaults::fill;
+use dml_world::{Stop, World};
+use pan_ast::{Failure, Place, Work};
+use runner::Built;
+use std::alloc::Global;
+use std::sync::ledger::Ledger;
+use template_run::{Made, Program, Site, run_object};
+
+/// What a build makes of a program, once its defaults are put into the tree.
+fn filled<W: World, L: Ledger>(
+    alloc: Global,
+    header: Place,
+    program: Program,
+    site: &Site<'_>,
+    world: &W,
+    work: &mut Work,
+    steps: &mut Steps<L>,
+) -> Result<Built<Rest>, Stop>
+    ensures gives { IsFilled result header site.now.object.now W.answers (program_of program)
+        (meter work.old (W.asked world.now)) (meter work.new (W.asked world.now)) }
+    ensures counted { steps.new + work.new.left ≡ steps.old + work.old.left }
+{
+    let Program {
+        profile,
+        globals,
+        functions,
+        bindings,
+        valids,
+        ..
+    } = program;
+    let (mut tree, mut log) = profile.into_parts();
+    match fill(alloc, &mut tree, &bindings, &mut log, work, steps) {
+        Ok(()) => {}
+        Err(Failure::Fault(fault)) => return Err(Stop::Fault(Box::new(alloc, fault)?)),
+        Err(Failure::Memory) => return Err(Stop::Memory),
+    }
+    let rest = Rest {
+        header,
+        globals,
+        functions,
+        bindings,
+        valids,
+        log,
+    };
+    Ok(Built {
+        object: site.object.share()?,
+        tree,
+        rest,
+    })
+}
+
+/// Builds an object in a world: its statements, and then its defaults.
+#[tactic(auto, unfolding(object_meaning::specs::Builds::built_run))]
+pub(crate) fn build_object<W: World, L: Ledger>(
+    alloc: Global,
+    site: &Site<'_>,
+    world: &mut W,
+    work: &mut Work,
+    steps: &mut Steps<L>,
+) -> Result<Built<Rest>, Stop>
+    ensures gives { Tells Ok result (meter work.new (W.asked world.new)) (ended
+        (build_ending (site_of site.now W.reading W.calls))
+        (built_run (site_of site.now W.reading W.calls) W.answers no_program
+        (meter work.old (W.asked world.old)))) }
+    ensures counted { steps.new + work.new.left ≡ steps.old + work.old.left }
+{
+    let Made { program, header } = run_object(alloc, site, world, work, steps)?;
+    filled(alloc, header, program, site, world, work, steps)
+}

@@ -1,0 +1,123 @@
+ghost use Rattle.object_meaning.specs.Meanings.{meaning_of};
+ghost use Rattle.object_meaning.proofs.BothLawful.{is_lawful};
+ghost use Rattle.runner.specs.Meaning.{counted};
+ghost use Rattle.std.specs.Prelude.{◌≡◌};
+
+use crate::rest::Rest;
+use crate::runs::{Ran, build_in, check_in};
+use base::{Seq, Steps, Text};
+use load_path::Picture;
+use pan_ast::Limits;
+use path_tree::Name;
+use run_world::Kept;
+use runner::{BuildEnd, Built, CheckEnd, Known, Runner};
+use std::alloc::{AllocError, Global};
+use std::marker::Brand;
+use std::mem;
+use std::sync::ledger::{Blank, Ledger};
+
+/// The product's runner: builds and checks of objects over one picture. Templates are read once for
+/// the bytes that their files hold, and patterns are compiled once.
+#[derive(Drop)]
+pub struct Library {
+    alloc: Global,
+    picture: Picture,
+    dirs: Seq<Text>,
+    kept: Kept,
+    runs: u64,
+}
+
+/// A count with one more run; the last one stands.
+fn count_up(runs: u64) -> u64
+    ensures { result ≡ counted runs }
+{
+    if runs < u64::MAX { runs + 1 } else { runs }
+}
+
+impl Library {
+    /// An empty picture, no directories, and no runs yet.
+    pub fn new(alloc: Global) -> Library {
+        Library {
+            alloc,
+            picture: Picture::new(alloc),
+            dirs: Seq::new(alloc),
+            kept: Kept::new(alloc),
+            runs: 0,
+        }
+    }
+}
+
+impl Runner for Library {
+    type Rest = Rest;
+
+    ghost meaning = { meaning_of };
+
+    ghost files_of = { λ l. l.picture };
+
+    ghost dirs_of = { λ l. l.dirs };
+
+    ghost runs_of = { λ l. l.runs };
+
+    fn set_picture(&mut self, picture: Picture, dirs: Seq<Text>) {
+        self.picture = picture;
+        self.dirs = dirs;
+    }
+
+    fn picture(&self) -> &Picture {
+        &self.picture
+    }
+
+    fn run_build<K: Known, L: Ledger>(
+        &mut self,
+        name: &Name,
+        known: &K,
+        limits: &Limits,
+        steps: &mut Steps<L>,
+    ) -> Result<BuildEnd<Rest>, AllocError> {
+        let alloc = self.alloc;
+        let kept = mem::replace(&mut self.kept, Kept::new(alloc));
+        let Ran { end, kept, spent } = build_in::<Brand, K, Brand>(
+            alloc,
+            Blank::new(1),
+            &self.picture,
+            self.dirs.as_slice(),
+            kept,
+            name,
+            known,
+            limits,
+        );
+        self.kept = kept;
+        self.runs = count_up(self.runs);
+        let end = end?;
+        steps.pay(spent);
+        Ok(end)
+    }
+
+    fn run_check<K: Known, L: Ledger>(
+        &mut self,
+        built: &Built<Rest>,
+        known: &K,
+        limits: &Limits,
+        steps: &mut Steps<L>,
+    ) -> Result<CheckEnd, AllocError> {
+        let alloc = self.alloc;
+        let kept = mem::replace(&mut self.kept, Kept::new(alloc));
+        let Ran { end, kept, spent } = check_in::<Brand, K, Brand, Brand>(
+            alloc,
+            Blank::new(1),
+            &self.picture,
+            self.dirs.as_slice(),
+            kept,
+            built,
+            known,
+            limits,
+        );
+        self.kept = kept;
+        self.runs = count_up(self.runs);
+        let end = end?;
+        steps.pay(spent);
+        Ok(end)
+    }
+
+    ghost laws = { is_lawful };
+}

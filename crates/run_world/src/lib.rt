@@ -1,0 +1,14 @@
+//! The world of one run of an object: files are told by a picture, other objects as they are known,
+//! and what was asked is kept with the numbers that it had.
+//!
+//! In reading order: `words` (what each key tells), `notes` (what was asked), `told` (what is told of
+//! a file and of an object), `run_world`.
+#![tactic(auto)]
+
+mod notes;
+mod run_world;
+mod told;
+mod words;
+
+pub use run_world::{Kept, RunWorld};
+pub use words::Words;

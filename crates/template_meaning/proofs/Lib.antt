@@ -1,0 +1,2 @@
+pub mod EachStatement
+pub mod OfObjects

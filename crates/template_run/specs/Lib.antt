@@ -1,0 +1,4 @@
+pub mod Seen
+pub mod Runs
+pub mod Refusals
+pub mod Prefixes

@@ -1,0 +1,28 @@
+-- What a function of the run returned, and left, is what a run by the definitions gives.
+use Rattle.std.specs.Prelude.{◌≡◌, List, Result, Ok, Err}
+use Rattle.questions.specs.Contents.{Answers}
+use Rattle.questions.specs.Run.{Meter, Outcome, Done}
+use Rattle.dml_world.specs.declared.stop.Stop.{Stop}
+use Rattle.dml_world.specs.Exits.{Stops}
+use Rattle.pan_ast.specs.declared.place.Place.{Place}
+use Rattle.template_meaning.specs.Program.{Program, no_program}
+use Rattle.template_meaning.specs.Statements.{Run}
+use Rattle.template_run.specs.declared.objects.Made.{Made}
+use Rattle.template_run.specs.Seen.{program_of}
+
+-- its value, with the program and the work that are left; or its fault or its question
+abbrev pub Comes : {X Y : Type 0} → (X → Y) → Result X Stop → Program → Meter → Outcome Program Y
+    → Type 0
+Comes view (Ok x) s m o = o ≡ Done (view x) s m
+Comes view (Err x) s m o = Stops x m o
+
+-- told these answers, from a program and a meter to those that there are then
+abbrev pub Runs : {X Y : Type 0} → (X → Y) → Result X Stop → Answers → Program → Meter → Program
+    → Meter → Run Y → Type 0
+Runs view r answers before m after n run = Comes view r after n (run answers before m)
+
+-- what an object's statements have made, from an empty program on
+abbrev pub MakesObject : Result Made Stop → Answers → Meter → Meter → Run Place → Type 0
+MakesObject (Ok x) answers m n run =
+    run answers no_program m ≡ Done x.header (program_of x.program) n
+MakesObject (Err x) answers m n run = Stops x n (run answers no_program m)

@@ -1,0 +1,19 @@
+use base::Text;
+use pan_ast::{Limits, TemplateKind};
+use path_tree::Name;
+
+/// What a run is about: the object, the include directories and the limits.
+#[derive(Drop)]
+pub struct Site<'a> {
+    pub object: &'a Name,
+    pub dirs: &'a [Text],
+    pub limits: Limits,
+}
+
+/// The template whose statements run, and how many includes are open.
+#[derive(Drop)]
+pub(crate) struct Inside {
+    pub kind: TemplateKind,
+    pub template: Name,
+    pub includes: u64,
+}

@@ -1,0 +1,200 @@
+ghost use Rattle.std.specs.Prelude.{◌≡◌, ◌+◌, ◌++◌, [], OnOk, IfOk, map};
+ghost use Rattle.dml_world.specs.Seen.{meter};
+ghost use Rattle.pan_ast.specs.Seen.{item_seen};
+ghost use Rattle.pan_ast.specs.TypesSeen.{field_seen, fields_seen, full_seen, head_seen};
+ghost use Rattle.template_meaning.specs.Statements.{default_run, defaults_run, or_no_type, type_run};
+ghost use Rattle.template_meaning.specs.WrittenDefaults.{defaults_in, field_defaults, fields_defaults, head_defaults};
+ghost use Rattle.template_run.specs.Refusals.{IsUntyped};
+ghost use Rattle.template_run.specs.Runs.{Runs};
+ghost use Rattle.template_run.specs.Seen.{inside_of, items_at, program_of, site_of};
+ghost use Rattle.type_defs.specs.ResolvedSeen.{resolved_seen};
+ghost use Rattle.type_defs.specs.Resolving.{type_of};
+ghost use Rattle.type_defs.specs.Tables.{known};
+
+use crate::dml::run_in;
+use crate::program::Program;
+use crate::site::{Inside, Site};
+use base::Steps;
+use dml_world::leaf::stop_on;
+use dml_world::{SelfUse, Stop, World};
+use pan_ast::{Code, Field, FullType, Head, Item, Place, Work};
+use path_tree::Tree;
+use std::alloc::{AllocError, Global};
+use std::sync::ledger::Ledger;
+use type_defs::{SharedType, TypeError};
+
+/// Puts the items of the defaults in a type behind those of a list.
+#[cycle(written)]
+#[tactic(auto, using(pan_ast::proofs::TypeForms::types))]
+fn push_defaults<'a>(list: &mut Vec<&'a Item>, full: &'a FullType) -> Result<(), AllocError>
+    ensures { OnOk result (items_at list.new.items ≡ items_at list.old.items
+        ++ defaults_in (full_seen full.now)) }
+{
+    push_of_head(list, &full.form.head)?;
+    if let Some(item) = &full.default {
+        list.push(item)?;
+    }
+    Ok(())
+}
+
+#[cycle(written)]
+#[tactic(auto, using(pan_ast::proofs::TypeForms::types))]
+fn push_of_head<'a>(list: &mut Vec<&'a Item>, head: &'a Head) -> Result<(), AllocError>
+    ensures { OnOk result (items_at list.new.items ≡ items_at list.old.items
+        ++ head_defaults (head_seen head.now)) }
+{
+    match head {
+        Head::Record(record) => push_of_fields(list, &record.fields),
+        Head::Named { .. } | Head::Choice(_) => Ok(()),
+    }
+}
+
+#[cycle(written)]
+#[tactic(auto, using(crate::proofs::Items::fields_more, std::proofs::Common::append_assoc))]
+fn push_of_fields<'a>(list: &mut Vec<&'a Item>, fields: &'a [Field]) -> Result<(), AllocError>
+    ensures { OnOk result (items_at list.new.items ≡ items_at list.old.items
+        ++ fields_defaults (fields_seen fields.now)) }
+{
+    'fields: for field in fields {
+        push_of_field(list, field)?;
+    }
+    Ok(())
+}
+
+#[cycle(written)]
+#[tactic(auto, using(pan_ast::proofs::TypeForms::types))]
+fn push_of_field<'a>(list: &mut Vec<&'a Item>, field: &'a Field) -> Result<(), AllocError>
+    ensures { OnOk result (items_at list.new.items ≡ items_at list.old.items
+        ++ field_defaults (field_seen field.now)) }
+{
+    match field {
+        Field::Own { full, .. } => push_defaults(list, full),
+        Field::Include { .. } => Ok(()),
+    }
+}
+
+/// The value of a default, which is not null.
+#[tactic(auto, using(pan_ast::proofs::Places::item_place_seen), unfolding(template_meaning::specs::Statements::default_run))]
+fn run_default<W: World, L: Ledger>(
+    alloc: Global,
+    item: &Item,
+    site: &Site<'_>,
+    inside: &Inside,
+    program: &Program,
+    world: &mut W,
+    work: &mut Work,
+    steps: &mut Steps<L>,
+) -> Result<Tree, Stop>
+    ensures gives { Runs (λ t. t) result W.answers (program_of program.now)
+        (meter work.old (W.asked world.old)) (program_of program.now)
+        (meter work.new (W.asked world.new)) (default_run (site_of site.now W.reading W.calls)
+        (inside_of inside.now) (item_seen item.now)) }
+    ensures counted { steps.new + work.new.left ≡ steps.old + work.old.left }
+{
+    let value = run_in(
+        alloc,
+        item,
+        SelfUse::Fixed,
+        Tree::undef(),
+        site,
+        inside,
+        program,
+        world,
+        work,
+        steps,
+    )?;
+    if value.is_null() {
+        return Err(stop_on(alloc, Code::BadArgument, &item.place, ""));
+    }
+    Ok(value)
+}
+
+/// The values of defaults, in order.
+#[tactic(auto, using(crate::proofs::Items::defaults_more), unfolding(template_meaning::specs::Statements::defaults_run))]
+fn run_defaults<W: World, L: Ledger>(
+    alloc: Global,
+    items: &[&Item],
+    site: &Site<'_>,
+    inside: &Inside,
+    program: &Program,
+    world: &mut W,
+    work: &mut Work,
+    steps: &mut Steps<L>,
+) -> Result<Vec<Tree>, Stop>
+    ensures gives { Runs (λ v. v.items) result W.answers (program_of program.now)
+        (meter work.old (W.asked world.old)) (program_of program.now)
+        (meter work.new (W.asked world.new)) (defaults_run (site_of site.now W.reading W.calls)
+        (inside_of inside.now) (items_at items.now) []) }
+    ensures counted { steps.new + work.new.left ≡ steps.old + work.old.left }
+{
+    let mut values = Vec::new(alloc);
+    'items: for item in items {
+        let value = run_default(alloc, item, site, inside, program, world, work, steps)?;
+        values.push(value)?;
+    }
+    Ok(values)
+}
+
+/// The fault of a written type that is none.
+fn untyped(alloc: Global, error: TypeError) -> Stop
+    ensures { IsUntyped error result }
+{
+    match error {
+        TypeError::Memory => Stop::Memory,
+        TypeError::NoType(place, name) => stop_on(alloc, Code::NoType, &place, name.as_str()),
+        TypeError::Redefined(place, key) => stop_on(alloc, Code::Redefined, &place, key.as_str()),
+        TypeError::BadRange(place) => stop_on(alloc, Code::BadRange, &place, ""),
+        TypeError::TooDeep(place) => stop_on(alloc, Code::TooDeep, &place, ""),
+    }
+}
+
+/// The type that a written type stands for, with these values of its defaults.
+#[tactic(auto, using(crate::proofs::Refused::untyped_comes))]
+fn resolve<W: World>(
+    alloc: Global,
+    full: &FullType,
+    values: &[Tree],
+    place: &Place,
+    inside: &Inside,
+    program: &Program,
+    world: &W,
+    work: &Work,
+) -> Result<SharedType, Stop>
+    ensures { Runs resolved_seen result W.answers (program_of program.now)
+        (meter work.now (W.asked world.now)) (program_of program.now)
+        (meter work.now (W.asked world.now)) (or_no_type place.now (type_of
+        (known program.now.types) inside.now.template place.now (full_seen full.now) values.now)) }
+{
+    match program
+        .types
+        .resolve(alloc, full, values, &inside.template, place)
+    {
+        Ok(resolved) => Ok(resolved),
+        Err(error) => Err(untyped(alloc, error)),
+    }
+}
+
+/// The type of a statement: the values of its defaults (Pan Book, "Types"), and then its names.
+#[tactic(auto, unfolding(template_meaning::specs::Statements::type_run))]
+pub(crate) fn run_type<W: World, L: Ledger>(
+    alloc: Global,
+    full: &FullType,
+    place: &Place,
+    site: &Site<'_>,
+    inside: &Inside,
+    program: &Program,
+    world: &mut W,
+    work: &mut Work,
+    steps: &mut Steps<L>,
+) -> Result<SharedType, Stop>
+    ensures gives { Runs resolved_seen result W.answers (program_of program.now)
+        (meter work.old (W.asked world.old)) (program_of program.now)
+        (meter work.new (W.asked world.new)) (type_run (site_of site.now W.reading W.calls)
+        (inside_of inside.now) place.now (full_seen full.now)) }
+    ensures counted { steps.new + work.new.left ≡ steps.old + work.old.left }
+{
+    let mut items = Vec::new(alloc);
+    push_defaults(&mut items, full)?;
+    let values = run_defaults(alloc, &items, site, inside, program, world, work, steps)?;
+    resolve(alloc, full, &values, place, inside, program, world, work)
+}
