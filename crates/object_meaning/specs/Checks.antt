@@ -1,5 +1,5 @@
--- The check of what was built, with a whole work of its own. SELF is fixed in its DML, no include is
--- open, and globals and functions are those at the end of execution.
+-- The check of what was built, with a whole work of its own. SELF is fixed in its DML, all includes
+-- may still be opened, and globals and functions are those at the end of execution.
 use Rattle.std.specs.Prelude.{ℕ, List, Option, Some, None, true, false}
 use Rattle.path_tree.specs.Plain.{Plain}
 use Rattle.path_tree.specs.Paths.{path_text}
@@ -12,7 +12,7 @@ use Rattle.questions.specs.declared.key.Key.{Key}
 use Rattle.questions.specs.Contents.{Content, answer_in}
 use Rattle.questions.specs.Run.{Outcome}
 use Rattle.questions.specs.Told.{Ending, answer_by, whole}
-use Rattle.dml_meaning.specs.declared.limits.TheConstants.{MAX_OPEN_ITEMS}
+use Rattle.dml_meaning.specs.declared.limits.TheConstants.{MAX_INCLUDES, MAX_OPEN_ITEMS}
 use Rattle.dml_meaning.specs.Around.{Around}
 use Rattle.dml_meaning.specs.Lookups.{Looked, look_at}
 use Rattle.dml_meaning.specs.Meaning.{dml_run, eval}
@@ -36,7 +36,7 @@ around_built site b template = record {
   fixed = false;
   iterations = site.limits.max_iteration;
   calls_left = site.limits.max_recursion;
-  includes = 0;
+  includes_left = MAX_INCLUDES;
   called = None;
   reading = site.reading;
   calls = site.calls;

@@ -1,7 +1,6 @@
 -- Each statement is a lawful run.
-use Rattle.std.proofs.Common.{◌≡◌, refl, ℕ, zero, suc, List, [], ◌∷◌, Option, Some, None, Bool, true, false, Result, Ok, Err}
+use Rattle.std.proofs.Common.{◌≡◌, ℕ, zero, suc, List, [], ◌∷◌, Option, Some, None, Bool, false, Result, Ok, Err}
 use Rattle.path_tree.specs.Plain.{Plain}
-use Rattle.path_tree.specs.Paths.{path_of}
 use Rattle.path_tree.specs.declared.path.Term.{Term}
 use Rattle.path_tree.specs.declared.path.PutError.TheVariants as put_error
 use Rattle.pan_ast.specs.declared.place.Place.{Place}
@@ -26,8 +25,8 @@ use Rattle.assign_rules.specs.declared.globals.SetError.TheVariants as set_error
 use Rattle.type_defs.specs.declared.type_error.TypeError.{TypeError}
 use Rattle.type_defs.specs.declared.type_error.TypeError.TheVariants as type_error
 use Rattle.type_defs.specs.Resolved.{Resolved}
-use Rattle.template_meaning.specs.Program.{Site, Program, Inside}
-use Rattle.template_meaning.specs.Statements.{Run, Prefixed, dml_in, or_fail_about, path_terms, or_unchanged, put_run, assign_terms, assign_run, or_unset, set_run, variable_value, variable_run, function_run, no_null, default_run, defaults_run, or_no_type, type_run, define_run, bind_run, valid_run, prefix_run, Includes, include_by, include_value, include_run, and_keep, form_run, statement_run, statements_run, starts, where_it_starts, named_in, template_run, included}
+use Rattle.template_meaning.specs.Program.{Site, Inside}
+use Rattle.template_meaning.specs.Statements.{Run, Prefixed, dml_in, or_fail_about, path_terms, or_unchanged, put_run, assign_terms, assign_run, or_unset, set_run, variable_value, variable_run, function_run, no_null, default_run, defaults_run, or_no_type, type_run, define_run, bind_run, valid_run, prefix_run, Includes, include_by, include_run, form_run, statement_run, statements_run, starts, where_it_starts, named_in, template_run, included}
 
 -- what is told of other objects and of files suits the object
 abbrev pub Suits : (Key → Type 0) → Site → Type 0

@@ -1,5 +1,5 @@
 -- What the laws of the run of an object's statements are said of.
-use Rattle.std.specs.Prelude.{ℕ, List, [], Bool, false, Result, Ok, Err}
+use Rattle.std.specs.Prelude.{List, Bool, false, Result, Ok, Err}
 use Rattle.pan_ast.specs.declared.fault.Fault.{Fault}
 use Rattle.pan_ast.specs.declared.place.Place.{Place}
 use Rattle.questions.specs.declared.key.Key.{Key}

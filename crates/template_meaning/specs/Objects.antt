@@ -1,5 +1,5 @@
 -- What an object's own template makes, from an empty dict on.
-use Rattle.std.specs.Prelude.{ℕ, Bool, true, false, List, ◌++◌, codes, cond, Option, None}
+use Rattle.std.specs.Prelude.{ℕ, Bool, true, false, List, ◌++◌, codes, cond, None}
 use Rattle.pan_ast.specs.declared.place.Place.{Place}
 use Rattle.pan_ast.specs.declared.fault.Code.TheVariants as code
 use Rattle.pan_ast.specs.declared.template.TemplateKind.{TemplateKind}
@@ -8,7 +8,7 @@ use Rattle.pan_ast.specs.Templates.{Template}
 use Rattle.questions.specs.Run.{◌>>=◌, give, fail_about, still}
 use Rattle.dml_meaning.specs.declared.limits.TheConstants.{MAX_INCLUDES}
 use Rattle.dml_meaning.specs.Lookups.{template_named}
-use Rattle.template_meaning.specs.Program.{Site, Program, no_program, at_top, around_in}
+use Rattle.template_meaning.specs.Program.{Site, no_program, at_top, around_in}
 use Rattle.template_meaning.specs.Statements.{Run, statements_run, included}
 
 -- line 1, column 1 of the object's file
@@ -19,7 +19,7 @@ abbrev pub is_object_kind : TemplateKind → Bool
 is_object_kind kind.Object = true
 is_object_kind k = false
 
--- where 50 includes may be open
+-- all includes may still be opened
 abbrev pub run_top : Site → Template → Run (Unit {0})
 run_top site z = cond (is_object_kind z.kind)
     (statements_run (included MAX_INCLUDES site) site (at_top site) None z.statements)

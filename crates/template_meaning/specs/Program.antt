@@ -1,11 +1,12 @@
 -- What the statements of an object change, and what stays the same while they run.
 use Rattle.std.specs.Prelude.{ℕ, false, List, [], None, Result}
-use Rattle.path_tree.specs.Plain.{Plain, dict, no_fields}
+use Rattle.path_tree.specs.Plain.{dict, no_fields}
 use Rattle.pan_ast.specs.declared.fault.Fault.{Fault}
 use Rattle.pan_ast.specs.declared.work.Limits.{Limits}
 use Rattle.pan_ast.specs.declared.template.TemplateKind.{TemplateKind}
 use Rattle.pan_ast.specs.declared.template.TemplateKind.TheVariants as kind
 use Rattle.pan_ast.specs.Templates.{Template}
+use Rattle.dml_meaning.specs.declared.limits.TheConstants.{MAX_INCLUDES}
 use Rattle.dml_meaning.specs.Around.{Around, Function, ValueCalls}
 use Rattle.assign_rules.specs.Profiles.{ProfileValue}
 use Rattle.assign_rules.specs.Globals.{GlobalsValue, no_globals}
@@ -45,15 +46,16 @@ no_program = record {
   ran = [];
 }
 
--- The template whose statements run: its kind, its name, and how many includes are open.
+-- The template whose statements run: its kind, its name, and how many includes may still be opened.
 pub record Inside : Type 0 where
   pub kind : TemplateKind
   pub template : List ℕ
-  pub includes : ℕ
+  pub includes_left : ℕ
 
--- the object's own template
+-- the object's own template, inside no include
 abbrev pub at_top : Site → Inside
-at_top site = record { kind = kind.Object; template = site.object; includes = 0 }
+at_top site =
+    record { kind = kind.Object; template = site.object; includes_left = MAX_INCLUDES }
 
 -- what stands around the DML of a statement
 abbrev pub around_in : Site → Inside → Program → Around
@@ -67,7 +69,7 @@ around_in site n s = record {
   fixed = false;
   iterations = site.limits.max_iteration;
   calls_left = site.limits.max_recursion;
-  includes = n.includes;
+  includes_left = n.includes_left;
   called = None;
   reading = site.reading;
   calls = site.calls;

@@ -1,6 +1,6 @@
 -- What the statements of a template mean, but for those of structure templates, which are run by
 -- `create` alone. A statement costs a step when it begins.
-use Rattle.std.specs.Prelude.{ℕ, zero, suc, ◌+◌, Bool, true, false, not, ◌&&◌, ◌||◌, List, [], ◌∷◌, ◌++◌, Option, Some, None, is_some, unwrap_or, Result, Ok, Err, cond, nat_le, codes, bytes_eq}
+use Rattle.std.specs.Prelude.{ℕ, zero, suc, ◌-◌, Bool, true, false, not, ◌&&◌, ◌||◌, List, [], ◌∷◌, ◌++◌, Option, Some, None, is_some, unwrap_or, Result, Ok, Err, cond, nat_le, codes, bytes_eq}
 use Rattle.std.specs.List.{list_any, list_all}
 use Rattle.path_tree.specs.Plain.{Plain, list, undef}
 use Rattle.path_tree.specs.Find.{get, kind_of, text_of, child_count}
@@ -23,7 +23,7 @@ use Rattle.pan_ast.specs.Templates.{Template, Statement, StatementForm, Assign, 
 use Rattle.pan_ast.specs.Types.{FullType}
 use Rattle.questions.specs.Run as questions
 use Rattle.questions.specs.Run.{◌>>=◌, give, fail, fail_about, step, now, become, still}
-use Rattle.dml_meaning.specs.declared.limits.TheConstants.{MAX_INCLUDES, MAX_OPEN_ITEMS}
+use Rattle.dml_meaning.specs.declared.limits.TheConstants.{MAX_OPEN_ITEMS}
 use Rattle.dml_meaning.specs.declared.words.Test.TheVariants as test
 use Rattle.dml_meaning.specs.Around.{found, is_function}
 use Rattle.dml_meaning.specs.Words.{automatic_of}
@@ -346,7 +346,7 @@ where_it_starts body b = cond b body (give tt)
 
 -- inside a template that is included
 abbrev pub inside : Inside → Template → Inside
-inside n z = record { kind = z.kind; template = z.name; includes = n.includes + 1 }
+inside n z = record { kind = z.kind; template = z.name; includes_left = n.includes_left - 1 }
 
 -- the template of a name, looked for from here
 abbrev pub named_in : Site → Inside → Place → List ℕ → Run Template
@@ -359,7 +359,7 @@ template_run including site n p name z = cond (may_include n.kind z.kind)
     >>= where_it_starts (statements_run including site (inside n z) None z.statements))
     (fail_about code.WrongKind p name)
 
--- a template that is included where so many more may be open
+-- a template that is included, where so many includes may still be opened
 unfoldable pub included : ℕ → Site → Includes
 included zero site n p name = fail code.IncludeDepth p
 included (suc more) site n p name =

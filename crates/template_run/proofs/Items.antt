@@ -1,5 +1,5 @@
 -- Lists that are walked, a step at a time.
-use Rattle.std.proofs.Common.{◌≡◌, ◌∙◌, ap, sym, refl, ℕ, zero, suc, ◌+◌, ◌-◌, ◌<◌, ◌≤◌, Bool, true, false, ◌&&◌, List, [], ◌∷◌, ◌++◌, length, drop, get_or, map, arith}
+use Rattle.std.proofs.Common.{◌≡◌, ◌∙◌, ap, sym, refl, ℕ, zero, suc, ◌+◌, ◌-◌, ◌<◌, ◌≤◌, true, ◌&&◌, List, [], ◌∷◌, ◌++◌, length, drop, get_or, map, arith}
 use Rattle.std.specs.Borrow.{Bor}
 use Rattle.std.specs.List.{list_all}
 use Rattle.std.proofs.lemmas.List.{drop_more}

@@ -1,6 +1,5 @@
 -- A change that is refused ends as the definition does.
-use Rattle.std.proofs.Common.{◌≡◌, ◌∙◌, refl, ap, ℕ, List, Result, Ok, Err, Option, Some, None}
-use Rattle.base.specs.Answers.{Gives}
+use Rattle.std.proofs.Common.{◌≡◌, refl, sym, ap, ℕ, Bool, true, false, List, [], ◌∷◌, ◌++◌, Result, Ok, Err, IfSome, cond}
 use Rattle.pan_ast.specs.declared.place.Place.{Place}
 use Rattle.path_tree.specs.declared.path.PutError.TheVariants as put_error
 use Rattle.assign_rules.specs.Profiles.{ProfileValue, assign_refusal}
@@ -15,15 +14,18 @@ use Rattle.type_defs.specs.Refusals.{type_refusal}
 use Rattle.type_defs.specs.Resolved.{Resolved}
 use Rattle.dml_world.specs.declared.stop.Stop.{Stop}
 use Rattle.dml_world.specs.declared.stop.Stop.TheVariants as stop
-use Rattle.template_meaning.specs.Statements.{or_unchanged}
-use Rattle.template_run.specs.Refusals.{IsUnassigned, IsUnset, IsUntyped}
-use Rattle.std.proofs.Common.{sym, IfSome}
+use Rattle.dml_world.specs.declared.frame.DefineError.{DefineError}
+use Rattle.dml_world.specs.declared.frame.DefineError.TheVariants as define_error
+use Rattle.dml_world.specs.Functions.{defined}
+use Rattle.dml_world.specs.Exits.{IsStop, Stops}
+use Rattle.dml_meaning.specs.Around.{Function, ValueCalls, is_function}
 use Rattle.pan_ast.specs.declared.fault.Fault.{Fault}
+use Rattle.pan_ast.specs.Syntax.{Item}
 use Rattle.questions.specs.Contents.{Answers}
 use Rattle.questions.specs.Run.{Meter, Outcome, Failed, then}
-use Rattle.dml_world.specs.Exits.{IsStop, Stops}
 use Rattle.template_meaning.specs.Program.{Program}
-use Rattle.template_meaning.specs.Statements.{or_unset, or_no_type}
+use Rattle.template_meaning.specs.Statements.{or_unchanged, or_unset, or_no_type}
+use Rattle.template_run.specs.Refusals.{IsUnassigned, IsUnset, IsUntyped}
 
 pub stop_fails : (X : Type 0) (x : Stop) (f : Fault) (m : Meter) → IsStop x f → Stops {S = Program} {Y = X} x m (Failed f m)
 stop_fails X stop.Memory f m h = tt
@@ -52,3 +54,21 @@ untyped_comes (type_error.NoType p name) x q r o s m h is = rw is (stop_fails Re
 untyped_comes (type_error.Redefined p key) x q r o s m h is = rw is (stop_fails Resolved x _ m h)
 untyped_comes (type_error.BadRange p) x q r o s m h is = rw is (stop_fails Resolved x _ m h)
 untyped_comes (type_error.TooDeep p) x q r o s m h is = rw is (stop_fails Resolved x _ m h)
+
+-- what the definition of a function that was made, or refused, says of its name
+
+pub defined_ok : (calls : ValueCalls) (f : List ℕ) (i : Item) (fs gs : List Function) → defined calls f i fs ≡ Ok gs → (is_function calls fs f ≡ false) × (gs ≡ fs ++ record { name = f; body = i } ∷ [])
+defined_ok calls f i fs gs e = at (is_function calls fs f) refl e
+  where
+    at : (b : Bool) → is_function calls fs f ≡ b → cond b (Err define_error.Redefined) (Ok (fs ++ record { name = f; body = i } ∷ [])) ≡ Ok gs → (is_function calls fs f ≡ false) × (gs ≡ fs ++ record { name = f; body = i } ∷ [])
+    at true is h = let clash : ◌≡◌ {A = Result (List Function) DefineError} (Err define_error.Redefined) (Ok gs) = h in absurd cc
+    at false is h = (is, let same : ◌≡◌ {A = Result (List Function) DefineError} (Ok (fs ++ record { name = f; body = i } ∷ [])) (Ok gs) = h in cc)
+
+pub defined_err : (calls : ValueCalls) (f : List ℕ) (i : Item) (fs : List Function) → defined calls f i fs ≡ Err define_error.Redefined → is_function calls fs f ≡ true
+defined_err calls f i fs e = at (is_function calls fs f) refl e
+  where
+    at : (b : Bool) → is_function calls fs f ≡ b → cond b (Err define_error.Redefined) (Ok (fs ++ record { name = f; body = i } ∷ [])) ≡ Err define_error.Redefined → is_function calls fs f ≡ true
+    at true is h = is
+    at false is h = let clash : ◌≡◌ {A = Result (List Function) DefineError} (Ok (fs ++ record { name = f; body = i } ∷ [])) (Err define_error.Redefined) = h in absurd cc
+
+pub ruleset defined_ends = (defined_ok, defined_err)

@@ -1,5 +1,5 @@
 -- What a function of the run returned, and left, is what a run by the definitions gives.
-use Rattle.std.specs.Prelude.{◌≡◌, List, Result, Ok, Err}
+use Rattle.std.specs.Prelude.{◌≡◌, Result, Ok, Err}
 use Rattle.questions.specs.Contents.{Answers}
 use Rattle.questions.specs.Run.{Meter, Outcome, Done}
 use Rattle.dml_world.specs.declared.stop.Stop.{Stop}

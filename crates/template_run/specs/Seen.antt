@@ -7,7 +7,7 @@ use Rattle.pan_ast.specs.declared.syntax.Item.{Item as RItem}
 use Rattle.pan_ast.specs.declared.fault.Fault.{Fault}
 use Rattle.pan_ast.specs.Templates.{Template}
 use Rattle.dml_meaning.specs.Around.{ValueCalls}
-use Rattle.dml_world.specs.Seen.{function_of}
+use Rattle.dml_world.specs.Seen.{functions_of}
 use Rattle.type_defs.specs.Tables.{known}
 use Rattle.type_defs.specs.BindingsSeen.{bindings_seen, valid_seen}
 use Rattle.template_meaning.specs.Program.{Site, Program, Inside}
@@ -25,13 +25,14 @@ site_of s reading calls = record {
 }
 
 abbrev pub inside_of : RInside → Inside
-inside_of n = record { kind = n.kind; template = n.template; includes = n.includes }
+inside_of n =
+    record { kind = n.kind; template = n.template; includes_left = n.includes_left }
 
 abbrev pub program_of : RProgram → Program
 program_of p = record {
   profile = p.profile;
   globals = p.globals;
-  functions = map function_of p.functions.entries.items;
+  functions = functions_of p.functions;
   types = known p.types;
   bindings = bindings_seen p.bindings;
   valids = map valid_seen p.valids.items;

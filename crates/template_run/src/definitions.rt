@@ -1,6 +1,5 @@
-ghost use Rattle.std.specs.Prelude.{◌≡◌, ◌+◌, map};
-ghost use Rattle.dml_meaning.specs.Around.{is_function};
-ghost use Rattle.dml_world.specs.Seen.{function_of, meter};
+ghost use Rattle.std.specs.Prelude.{◌≡◌, ◌+◌};
+ghost use Rattle.dml_world.specs.Seen.{meter};
 ghost use Rattle.pan_ast.specs.Seen.{item_seen};
 ghost use Rattle.pan_ast.specs.TypesSeen.{full_seen};
 ghost use Rattle.template_meaning.specs.Statements.{bind_run, bind_type, define_run, function_run, name_type, valid_run, want_valid};
@@ -13,28 +12,17 @@ use crate::program::Program;
 use crate::site::{Inside, Site};
 use crate::written_types::run_type;
 use base::{Seq, Steps, Text};
-use dml_meaning::own_call;
 use dml_world::leaf::stop_on;
-use dml_world::{Function, Stop, World};
+use dml_world::{DefineError, Stop, World};
 use pan_ast::{Code, FullType, Item, Place, Work};
 use path_tree::Term;
 use std::alloc::Global;
 use std::rc::Rc;
 use std::sync::ledger::Ledger;
-use type_defs::{Bound, DefineError, SharedType, Valid};
-
-/// Whether a name is that of a function: a built-in one, or one that is defined.
-fn is_function<W: World>(name: &Text, program: &Program, world: &W) -> bool
-    ensures { result ≡ is_function W.calls (map function_of program.now.functions.entries.items)
-        name.now }
-{
-    own_call(name.as_str()).is_some()
-        || world.find(name.as_str()).is_some()
-        || program.functions.find(name.as_str()).is_some()
-}
+use type_defs::{Bound, SharedType, Valid};
 
 /// A function statement (Pan Book, "Functions"): the name is not taken yet.
-#[tactic(auto, unfolding(template_meaning::specs::Statements::function_run))]
+#[tactic(auto, using(crate::proofs::Refused::defined_ends), unfolding(template_meaning::specs::Statements::function_run))]
 pub(crate) fn define_function<W: World>(
     alloc: Global,
     place: &Place,
@@ -50,15 +38,14 @@ pub(crate) fn define_function<W: World>(
         (meter work.now (W.asked world.now)) (function_run (site_of site.now W.reading W.calls)
         place.now name.now (item_seen body.now.value)) }
 {
-    if is_function(name, program, world) {
-        return Err(stop_on(alloc, Code::Redefined, place, name.as_str()));
+    let body = body.clone()?;
+    match program.functions.define(name, body, world) {
+        Ok(()) => Ok(()),
+        Err(DefineError::Redefined) => {
+            Err(stop_on(alloc, Code::Redefined, place, name.as_str()))
+        }
+        Err(DefineError::Memory) => Err(Stop::Memory),
     }
-    let function = Function {
-        name: name.share()?,
-        body: body.clone()?,
-    };
-    program.functions.entries.push(function)?;
-    Ok(())
 }
 
 /// Gives a type a name that is not taken.
@@ -76,7 +63,9 @@ fn name_type<W: World>(
 {
     match program.types.define(name, resolved) {
         Ok(()) => Ok(()),
-        Err(DefineError::Redefined | DefineError::Memory) => Err(Stop::Memory),
+        Err(type_defs::DefineError::Redefined | type_defs::DefineError::Memory) => Err(
+            Stop::Memory,
+        ),
     }
 }
 

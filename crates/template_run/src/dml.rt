@@ -43,13 +43,13 @@ pub(crate) fn run_in<W: World, L: Ledger>(
         template: inside.template.share()?,
         dirs: site.dirs,
         max_iteration: site.limits.max_iteration,
-        includes: inside.includes,
     };
     let around = Around {
         frame: &frame,
         self_use: SelfUse::Changeable,
         called: None,
         calls_left: site.limits.max_recursion,
+        includes_left: inside.includes_left,
     };
     run_dml(
         alloc, item, self_value, self_use, &around, world, work, steps,

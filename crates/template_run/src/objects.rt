@@ -55,7 +55,6 @@ fn run_top<W: World, L: Ledger>(
     run_statements(
         alloc,
         &template.statements,
-        MAX_INCLUDES,
         site,
         inside,
         program,
@@ -86,7 +85,7 @@ fn run_from<W: World, L: Ledger>(
     let inside = Inside {
         kind: TemplateKind::Object,
         template: site.object.share()?,
-        includes: 0,
+        includes_left: MAX_INCLUDES,
     };
     let template = find_named(
         alloc,

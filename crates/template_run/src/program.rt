@@ -31,9 +31,7 @@ impl Program {
         Ok(Program {
             profile: Profile::new(alloc)?,
             globals: Globals::new(alloc),
-            functions: Functions {
-                entries: Vec::new(alloc),
-            },
+            functions: Functions::new(alloc),
             types: Types::new(alloc),
             bindings: Bindings::new(alloc),
             valids: Vec::new(alloc),

@@ -10,10 +10,10 @@ pub struct Site<'a> {
     pub limits: Limits,
 }
 
-/// The template whose statements run, and how many includes are open.
+/// The template whose statements run, and how many includes may still be opened.
 #[derive(Drop)]
 pub(crate) struct Inside {
     pub kind: TemplateKind,
     pub template: Name,
-    pub includes: u64,
+    pub includes_left: u64,
 }

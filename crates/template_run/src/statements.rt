@@ -1,5 +1,4 @@
-ghost use Rattle.std.specs.Prelude.{◌≡◌, ◌+◌, ◌<◌, ◌≤◌, None, map};
-ghost use Rattle.dml_meaning.specs.declared.limits.TheConstants.{MAX_INCLUDES};
+ghost use Rattle.std.specs.Prelude.{◌≡◌, ◌+◌, ◌-◌, ◌<◌, None, map};
 ghost use Rattle.std.specs.List.{list_any};
 ghost use Rattle.std.specs.Str.{bytes_eq};
 ghost use Rattle.dml_world.specs.Seen.{meter};
@@ -18,8 +17,7 @@ use crate::site::{Inside, Site};
 use crate::variables::{Variable, run_variable};
 use base::Steps;
 use dml_meaning::Test;
-use dml_world::indexes::passes;
-use dml_world::leaf::{spend_step, stop_on};
+use dml_world::leaf::{passes, spend_step, stop_on};
 use dml_world::templates::template_named;
 use dml_world::{Around, Frame, SelfUse, Stop, World};
 use pan_ast::{Code, Item, Place, Statement, StatementForm, Template, TemplateKind, Work};
@@ -94,24 +92,23 @@ pub(crate) fn find_named<W: World, L: Ledger>(
         template: inside.template.share()?,
         dirs: site.dirs,
         max_iteration: site.limits.max_iteration,
-        includes: inside.includes,
     };
     let around = Around {
         frame: &frame,
         self_use: SelfUse::Changeable,
         called: None,
         calls_left: site.limits.max_recursion,
+        includes_left: inside.includes_left,
     };
     template_named(alloc, place, name, &around, world, work, steps)
 }
 
-/// The statements of a template, where so many includes may still be opened.
+/// The statements of a template, in order, from no prefix on.
 #[cycle(statements)]
 #[tactic(auto, using(crate::proofs::Items::statements_more), unfolding(template_meaning::specs::Statements::statements_run))]
 pub(crate) fn run_statements<W: World, L: Ledger>(
     alloc: Global,
     statements: &[Statement],
-    includes_left: u64,
     site: &Site<'_>,
     inside: &Inside,
     program: &mut Program,
@@ -119,11 +116,10 @@ pub(crate) fn run_statements<W: World, L: Ledger>(
     work: &mut Work,
     steps: &mut Steps<L>,
 ) -> Result<(), Stop>
-    requires open { inside.now.includes + includes_left ≤ MAX_INCLUDES }
     ensures gives { Runs (λ u. u) result W.answers (program_of program.old)
         (meter work.old (W.asked world.old)) (program_of program.new)
         (meter work.new (W.asked world.new)) (statements_run
-        (included includes_left (site_of site.now W.reading W.calls))
+        (included inside.now.includes_left (site_of site.now W.reading W.calls))
         (site_of site.now W.reading W.calls) (inside_of inside.now) None
         (map statement_seen statements.now)) }
     ensures counted { steps.new + work.new.left ≡ steps.old + work.old.left }
@@ -131,16 +127,7 @@ pub(crate) fn run_statements<W: World, L: Ledger>(
     let mut prefix = None;
     'statements: for statement in statements {
         prefix = run_statement(
-            alloc,
-            statement,
-            prefix,
-            includes_left,
-            site,
-            inside,
-            program,
-            world,
-            work,
-            steps,
+            alloc, statement, prefix, site, inside, program, world, work, steps,
         )?;
     }
     Ok(())
@@ -153,7 +140,6 @@ fn run_statement<W: World, L: Ledger>(
     alloc: Global,
     statement: &Statement,
     prefix: Prefix,
-    includes_left: u64,
     site: &Site<'_>,
     inside: &Inside,
     program: &mut Program,
@@ -161,11 +147,10 @@ fn run_statement<W: World, L: Ledger>(
     work: &mut Work,
     steps: &mut Steps<L>,
 ) -> Result<Prefix, Stop>
-    requires open { inside.now.includes + includes_left ≤ MAX_INCLUDES }
     ensures gives { Runs (λ q. q) result W.answers (program_of program.old)
         (meter work.old (W.asked world.old)) (program_of program.new)
         (meter work.new (W.asked world.new)) (statement_run
-        (included includes_left (site_of site.now W.reading W.calls))
+        (included inside.now.includes_left (site_of site.now W.reading W.calls))
         (site_of site.now W.reading W.calls) (inside_of inside.now) prefix
         (statement_seen statement.now)) }
     ensures counted { steps.new + work.new.left ≡ steps.old + work.old.left }
@@ -180,7 +165,6 @@ fn run_statement<W: World, L: Ledger>(
         place,
         &statement.form,
         prefix,
-        includes_left,
         site,
         inside,
         program,
@@ -198,7 +182,6 @@ fn run_form<W: World, L: Ledger>(
     place: &Place,
     form: &StatementForm,
     prefix: Prefix,
-    includes_left: u64,
     site: &Site<'_>,
     inside: &Inside,
     program: &mut Program,
@@ -206,11 +189,10 @@ fn run_form<W: World, L: Ledger>(
     work: &mut Work,
     steps: &mut Steps<L>,
 ) -> Result<Prefix, Stop>
-    requires open { inside.now.includes + includes_left ≤ MAX_INCLUDES }
     ensures gives { Runs (λ q. q) result W.answers (program_of program.old)
         (meter work.old (W.asked world.old)) (program_of program.new)
         (meter work.new (W.asked world.new)) (form_run
-        (included includes_left (site_of site.now W.reading W.calls))
+        (included inside.now.includes_left (site_of site.now W.reading W.calls))
         (site_of site.now W.reading W.calls) (inside_of inside.now) prefix place.now
         (form_seen form.now)) }
     ensures counted { steps.new + work.new.left ≡ steps.old + work.old.left }
@@ -261,16 +243,7 @@ fn run_form<W: World, L: Ledger>(
             alloc, place, path, body, &prefix, inside, program, world, work,
         )?,
         StatementForm::Include { item } => run_include(
-            alloc,
-            place,
-            item,
-            includes_left,
-            site,
-            inside,
-            program,
-            world,
-            work,
-            steps,
+            alloc, place, item, site, inside, program, world, work, steps,
         )?,
         StatementForm::Prefix { path } => {
             return run_prefix(alloc, place, path, program, world, work);
@@ -286,7 +259,6 @@ fn run_include<W: World, L: Ledger>(
     alloc: Global,
     place: &Place,
     item: &Item,
-    includes_left: u64,
     site: &Site<'_>,
     inside: &Inside,
     program: &mut Program,
@@ -294,11 +266,10 @@ fn run_include<W: World, L: Ledger>(
     work: &mut Work,
     steps: &mut Steps<L>,
 ) -> Result<(), Stop>
-    requires open { inside.now.includes + includes_left ≤ MAX_INCLUDES }
     ensures gives { Runs (λ u. u) result W.answers (program_of program.old)
         (meter work.old (W.asked world.old)) (program_of program.new)
         (meter work.new (W.asked world.new)) (include_run
-        (included includes_left (site_of site.now W.reading W.calls))
+        (included inside.now.includes_left (site_of site.now W.reading W.calls))
         (site_of site.now W.reading W.calls) (inside_of inside.now) place.now
         (item_seen item.now)) }
     ensures counted { steps.new + work.new.left ≡ steps.old + work.old.left }
@@ -316,16 +287,7 @@ fn run_include<W: World, L: Ledger>(
         steps,
     )?;
     include_value(
-        alloc,
-        place,
-        &value,
-        includes_left,
-        site,
-        inside,
-        program,
-        world,
-        work,
-        steps,
+        alloc, place, &value, site, inside, program, world, work, steps,
     )
 }
 
@@ -335,7 +297,6 @@ fn include_value<W: World, L: Ledger>(
     alloc: Global,
     place: &Place,
     value: &Tree,
-    includes_left: u64,
     site: &Site<'_>,
     inside: &Inside,
     program: &mut Program,
@@ -343,26 +304,16 @@ fn include_value<W: World, L: Ledger>(
     work: &mut Work,
     steps: &mut Steps<L>,
 ) -> Result<(), Stop>
-    requires open { inside.now.includes + includes_left ≤ MAX_INCLUDES }
     ensures gives { Runs (λ u. u) result W.answers (program_of program.old)
         (meter work.old (W.asked world.old)) (program_of program.new)
         (meter work.new (W.asked world.new)) (include_value
-        (included includes_left (site_of site.now W.reading W.calls)) (inside_of inside.now)
+        (included inside.now.includes_left (site_of site.now W.reading W.calls)) (inside_of inside.now)
         place.now value.now) }
     ensures counted { steps.new + work.new.left ≡ steps.old + work.old.left }
 {
     if let Some(name) = value.as_text() {
         return include(
-            alloc,
-            place,
-            name,
-            includes_left,
-            site,
-            inside,
-            program,
-            world,
-            work,
-            steps,
+            alloc, place, name, site, inside, program, world, work, steps,
         );
     }
     if passes(Test::Defined, value.kind()) {
@@ -371,14 +322,13 @@ fn include_value<W: World, L: Ledger>(
     Ok(())
 }
 
-/// Includes the template of a name, where so many includes may still be opened.
+/// Includes the template of a name, where an include may still be opened.
 #[cycle(statements)]
 #[tactic(auto, using(crate::proofs::Items::included_more), unfolding(template_meaning::specs::Statements::included))]
 fn include<W: World, L: Ledger>(
     alloc: Global,
     place: &Place,
     name: &str,
-    includes_left: u64,
     site: &Site<'_>,
     inside: &Inside,
     program: &mut Program,
@@ -386,31 +336,20 @@ fn include<W: World, L: Ledger>(
     work: &mut Work,
     steps: &mut Steps<L>,
 ) -> Result<(), Stop>
-    requires open { inside.now.includes + includes_left ≤ MAX_INCLUDES }
     ensures gives { Runs (λ u. u) result W.answers (program_of program.old)
         (meter work.old (W.asked world.old)) (program_of program.new)
-        (meter work.new (W.asked world.new)) (included includes_left
+        (meter work.new (W.asked world.new)) (included inside.now.includes_left
         (site_of site.now W.reading W.calls) (inside_of inside.now) place.now name.now) }
     ensures counted { steps.new + work.new.left ≡ steps.old + work.old.left }
 {
-    if includes_left == 0 {
+    if inside.includes_left == 0 {
         return Err(stop_on(alloc, Code::IncludeDepth, place, ""));
     }
     let template = find_named(
         alloc, place, name, site, inside, program, world, work, steps,
     )?;
     run_template(
-        alloc,
-        place,
-        name,
-        &template,
-        includes_left - 1,
-        site,
-        inside,
-        program,
-        world,
-        work,
-        steps,
+        alloc, place, name, &template, site, inside, program, world, work, steps,
     )
 }
 
@@ -444,7 +383,6 @@ fn run_template<W: World, L: Ledger>(
     place: &Place,
     name: &str,
     template: &Template,
-    includes_left: u64,
     site: &Site<'_>,
     inside: &Inside,
     program: &mut Program,
@@ -452,11 +390,11 @@ fn run_template<W: World, L: Ledger>(
     work: &mut Work,
     steps: &mut Steps<L>,
 ) -> Result<(), Stop>
-    requires open { inside.now.includes + includes_left < MAX_INCLUDES }
+    requires open { 0 < inside.now.includes_left }
     ensures gives { Runs (λ u. u) result W.answers (program_of program.old)
         (meter work.old (W.asked world.old)) (program_of program.new)
         (meter work.new (W.asked world.new)) (template_run
-        (included includes_left (site_of site.now W.reading W.calls))
+        (included (inside.now.includes_left - 1) (site_of site.now W.reading W.calls))
         (site_of site.now W.reading W.calls) (inside_of inside.now) place.now name.now
         (template_seen template.now)) }
     ensures counted { steps.new + work.new.left ≡ steps.old + work.old.left }
@@ -470,12 +408,11 @@ fn run_template<W: World, L: Ledger>(
     let within = Inside {
         kind: template.kind,
         template: template.name.share()?,
-        includes: inside.includes + 1,
+        includes_left: inside.includes_left - 1,
     };
     run_statements(
         alloc,
         &template.statements,
-        includes_left,
         site,
         &within,
         program,

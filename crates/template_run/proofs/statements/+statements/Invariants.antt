@@ -1,38 +1,38 @@
-use Rattle.std.proofs.Common.{◌≡◌, ◌+◌, ◌*◌, None, drop, map}
+use Rattle.std.proofs.Common.{◌≡◌, ◌+◌, ◌-◌, ◌*◌, None, drop, map}
 use Rattle.pan_ast.specs.TemplatesSeen.{statement_seen}
 use Rattle.dml_world.specs.Seen.{meter}
 use Rattle.template_meaning.specs.Statements.{included, statements_run}
 use Rattle.template_run.specs.Seen.{inside_of, program_of, site_of}
 use Rattle.template_run.proofs.statements.+statements.Given as goal
 
--- an include leaves fewer that may be opened; inside one template the rank gets lower
+-- an include leaves one fewer that may be opened; inside one template the rank gets lower
 
 abbrev pub decreases-run_statements : goal.decreases-run_statements
-decreases-run_statements g l = l.includes_left * 10 + 5
+decreases-run_statements g l = l.inside.now.includes_left * 10 + 5
 
 abbrev pub decreases-run_statement : goal.decreases-run_statement
-decreases-run_statement g l = l.includes_left * 10 + 4
+decreases-run_statement g l = l.inside.now.includes_left * 10 + 4
 
 abbrev pub decreases-run_form : goal.decreases-run_form
-decreases-run_form g l = l.includes_left * 10 + 3
+decreases-run_form g l = l.inside.now.includes_left * 10 + 3
 
 abbrev pub decreases-run_include : goal.decreases-run_include
-decreases-run_include g l = l.includes_left * 10 + 2
+decreases-run_include g l = l.inside.now.includes_left * 10 + 2
 
 abbrev pub decreases-include_value : goal.decreases-include_value
-decreases-include_value g l = l.includes_left * 10 + 1
+decreases-include_value g l = l.inside.now.includes_left * 10 + 1
 
 abbrev pub decreases-include : goal.decreases-include
-decreases-include g l = l.includes_left * 10
+decreases-include g l = l.inside.now.includes_left * 10
 
 abbrev pub decreases-run_template : goal.decreases-run_template
-decreases-run_template g l = l.includes_left * 10 + 6
+decreases-run_template g l = (l.inside.now.includes_left - 1) * 10 + 6
 
 abbrev pub invariant-run_statements-statements : goal.invariant-run_statements-statements
 invariant-run_statements-statements g l =
     let asked = g.W.World.asked in
     let site = site_of l.site g.W.World.reading g.W.World.calls in
-    let from = statements_run (included l.includes_left site) site (inside_of l.inside) in
+    let from = statements_run (included l.inside.includes_left site) site (inside_of l.inside) in
     record {
       gives : from l.prefix (map statement_seen (drop l.statement-index l.statements)) g.W.World.answers (program_of l.program) (meter l.work (asked l.world)) ≡ from None (map statement_seen l.statements) g.W.World.answers (program_of l.fn.program) (meter l.fn.work (asked l.fn.world));
       counted : l.steps + l.work.left ≡ l.fn.steps + l.fn.work.left;
