@@ -1,0 +1,6 @@
+pub mod Lists
+pub mod Failing
+pub mod Looked
+pub mod Counting
+pub mod Moves
+pub mod Said
