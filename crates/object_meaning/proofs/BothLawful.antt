@@ -1,27 +1,23 @@
 -- Builds and checks are lawful runs, and so their laws hold.
-use Rattle.std.proofs.Common.{◌≡◌, ◌≢◌, refl, ℕ, List, Bool, true, false, Option, Some, None, Result, Ok, Err}
-use Rattle.path_tree.specs.Plain.{Plain}
+use Rattle.std.proofs.Common.{◌≡◌, ◌≢◌, refl, ℕ, List, false}
 use Rattle.path_tree.specs.Paths.{path_text}
-use Rattle.path_tree.specs.declared.path.Path.{Path}
 use Rattle.pan_ast.specs.declared.fault.Code.{Code}
 use Rattle.pan_ast.specs.declared.fault.Code.TheVariants as code
-use Rattle.pan_ast.specs.declared.fault.Fault.{Fault}
-use Rattle.pan_ast.specs.declared.place.Place.{Place}
 use Rattle.pan_ast.specs.declared.work.Limits.{Limits}
-use Rattle.pan_ast.specs.Syntax.{Item}
 use Rattle.pan_template.specs.TemplateOf.{template_of}
 use Rattle.questions.specs.declared.key.Key.{Key}
 use Rattle.questions.specs.Laws.{MayAsk, is_circular}
-use Rattle.questions.specs.Told.{RunLaws, IsRanBy, IsWorkOf, IsEnd, work_of}
-use Rattle.questions.proofs.Lawful.{Lawful, lawful_scoped, lawful_bind, lawful_give, lawful_now}
+use Rattle.questions.specs.Told.{IsRanBy, IsWorkOf, IsEnd}
+use Rattle.questions.proofs.Lawful.{Lawful, lawful_scoped}
 use Rattle.questions.proofs.Runs.{run_laws, ran_is, work_is}
 use Rattle.dml_meaning.specs.declared.limits.TheConstants.{MAX_OPEN_ITEMS}
 use Rattle.dml_meaning.specs.Laws.{IsReading}
-use Rattle.dml_meaning.proofs.Leaves.{FitsFor, pieces, look_at_lawful}
+use Rattle.dml_meaning.proofs.Leaves.{pieces}
+use Rattle.object_meaning.proofs.AtPaths.{look_at_lawful}
 use Rattle.dml_meaning.proofs.Create.{dml_lawful}
 use Rattle.dml_meaning.proofs.Items.{eval_lawful}
 use Rattle.defaults.proofs.Lawful.{all_lawful}
-use Rattle.template_meaning.specs.Program.{Site, Program, no_program}
+use Rattle.template_meaning.specs.Program.{Site, no_program}
 use Rattle.template_meaning.proofs.EachStatement.{Suits}
 use Rattle.template_meaning.proofs.OfObjects.{object_lawful, suits}
 use Rattle.validate.proofs.Lawful.{LawfulMeans, checked_lawful}
@@ -29,8 +25,8 @@ use Rattle.runner.specs.Ends.{is_circular_end, is_circular_verdict}
 use Rattle.runner.specs.Meaning.{IsLawful}
 use Rattle.runner.specs.declared.ends.Built.{Built}
 use Rattle.object_meaning.specs.Rest.{Rest}
-use Rattle.object_meaning.specs.Builds.{site_at, in_store, defaults_run, built_run, build_ending, build, build_told}
-use Rattle.object_meaning.specs.Checks.{around_built, means_of, check_run, check_ending, check, check_told}
+use Rattle.object_meaning.specs.Builds.{site_at, defaults_run, built_run, build_ending}
+use Rattle.object_meaning.specs.Checks.{around_built, means_of, check_run, check_ending}
 use Rattle.object_meaning.specs.Meanings.{meaning_of}
 use Rattle.pan_template.proofs.Files.{not_circular}
 

@@ -1,1 +1,2 @@
+pub mod AtPaths
 pub mod BothLawful

@@ -1,8 +1,7 @@
 -- The build of an object: its statements from an empty dict on, and then the defaults of its
 -- bindings, with the work that is left.
-use Rattle.std.specs.Prelude.{ℕ, List, Bool, false, Result, Ok, Err}
+use Rattle.std.specs.Prelude.{ℕ, List, Ok, Err}
 use Rattle.path_tree.specs.Plain.{undef}
-use Rattle.pan_ast.specs.declared.fault.Fault.{Fault}
 use Rattle.pan_ast.specs.declared.place.Place.{Place}
 use Rattle.pan_ast.specs.declared.work.Limits.{Limits}
 use Rattle.pan_template.specs.TemplateOf.{template_of}

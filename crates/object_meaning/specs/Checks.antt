@@ -1,12 +1,7 @@
 -- The check of what was built, with a whole work of its own. SELF is fixed in its DML, all includes
 -- may still be opened, and globals and functions are those at the end of execution.
-use Rattle.std.specs.Prelude.{ℕ, List, Option, Some, None, true, false}
-use Rattle.path_tree.specs.Plain.{Plain}
+use Rattle.std.specs.Prelude.{ℕ, List, Some, None, true, false}
 use Rattle.path_tree.specs.Paths.{path_text}
-use Rattle.path_tree.specs.declared.path.Path.{Path}
-use Rattle.pan_ast.specs.declared.fault.Fault.{Fault}
-use Rattle.pan_ast.specs.declared.place.Place.{Place}
-use Rattle.pan_ast.specs.Syntax.{Item}
 use Rattle.asking.specs.Asked.{Answer}
 use Rattle.questions.specs.declared.key.Key.{Key}
 use Rattle.questions.specs.Contents.{Content, answer_in}
@@ -14,7 +9,7 @@ use Rattle.questions.specs.Run.{Outcome}
 use Rattle.questions.specs.Told.{Ending, answer_by, whole}
 use Rattle.dml_meaning.specs.declared.limits.TheConstants.{MAX_INCLUDES, MAX_OPEN_ITEMS}
 use Rattle.dml_meaning.specs.Around.{Around}
-use Rattle.dml_meaning.specs.Lookups.{Looked, look_at}
+use Rattle.dml_meaning.specs.Lookups.{look_at}
 use Rattle.dml_meaning.specs.Meaning.{dml_run, eval}
 use Rattle.dml_meaning.specs.Run.{Look}
 use Rattle.template_meaning.specs.Program.{Site}
@@ -46,7 +41,8 @@ around_built site b template = record {
 abbrev pub means_of : Site → Built Rest → Means
 means_of site b = record {
   dml = λ template i v. dml_run (eval MAX_OPEN_ITEMS) (around_built site b template) true v i;
-  look = λ p path. look_at (around_built site b site.object) p (path_text path) path.anchor path.terms;
+  look = λ p path.
+      look_at (around_built site b site.object) p (path_text path) path.anchor path.terms;
 }
 
 unfoldable pub check_run : Site → Built Rest → Look (Unit {0})
