@@ -33,6 +33,14 @@ texts =
     ∷ (codes "hw/five.pan", codes "structure template hw/five; include { 5 };")
     ∷ (codes "hw/argc.pan", codes "structure template hw/argc; 'a' = ARGC;")
     ∷ (codes "hw/nest.pan", codes "structure template hw/nest; 'b' = create('hw/box', 'serial', 'in');")
+    ∷ (codes "hw/call.pan", codes "structure template hw/call; 't' = f(); 'o' = OBJECT;")
+    ∷ (codes "hw/fixed.pan", codes "structure template hw/fixed; include { SELF['x'] = 1; 'hw/box' };")
+    ∷ (codes "hw/grown.pan", codes "structure template hw/grown; include { append(1); 'hw/box' };")
+    ∷ (codes "hw/long.pan", codes "structure template hw/long; include { append(SELF, 1); 'hw/box' };")
+    ∷ (codes "hw/own.pan", codes "structure template hw/own; include { if (is_defined(SELF)) 'hw/box' else 'hw/none' };")
+    ∷ (codes "hw/back.pan", codes "structure template hw/back; 'a' = { return(1); 2; }; 'b' = 3;")
+    ∷ (codes "hw/give.pan", codes "structure template hw/give; include { return('hw/box'); 5 };")
+    ∷ (codes "hw/local.pan", codes "structure template hw/local; 'a' = x;")
     ∷ (codes "prod/hw/extra.pan", codes "structure template hw/extra; 'e' = true;")
     ∷ (codes "data/motd", codes "hello") ∷ []
 

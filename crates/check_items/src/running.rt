@@ -8,6 +8,7 @@ use anyhow::{Result, anyhow};
 use assign_rules::{Globals, Profile};
 use base::limits::MAX_FILE_BYTES;
 use base::{Steps, Text};
+use dml_meaning::limits::MAX_INCLUDES;
 use dml_world::{Functions, Stop};
 use json_profile::profile_text;
 use pan_ast::{Failure, Fault, Limits, Template, Work, fault_line};
@@ -20,6 +21,7 @@ use std::sync::ledger::{Blank, Ledger};
 #[derive(Clone, Copy)]
 struct Bounds {
     work: u64,
+    includes: u64,
     limits: Limits,
 }
 
@@ -27,6 +29,7 @@ fn bounds(words: &str) -> Result<Bounds> {
     let mut work = 2_000_000;
     let mut turns = 10_000;
     let mut calls = 50;
+    let mut includes = MAX_INCLUDES;
     for word in words.split(' ') {
         if let Some(number) = word.strip_prefix("work=") {
             work = number.parse::<u64>()?;
@@ -37,9 +40,13 @@ fn bounds(words: &str) -> Result<Bounds> {
         if let Some(number) = word.strip_prefix("calls=") {
             calls = number.parse::<u64>()?;
         }
+        if let Some(number) = word.strip_prefix("includes=") {
+            includes = number.parse::<u64>()?;
+        }
     }
     Ok(Bounds {
         work,
+        includes,
         limits: Limits {
             max_iteration: turns,
             max_recursion: calls,
@@ -76,7 +83,7 @@ fn print_stop(rt: &HostRuntime, stop: &Stop) -> Result<()> {
     }
 }
 
-fn site(alloc: Global, limits: Limits) -> Result<Site> {
+fn site(alloc: Global, bounds: Bounds) -> Result<Site> {
     let Ok(object) = Name::parse(alloc, "h") else {
         return Err(anyhow!("no name"));
     };
@@ -85,7 +92,8 @@ fn site(alloc: Global, limits: Limits) -> Result<Site> {
     Ok(Site {
         object,
         dirs,
-        limits,
+        includes: bounds.includes,
+        limits: bounds.limits,
         profile: Profile::new(alloc)?,
         globals: Globals::new(alloc),
         functions: Functions::new(alloc),
@@ -113,7 +121,7 @@ fn run_template<L: Ledger>(
     bounds: Bounds,
     steps: &mut Steps<L>,
 ) -> Result<()> {
-    let mut site = site(rt.alloc(), bounds.limits)?;
+    let mut site = site(rt.alloc(), bounds)?;
     let mut work = Work { left: bounds.work };
     match run_all(rt.alloc(), template, &mut site, &mut work, steps) {
         Ok(()) => {

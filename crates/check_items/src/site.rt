@@ -4,7 +4,6 @@ use crate::written::Written;
 use assign_rules::{AssignError, Globals, Profile, SetError};
 use base::{Steps, Text};
 use dml_eval::run_dml;
-use dml_meaning::limits::MAX_INCLUDES;
 use dml_world::leaf::{spend_step, stop_on};
 use dml_world::{Around, DefineError, Frame, Functions, SelfUse, Stop};
 use pan_ast::{Code, Item, Limits, Place, Statement, StatementForm, Work};
@@ -18,6 +17,8 @@ use std::sync::ledger::Ledger;
 pub struct Site {
     pub object: Name,
     pub dirs: Vec<Text>,
+    /// How many includes may be open.
+    pub includes: u64,
     pub limits: Limits,
     pub profile: Profile,
     pub globals: Globals,
@@ -48,7 +49,7 @@ fn value_of<L: Ledger>(
         self_use: SelfUse::Changeable,
         called: None,
         calls_left: site.limits.max_recursion,
-        includes_left: MAX_INCLUDES,
+        includes_left: site.includes,
     };
     run_dml(
         alloc,

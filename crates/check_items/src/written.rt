@@ -63,6 +63,16 @@ fn text_of(name: &str) -> Option<&'static str>
         "hw/nest.pan" => Some(
             "structure template hw/nest; 'b' = create('hw/box', 'serial', 'in');",
         ),
+        "hw/call.pan" => Some("structure template hw/call; 't' = f(); 'o' = OBJECT;"),
+        "hw/fixed.pan" => Some("structure template hw/fixed; include { SELF['x'] = 1; 'hw/box' };"),
+        "hw/grown.pan" => Some("structure template hw/grown; include { append(1); 'hw/box' };"),
+        "hw/long.pan" => Some("structure template hw/long; include { append(SELF, 1); 'hw/box' };"),
+        "hw/own.pan" => Some(
+            "structure template hw/own; include { if (is_defined(SELF)) 'hw/box' else 'hw/none' };",
+        ),
+        "hw/back.pan" => Some("structure template hw/back; 'a' = { return(1); 2; }; 'b' = 3;"),
+        "hw/give.pan" => Some("structure template hw/give; include { return('hw/box'); 5 };"),
+        "hw/local.pan" => Some("structure template hw/local; 'a' = x;"),
         "prod/hw/extra.pan" => Some("structure template hw/extra; 'e' = true;"),
         "data/motd" => Some("hello"),
         _ => None,

@@ -8,10 +8,10 @@ use Rattle.pan_ast.specs.declared.syntax.Item.{Item as RItem}
 use Rattle.pan_ast.specs.Syntax.{Item}
 use Rattle.pan_ast.specs.Seen.{item_seen, items_seen}
 use Rattle.questions.specs.Contents.{Answers}
-use Rattle.questions.specs.Run.{Meter, Done, then, step}
+use Rattle.questions.specs.Run.{Meter, Done, then}
 use Rattle.dml_meaning.specs.Run.{Env}
 use Rattle.dml_meaning.specs.Around.{Around}
-use Rattle.dml_meaning.specs.Meaning.{Means, block_from, values_from, while_turn, while_turns, for_turn, for_turns, after_turn, steps, pairs_of, pairs_of_items, pairs_of_fields, pair_at, pair_turn, pair_turns}
+use Rattle.dml_meaning.specs.Meaning.{Means, block_from, values_from, while_turn, while_turns, for_turn, for_turns, after_turn, pairs_of, pairs_of_items, pairs_of_fields, pair_at, pair_turn, pair_turns}
 
 -- the item at i, and those after it
 pub block_more : (go : Means) (a : Around) (is : List RItem) (i : ℕ) (x : RItem) (last : Plain) (o : Answers) (e : Env) (m : Meter) → i < length is → x ≡ get_or is i x → block_from go a (items_seen (drop i is)) last o e m ≡ then (go.opens a (item_seen x) o e m) (λ t. block_from go a (items_seen (drop (i + 1) is)) t o)

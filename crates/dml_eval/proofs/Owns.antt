@@ -1,22 +1,26 @@
 -- Arguments that are references or others, and the statements of structure templates.
-use Rattle.std.proofs.Common.{◌≡◌, ◌∙◌, ap, sym, refl, ℕ, ◌+◌, ◌<◌, Bool, true, false, List, [], ◌∷◌, map, length, drop, get_or, Option, Some, None, is_some}
+use Rattle.std.proofs.Common.{◌≡◌, ◌∙◌, ap, sym, subst, refl, arith, ℕ, zero, suc, ◌+◌, ◌-◌, ◌<◌, Bool, true, false, List, ◌∷◌, map, length, drop, get_or, Some, None, is_some, Result}
 use Rattle.std.proofs.lemmas.List.{drop_more}
 use Rattle.path_tree.specs.Plain.{Plain, boolean}
 use Rattle.pan_ast.specs.declared.place.Place.{Place}
 use Rattle.pan_ast.specs.declared.fault.Code.TheVariants.{BadArgument, WrongStatement}
 use Rattle.pan_ast.specs.declared.template.Statement.{Statement as RStatement}
+use Rattle.pan_ast.specs.declared.template.Template.{Template as RTemplate}
 use Rattle.pan_ast.specs.Syntax.{Item, Items, none, more, Reference, Refer, item_place}
-use Rattle.pan_ast.specs.Templates.{Statement, StatementForm}
+use Rattle.pan_ast.specs.Templates.{Template, Statement, StatementForm}
 use Rattle.pan_ast.specs.Templates as statement
-use Rattle.pan_ast.specs.TemplatesSeen.{statement_seen}
+use Rattle.pan_ast.specs.TemplatesSeen.{statement_seen, template_seen}
 use Rattle.questions.specs.Contents.{Answers}
-use Rattle.questions.specs.Run.{Meter, Outcome, Done, then, fail}
+use Rattle.questions.specs.Run.{Meter, Outcome, Done, then, fail, still}
 use Rattle.dml_meaning.specs.declared.words.Own.TheVariants as own
 use Rattle.dml_meaning.specs.declared.words.Side.{Side}
 use Rattle.dml_meaning.specs.declared.words.Test.{Test}
 use Rattle.dml_meaning.specs.Run.{Env}
-use Rattle.dml_meaning.specs.Around.{Around}
-use Rattle.dml_meaning.specs.Meaning.{Means, ToRead, ToDelete, reference_in, value_or_nothing, test_run, exists_by, delete_by, delete_reached, on_text, path_exists_run, is_changed, copy_extended, reference_extended, extend_by, own_values_run, own_call_run, Includes, assign_by, statement_run, begin_statement, statements_from}
+use Rattle.dml_meaning.specs.Around.{Around, in_include, in_template}
+use Rattle.dml_meaning.specs.Lookups.{structure_named}
+use Rattle.dml_meaning.specs.Meaning.{Means, ToRead, ToDelete, reference_in, value_or_nothing, test_run, exists_by, delete_by, delete_reached, on_text, path_exists_run, is_changed, copy_extended, reference_extended, extend_by, own_values_run, own_call_run, Includes, assign_by, statement_run, begin_statement, statements_from, included}
+use Rattle.dml_world.specs.declared.stop.Exit.{Exit}
+use Rattle.dml_world.specs.Exits.{Comes}
 use Rattle.dml_leaves.specs.References.{is_lone, is_pair}
 use Rattle.dml_leaves.specs.Statements.{is_wrong}
 
@@ -152,3 +156,17 @@ pub ruleset statements = (assign_form, include_form, wrong_form)
 pub statements_more : (including : Includes) (go : Means) (a : Around) (ss : List RStatement) (i : ℕ) (s : RStatement) (t : Plain) (o : Answers) (e : Env) (m : Meter) → i < length ss → s ≡ get_or ss i s → statements_from including go a (map statement_seen (drop i ss)) t o e m ≡ then (begin_statement including go a (statement_seen s) t o e m) (λ u. statements_from including go a (map statement_seen (drop (i + 1) ss)) u o)
 unfolding statements_from
 statements_more including go a ss i s t o e m h is = ap (λ xs. statements_from including go a (map statement_seen xs) t o e m) (drop_more ss i s h ∙ ap (λ y. y ∷ drop (i + 1) ss) (sym is))
+
+-- a structure template that is included
+
+one_include : (n : ℕ) (go : Means) (a : Around) (p : Place) (x : List ℕ) (t : Plain) (o : Answers) (e : Env) (m : Meter) → 0 < n → included n go a p x t o e m ≡ then (still (structure_named a p x) o e m) (λ z. statements_from (included (n - 1) go) go (in_template (in_include a) z.name) z.statements t o)
+unfolding included
+one_include zero go a p x t o e m h = absurd (omega arith)
+one_include (suc n) go a p x t o e m h = let k : suc n - 1 ≡ n = omega arith in rw k refl
+
+-- where it is there: what its statements make
+pub includes_on : (n : ℕ) (go : Means) (a : Around) (p : Place) (x : List ℕ) (t : Plain) (o : Answers) (e e' e'' : Env) (m m' m'' : Meter) (w w' : RTemplate) (r : Result Plain Exit) → 0 < n → w' ≡ w → still (structure_named a p x) o e m ≡ Done (template_seen w) e' m' → Comes (λ u. u) r e'' m'' (statements_from (included (n - 1) go) go (in_template (in_include a) w'.name) (map statement_seen w'.statements.items) t o e' m') → Comes (λ u. u) r e'' m'' (included n go a p x t o e m)
+includes_on n go a p x t o e e' e'' m m' m'' w w' r some same found rest =
+    let f = λ (z : Template). statements_from (included (n - 1) go) go (in_template (in_include a) z.name) z.statements t o in
+    let P : RTemplate → Type 0 = λ y. Comes (λ u. u) r e'' m'' (f (template_seen y) e' m') in
+    subst (Comes (λ u. u) r e'' m'') (sym (one_include n go a p x t o e m some ∙ ap (λ y. then y f) found)) (subst P same rest)

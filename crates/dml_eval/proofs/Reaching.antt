@@ -1,5 +1,5 @@
 -- The indexes of a reference, one more.
-use Rattle.std.proofs.Common.{◌≡◌, ◌∙◌, ap, refl, Bool, true, false, not, ◌&&◌, List, [], ◌∷◌, ◌++◌, length, Option, Some, None, is_none, arith}
+use Rattle.std.proofs.Common.{◌≡◌, ◌∙◌, ap, refl, Bool, true, false, not, ◌&&◌, List, [], ◌∷◌, ◌++◌, length, Option, is_none, arith}
 use Rattle.std.specs.Borrow.{Bor}
 use Rattle.path_tree.specs.Plain.{Plain}
 use Rattle.pan_ast.specs.declared.place.Place.{Place}
@@ -10,7 +10,7 @@ use Rattle.questions.specs.Contents.{Answers}
 use Rattle.questions.specs.Run.{Meter, Done, then, ◌>>=◌}
 use Rattle.dml_meaning.specs.Run.{Env}
 use Rattle.dml_meaning.specs.Around.{Around}
-use Rattle.dml_meaning.specs.Meaning.{Means, Reached, index_step, reach_from}
+use Rattle.dml_meaning.specs.Meaning.{Means, index_step, reach_from}
 use Rattle.dml_leaves.specs.References.{indexes_back}
 use Rattle.dml_leaves.proofs.Indexed.{back_more}
 

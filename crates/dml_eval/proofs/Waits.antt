@@ -1,17 +1,7 @@
 -- What waits, when one more does, and how much is left to do.
-use Rattle.std.proofs.Common.{◌≡◌, ◌∙◌, ap, sym, refl, ◌+◌, ◌≤◌, List, [], ◌∷◌, ◌++◌, map, length, arith}
-use Rattle.std.specs.declared.vec.Vec.{Vec}
-use Rattle.std.specs.declared.boxed.Box.{Box}
-use Rattle.std.specs.declared.alloc.Global.{Global}
+use Rattle.std.proofs.Common.{◌≡◌, ◌∙◌, ap, sym, refl, ◌+◌, List, [], ◌∷◌, ◌++◌, length, arith}
 use Rattle.path_tree.specs.Plain.{Plain}
-use Rattle.pan_ast.specs.declared.place.Place.{Place}
 use Rattle.pan_ast.specs.declared.fault.Fault.{Fault}
-use Rattle.pan_ast.specs.declared.syntax.Node.{Node as RNode}
-use Rattle.pan_ast.specs.declared.syntax.Step.{Step as RStep}
-use Rattle.pan_ast.specs.declared.syntax.Form.TheVariants as form
-use Rattle.pan_ast.specs.Syntax.{Node, Step, AtIndex, AtBinary, AtAnd, AtOr, stepped, steps_on}
-use Rattle.pan_ast.specs.Seen.{node_seen, step_seen}
-use Rattle.pan_ast.proofs.Forms.{seen_spine}
 use Rattle.questions.specs.declared.key.Key.{Key}
 use Rattle.questions.specs.Contents.{Answers}
 use Rattle.questions.specs.Run.{Meter, Outcome, Returned, Failed, Asks, then}

@@ -1,4 +1,4 @@
-ghost use Rattle.std.specs.Prelude.{◌≡◌, ◌+◌, ◌-◌, ◌<◌, map};
+ghost use Rattle.std.specs.Prelude.{◌≡◌, ◌+◌, ◌-◌, ◌<◌, ◌^◌, map};
 ghost use Rattle.dml_world.specs.Exits.{Follows};
 ghost use Rattle.dml_world.specs.Seen.{around_of, is_fixed};
 ghost use Rattle.dml_meaning.specs.Around.{in_include, in_template};
@@ -81,6 +81,14 @@ fn create_named<W: World, L: Ledger>(
     set_keys(alloc, place, pairs, made, live, world)
 }
 
+/// How many includes may still be opened.
+fn includes_left(around: &Around<'_>) -> u64
+    ensures left { result ≡ around.now.includes_left }
+    ensures few { around.now.includes_left < 2 ^ 64 }
+{
+    around.includes_left
+}
+
 /// What the statements of a structure template make, from an empty dict on.
 #[cycle(eval)]
 fn run_created<W: World, L: Ledger>(
@@ -102,7 +110,7 @@ fn run_created<W: World, L: Ledger>(
     let template = structure_named(alloc, place, name, around, live, world, steps)?;
     let made = Tree::empty_dict(alloc)?;
     let frame = around.frame.within(template.name.share()?);
-    let includes_left = around.includes_left;
+    let includes_left = includes_left(around);
     let inner = Around {
         frame: &frame,
         self_use: around.self_use,

@@ -1,5 +1,5 @@
 -- Why a take is refused.
-use Rattle.std.specs.Prelude.{ℕ, ◌<◌, List, length}
+use Rattle.std.specs.Prelude.{ℕ, ◌<◌, ◌≤◌, List, length}
 use Rattle.asking.specs.declared.limits.TheConstants.{END_OF_NUMBERS}
 use Rattle.base.specs.declared.limits.TheConstants.{MAX_OBJECTS}
 use Rattle.load_path.specs.declared.picture.PictureFile.{PictureFile}
@@ -15,10 +15,12 @@ IsSpent TooManyObjects n = ⊥
 IsSpent NumbersSpent n = END_OF_NUMBERS < n
 IsSpent Memory n = Unit {0}
 
--- The picture has more objects than an engine takes; the counter and the new numbers that the
--- picture needs pass the end of numbers; or memory was wanting.
+-- The picture has more objects than an engine takes; it has no more, and the counter and the new
+-- numbers that it needs pass the end of numbers; or memory was wanting.
 abbrev pub IsRefused : List FileRow → ℕ → List PictureFile → List (List ℕ) → TakeError → Type 0
 IsRefused old counter files dirs TooManyObjects =
     (names : List (List ℕ)) × AreObjects files dirs names × (MAX_OBJECTS < length names)
-IsRefused old counter files dirs NumbersSpent = END_OF_NUMBERS < counter_after old counter files
+IsRefused old counter files dirs NumbersSpent =
+    (names : List (List ℕ)) × AreObjects files dirs names × (length names ≤ MAX_OBJECTS)
+    × (END_OF_NUMBERS < counter_after old counter files)
 IsRefused old counter files dirs Memory = Unit {0}

@@ -76,7 +76,7 @@ impl<R: Runner> Engine<R> {
     /// Takes a picture: its objects are those of the engine from now on, and all of them are unsettled. The runner gets
     /// the picture and the engine's directories.
     ///
-    /// `steps` rises by one for each file. `TooManyObjects` where the picture has over [MAX_OBJECTS], `NumbersSpent`
+    /// `steps` rises by one for each file. `TooManyObjects` where the picture has over [MAX_OBJECTS], else `NumbersSpent`
     /// where the numbers that its files need pass [END_OF_NUMBERS]. A refused take leaves engine and runner as before.
     pub fn take<L: Ledger>(
         &mut self,

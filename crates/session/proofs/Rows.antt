@@ -84,5 +84,5 @@ foreign : stands_at (codes "z.txt") (reached toy troubled (started new_toy pictu
 unfolding digits
 foreign = refl
 
-quits : next toy (plain (codes "quit")) (started new_toy pictures) ≡ Quits
+quits : next toy (plain (codes "quit")) (started new_toy pictures) ≡ Quits (started new_toy pictures)
 quits = refl

@@ -13,24 +13,23 @@ pub use texts::{count_faults, report};
 /// What compiling an object gives.
 #[derive(Debug, Drop)]
 pub enum Outcome {
-    /// The bytes of its profile.
-    Profile(Bytes),
+    /// The bytes of its profile, and the text of its dependencies.
+    Profile { json: Bytes, dep: Bytes },
     /// The printed fault.
     Fault(Bytes),
 }
 
-/// What stands under an object's name, with the text of its dependencies.
+/// What stands under an object's name.
 #[derive(Debug, Drop)]
 pub struct Answer {
     pub name: Text,
     pub outcome: Outcome,
-    pub deps: Bytes,
 }
 
-/// What an engine says of a name.
-#[derive(Debug, Drop)]
-pub enum Shown {
+/// What an engine says of a name, where it is an object with nothing left to do: this.
+#[derive(Drop)]
+pub enum Shown<T> {
     Pending,
     NoObject,
-    Settled(Answer),
+    Settled(T),
 }

@@ -2,12 +2,12 @@ ghost use Rattle.std.specs.Prelude.{◌≡◌, ◌++◌, IfOk, OnOk, decimal, fl
 ghost use Rattle.session.specs.Texts.{run_line, fault_line, is_fault, faults_in, totals, report};
 
 use crate::{Answer, Outcome};
-use base::Text;
 use itoa::Buffer;
+use path_tree::Name;
 use std::alloc::{AllocError, Global};
 
 /// `run NAME`, a line.
-fn push_run(text: &mut Vec<u8>, name: &Text) -> Result<(), AllocError>
+fn push_run(text: &mut Vec<u8>, name: &Name) -> Result<(), AllocError>
     ensures { OnOk result (text.new.items ≡ text.old.items ++ run_line name.now) }
 {
     text.extend_from_slice(b"run ")?;
@@ -29,7 +29,7 @@ fn push_fault(text: &mut Vec<u8>, answer: &Answer) -> Result<(), AllocError>
     text.extend_from_slice(b"\n")
 }
 
-fn push_runs(text: &mut Vec<u8>, runs: &[Text]) -> Result<(), AllocError>
+fn push_runs(text: &mut Vec<u8>, runs: &[Name]) -> Result<(), AllocError>
     ensures { OnOk result (text.new.items ≡ text.old.items ++ flat_map run_line runs.now) }
 {
     for name in runs {
@@ -70,7 +70,7 @@ fn push_count(text: &mut Vec<u8>, word: &str, count: usize) -> Result<(), AllocE
 }
 
 /// The numbers of objects, of profiles, of faults and of runs, a line.
-fn push_totals(text: &mut Vec<u8>, answers: &[Answer], runs: &[Text]) -> Result<(), AllocError>
+fn push_totals(text: &mut Vec<u8>, answers: &[Answer], runs: &[Name]) -> Result<(), AllocError>
     ensures { OnOk result (text.new.items ≡ text.old.items ++ totals answers.now runs.now) }
 {
     let objects = answers.len();
@@ -83,7 +83,7 @@ fn push_totals(text: &mut Vec<u8>, answers: &[Answer], runs: &[Text]) -> Result<
 }
 
 /// The text of a build: a line for each of these runs, a line for each fault among the answers, and the totals.
-pub fn report(alloc: Global, answers: &[Answer], runs: &[Text]) -> Result<Vec<u8>, AllocError>
+pub fn report(alloc: Global, answers: &[Answer], runs: &[Name]) -> Result<Vec<u8>, AllocError>
     ensures { IfOk result (λ text. text.items ≡ report answers.now runs.now) }
 {
     let mut text = Vec::new(alloc);
