@@ -80,7 +80,7 @@ fn text_of(name: &str) -> Option<&'static str>
 }
 
 /// What is in the file of a name.
-fn stored(name: &str) -> Stored
+fn stored_as(name: &str) -> Stored
     ensures { stored_content result ≡ file_content name.now }
 {
     if name == "data/long" {
@@ -193,7 +193,7 @@ impl World for Written {
 
     fn file(&mut self, alloc: Global, name: &Text) -> Result<Seen, AllocError> {
         add_key(&mut self.asked, Key::File(name.share()?))?;
-        match stored(name.as_str()) {
+        match stored_as(name.as_str()) {
             Stored::Missing => Ok(Seen::Missing),
             Stored::Long => Ok(Seen::TooLong),
             Stored::Bytes(_) => Ok(Seen::There),
@@ -201,7 +201,7 @@ impl World for Written {
     }
 
     fn template(&mut self, alloc: Global, file: &Text) -> Result<Rc<Template>, TemplateStop> {
-        let Stored::Bytes(text) = stored(file.as_str()) else {
+        let Stored::Bytes(text) = stored_as(file.as_str()) else {
             return Err(TemplateStop::Memory);
         };
         if text.len() > MAX_FILE_BYTES {
@@ -218,7 +218,7 @@ impl World for Written {
     }
 
     fn text(&mut self, alloc: Global, file: &Text) -> Result<Option<Tree>, AllocError> {
-        let Stored::Bytes(bytes) = stored(file.as_str()) else {
+        let Stored::Bytes(bytes) = stored_as(file.as_str()) else {
             return Err(AllocError);
         };
         let Ok(text) = str::from_utf8(bytes) else {
