@@ -77,10 +77,20 @@ module _ {T : Type 0} (m : Meaning T) (files : List PictureFile) (objects : List
   finishes ask limit room soon zero (q ∷ asked) items end e trail reads = absurd (let lt = soon asked q.0 trail.0 trail.1 in omega (arith, lt))
   finishes ask limit room soon (suc n) asked [] end e trail reads = ([], ap (λ a. run_next a (λ k. with_word k (told tell k) (λ c. ran ask (told tell) n ((k, c) ∷ asked)))) reads, refl)
   finishes ask limit room soon (suc n) asked (q ∷ items) end e trail reads =
-      let later = finishes ask limit room soon n ((q.0, tell q.0) ∷ asked) items end (omega (arith, e)) (trail, reads.0, refl) reads.2 in
-      ((q.0, presence (tell q.0)) ∷ later.0,
-      ap (λ a. run_next a (λ k. with_word k (told tell k) (λ c. ran ask (told tell) n ((k, c) ∷ asked)))) reads.0 ∙ ap (read_on (q.0, presence (tell q.0))) later.1,
-      ap₂ (λ l ls. l ∷ ls) (line_same q.0 q.1 reads.1) later.2)
+      let later = finishes ask limit room soon n ((q.0, tell q.0) ∷ asked) items end (omega (arith, e)) (trail, reads.0, refl) reads.2 in (
+        (q.0, presence (tell q.0)) ∷ later.0,
+        ap (λ a. run_next a (λ k. with_word k (told tell k) (λ c. ran ask (told tell) n ((k, c) ∷ asked)))) reads.0 ∙ ap (read_on (q.0, presence (tell q.0))) later.1,
+        ap₂ (λ l ls. l ∷ ls) (line_same q.0 q.1 reads.1) later.2,
+      )
+
+  -- the items of both records, whose text is the one from scratch
+  pub record Looked (o : Name) : Type 0 where
+    pub items : List (Key × ℕ)
+    pub citems : List (Key × ℕ)
+    pub verdict : Verdict
+    pub is_reads : state.reads o ≡ Some items
+    pub is_checked : state.checked o ≡ Some (citems, verdict)
+    pub text : dep_text_of items citems ≡ deps_in m files objects o
 
   module _ (lawful : IsLawful m) (once : IsOnce objects) (reached : IsReached (runner_of m.build) keeping (judge_of m.check) here) (o : Name) (among : IsIn o objects) where
     soon : EndsSoon (runner_of m.build) (judge_of m.check) (picture_in files objects)
@@ -109,16 +119,7 @@ module _ {T : Type 0} (m : Meaning T) (files : List PictureFile) (objects : List
         failed true = tt
         failed false = tt
 
-    -- the items of both records, whose text is the one from scratch
-    pub record Looked : Type 0 where
-      pub items : List (Key × ℕ)
-      pub citems : List (Key × ℕ)
-      pub verdict : Verdict
-      pub is_reads : state.reads o ≡ Some items
-      pub is_checked : state.checked o ≡ Some (citems, verdict)
-      pub text : dep_text_of items citems ≡ deps_in m files objects o
-
-    pub looked : state.open_build o ≡ false → state.open_check o ≡ false → Looked
+    pub looked : state.open_build o ≡ false → state.open_check o ≡ false → Looked o
     looked opened closed =
         let b = scratch.builds o among opened in
         let c = scratch.checks o among closed in

@@ -1,7 +1,7 @@
 -- What takes and turns make of an engine is what the machine of a session says.
 use Rattle.std.proofs.Common.{◌≡◌, ◌≤◌, ◌<◌, ◌+◌, ℕ, zero, suc, List, [], ◌∷◌, ◌||◌, Bool, true, false, cond, not, nat_eq, nat_lt, length, map, fold, Option, Some, None, Result, Ok, Err, is_some, IfOk, OnErr, if◌then◌else◌, inl, inr, refl, sym, ap, ap₂, ◌∙◌, ◌⊎◌, subst, arith}
 use Rattle.std.specs.Prelude.{bytes_eq, option_map}
-use Rattle.std.proofs.lemmas.Bool.{lt-ltb, le-ltb}
+use Rattle.std.proofs.lemmas.Bool.{lt-ltb, le-ltb, ne_eqb}
 use Rattle.asking.specs.declared.limits.TheConstants.{END_OF_NUMBERS}
 use Rattle.base.specs.declared.limits.TheConstants.{MAX_OBJECTS}
 use Rattle.load_path.specs.Pictures.{content_in}
@@ -39,14 +39,14 @@ use Rattle.session.specs.Sessions.{State, Next, GoesOn, SpendsNumbers, IsTooMuch
 use Rattle.compiler.specs.Compiler as compiled
 use Rattle.compiler.specs.Compiler.{Compiled, nothing, rows_by, rows_of, compiler, taken, take, turned, work_of, counter_with, forgotten}
 use Rattle.compiler.specs.Names.{names_below, objects_in}
-use Rattle.compiler.specs.Standing.{Here, compiled_in, AreNumbers, IsIn, Counts, counts, HasSpent, HasSpentAtMost, IsAt, IsBelow, IsRising, IsMoved, MakesTurn, MakesTurns, Turning, Takes, TakesNext, has_failed}
+use Rattle.compiler.specs.Standing.{Here, compiled_in, AreNumbers, IsKept, IsIn, Counts, counts, HasSpent, HasSpentAtMost, IsAt, IsBelow, IsRising, IsMoved, MakesTurn, MakesTurns, Turning, Takes, TakesNext, has_failed}
 use Rattle.compiler.specs.declared.taking.Took.{Took}
 use Rattle.compiler.specs.declared.taking.Took.TheVariants as took
 use Rattle.compiler.proofs.Counting.{at_most, at_most_on, spent_on, spent_some, turns_rise, next_turn_below}
 use Rattle.compiler.proofs.Lists.{apart, only_objects}
 
 pub not_past : (n m : ℕ) → m ≤ n → nat_lt n m ≡ false
-not_past n m le = le-ltb m n le
+not_past n m le = le-ltb n m le
 
 pub past : (n m : ℕ) → n < m → nat_lt n m ≡ true
 past n m lt = lt-ltb n m lt
@@ -68,6 +68,10 @@ new_in core dirs limits fresh same_limits same_dirs files = record {
   dirs_are = same_dirs;
   limits_are = same_limits;
   is = λ i. record { files = pictured (files i); situation = fresh i };
+}
+
+pub new_kept : {T : Type 0} (core : Core T) → situation_of core ≡ new_situation → core.files.items ≡ [] → IsKept core
+new_kept core fresh files = record {
   objects = ap (λ x. x.picture.objects) fresh ∙ sym (no_objects core.dirs) ∙ ap (λ fs. objects_in (pictured fs) core.dirs) (sym files);
   numbers = subst AreNumbers (sym files) (λ f. refl);
 }
@@ -79,8 +83,6 @@ module _ {T : Type 0} (M : Meanings T) where
     dirs_are = same_dirs ∙ is.dirs_are;
     limits_are = same_limits ∙ is.limits_are;
     is = along old (λ d l x. compiled_in new ≡ turned (M d l) d x) dirs limits e is (λ i. record { files = pictured (files i); situation = state i });
-    objects = ap (λ x. x.picture.objects) state ∙ is.objects ∙ ap₂ (λ fs d. objects_in (pictured fs) d) (sym files) (sym same_dirs);
-    numbers = subst AreNumbers (sym files) is.numbers;
   }
 
   -- the runs are forgotten
@@ -89,9 +91,19 @@ module _ {T : Type 0} (M : Meanings T) where
     dirs_are = same_dirs ∙ is.dirs_are;
     limits_are = same_limits ∙ is.limits_are;
     is = along old (λ d l x. compiled_in new ≡ forgotten (M d l) d x) dirs limits e is (λ i. record { files = pictured (files i); situation = state i });
-    objects = ap (λ x. x.picture.objects) state ∙ is.objects ∙ ap₂ (λ fs d. objects_in (pictured fs) d) (sym files) (sym same_dirs);
-    numbers = subst AreNumbers (sym files) is.numbers;
   }
+
+  pub same_kept : (old new : Core T) → new.files.items ≡ old.files.items → new.dirs ≡ old.dirs → objects_of new ≡ objects_of old → IsKept old → IsKept new
+  same_kept old new files same_dirs same_objects kept = record {
+    objects = same_objects ∙ kept.objects ∙ ap₂ (λ fs d. objects_in (pictured fs) d) (sym files) (sym same_dirs);
+    numbers = subst AreNumbers (sym files) kept.numbers;
+  }
+
+  pub turned_kept : (old new : Core T) → new.files.items ≡ old.files.items → new.dirs ≡ old.dirs → situation_of new ≡ after_turn M (value_of old) → IsKept old → IsKept new
+  turned_kept old new files same_dirs state kept = same_kept old new files same_dirs (ap (λ x. x.picture.objects) state) kept
+
+  pub forgotten_kept : (old new : Core T) → new.files.items ≡ old.files.items → new.dirs ≡ old.dirs → situation_of new ≡ after_forget M (value_of old) → IsKept old → IsKept new
+  forgotten_kept old new files same_dirs state kept = same_kept old new files same_dirs (ap (λ x. x.picture.objects) state) kept
 
   module _ (dirs : List (List ℕ)) (limits : Limits) (s : Here T) (old new : Core T) (start mid : Counts) (runs steps : ℕ) where
     work_same : IsIn dirs limits old s.engine → turn_work_of M (value_of old) ≡ work_of (M dirs limits) dirs s.engine
@@ -101,13 +113,14 @@ module _ {T : Type 0} (M : Meanings T) where
     turn_made at files same_dirs same_limits state low spent =
         let is = turned_in old new files same_dirs same_limits state dirs limits s.engine at.engine in
         let count : (turned (M dirs limits) dirs s.engine).situation.state.counter ≡ (situation_of new).state.counter = ap (λ x. x.situation.state.counter) (sym is.is) in
-        let within : nat_lt END_OF_NUMBERS (turned (M dirs limits) dirs s.engine).situation.state.counter ≡ false = ap (nat_lt END_OF_NUMBERS) count ∙ not_past END_OF_NUMBERS (situation_of new).state.counter low in
-        (turned (M dirs limits) dirs s.engine,
-        ap (λ b. if b then None else Some (turned (M dirs limits) dirs s.engine)) within,
-        record {
-          engine = is;
-          spent = let h = spent_on (compiler (M dirs limits) dirs) s ((compiler (M dirs limits) dirs).turn s.engine) (turn_work_of M (value_of old)) start mid runs steps (ap (λ w. w.0) (sym (work_same at.engine))) (ap (λ w. w.1) (sym (work_same at.engine))) at.spent spent in record { in_runs = h.in_runs; in_steps = h.in_steps };
-        })
+        let within : nat_lt END_OF_NUMBERS (turned (M dirs limits) dirs s.engine).situation.state.counter ≡ false = ap (nat_lt END_OF_NUMBERS) count ∙ not_past END_OF_NUMBERS (situation_of new).state.counter low in (
+          turned (M dirs limits) dirs s.engine,
+          ap (λ b. if b then None else Some (turned (M dirs limits) dirs s.engine)) within,
+          record {
+            engine = is;
+            spent = let h = spent_on (compiler (M dirs limits) dirs) s ((compiler (M dirs limits) dirs).turn s.engine) (turn_work_of M (value_of old)) start mid runs steps (ap (λ w. w.0) (sym (work_same at.engine))) (ap (λ w. w.1) (sym (work_same at.engine))) at.spent spent in record { in_runs = h.in_runs; in_steps = h.in_steps };
+          },
+        )
 
     counter_same : IsIn dirs limits old s.engine → (after_turn M (value_of old)).state.counter ≡ (turned (M dirs limits) dirs s.engine).situation.state.counter
     counter_same is = along old (λ d l x. (after_turn M (value_of old)).state.counter ≡ (turned (M d l) d x).situation.state.counter) dirs limits s.engine is refl
@@ -116,9 +129,10 @@ module _ {T : Type 0} (M : Meanings T) where
     turn_cut at spent = spent_some (compiler (M dirs limits) dirs) s ((compiler (M dirs limits) dirs).turn s.engine) (turn_work_of M (value_of old)) start mid runs steps (ap (λ w. w.0) (sym (work_same at.engine))) (ap (λ w. w.1) (sym (work_same at.engine))) at.spent spent
 
     pub turn_spent : IsAt dirs limits s old start mid → END_OF_NUMBERS < (after_turn M (value_of old)).state.counter → IsSpentAtMost (turn_work_of M (value_of old)) mid.steps steps mid.runs runs → MakesTurn (compiler (M dirs limits) dirs) dirs limits s false new start (counts runs steps)
-    turn_spent at high spent =
-        (ap (λ b. if b then None else Some (turned (M dirs limits) dirs s.engine)) (ap (nat_lt END_OF_NUMBERS) (sym (counter_same at.engine)) ∙ past END_OF_NUMBERS (after_turn M (value_of old)).state.counter high),
-        turn_cut at spent)
+    turn_spent at high spent = (
+      ap (λ b. if b then None else Some (turned (M dirs limits) dirs s.engine)) (ap (nat_lt END_OF_NUMBERS) (sym (counter_same at.engine)) ∙ past END_OF_NUMBERS (after_turn M (value_of old)).state.counter high),
+      turn_cut at spent,
+    )
 
 -- turns, one after the other
 module _ {T : Type 0} (machine : Machine (Compiled T)) (dirs : List (List ℕ)) (limits : Limits) (count : ℕ) (s : Here T) (start : Counts) where
@@ -165,7 +179,7 @@ differs_back : (a b : List ℕ) → bytes_eq a b ≡ false → bytes_eq b a ≡ 
 differs_back a b other = at (bytes_eq b a) refl
   where
     at : (x : Bool) → bytes_eq b a ≡ x → x ≡ false
-    at true is = absurd (let clash : true ≡ false = sym (ap (λ z. bytes_eq z b) (bytes_same b a is) ∙ bytes_refl b) ∙ ap (λ z. bytes_eq z b) (bytes_same b a is) ∙ bytes_refl b ∙ sym (bytes_refl b) ∙ ap (λ z. bytes_eq z b) (bytes_same b a is) ∙ other in cc)
+    at true is = absurd (let clash : true ≡ false = sym (ap (bytes_eq a) (bytes_same b a is) ∙ bytes_refl a) ∙ other in cc)
     at false is = refl
 
 both_false : (a b : Bool) → a || b ≡ false → (a ≡ false) × (b ≡ false)
@@ -194,8 +208,7 @@ found_row (q ∷ old) name r e = at (found_row old name r) (bytes_eq q.name name
     at later false e = later e
 
 positive : (n : ℕ) → 0 < n → nat_eq n 0 ≡ false
-positive zero lt = absurd (omega arith)
-positive (suc n) lt = refl
+positive n lt = ne_eqb n 0 (λ e. omega (arith, e))
 
 module _ (old : List FileRow) (are : AreNumbers old) where
   number_there : (counter : ℕ) → 0 < counter → (name : List ℕ) (content : Content) → nat_eq (number_or counter (old_or_none old name content)) 0 ≡ false
@@ -229,8 +242,6 @@ module _ {T : Type 0} (M : Meanings T) where
     dirs_are = same_dirs ∙ is.dirs_are;
     limits_are = same_limits ∙ is.limits_are;
     is = along old (λ d l x. compiled_in new ≡ taken (M d l) d picture x) dirs limits e is (λ i. record { files = files i; situation = whole i });
-    objects = named ∙ ap₂ (λ fs d. objects_in fs d) (sym files) (sym same_dirs);
-    numbers = λ f. ap (λ x. nat_eq (x.state.number (File f)) 0) state ∙ numbered_are old.files.items is.numbers picture old.counter (let three = (ready_is old ready).three in omega (arith, three)) f ∙ ap (λ fs. not (is_some (content_in fs f))) (sym files);
   }
     where
       named : objects_of new ≡ objects_in picture old.dirs
@@ -238,6 +249,12 @@ module _ {T : Type 0} (M : Meanings T) where
 
       whole : situation_of new ≡ (taken (M old.dirs old.limits) old.dirs picture (compiled_in old)).situation
       whole = state ∙ ap (λ objects. after_take M (value_of old) picture objects) named ∙ ap (λ rows. compiled.after (M old.dirs old.limits) old.dirs (compiled_in old) (take_of rows old.counter picture (objects_in picture old.dirs))) (sym (rows_are old.files.items (ready_is old ready).files))
+
+  pub taken_kept : (old new : Core T) (picture : List PictureFile) → is_ready old ≡ true → AreObjects picture old.dirs (objects_of new) → situation_of new ≡ after_take M (value_of old) picture (objects_of new) → pictured new.files.items ≡ picture → new.dirs ≡ old.dirs → IsKept old → IsKept new
+  taken_kept old new picture ready are state files same_dirs kept = record {
+    objects = only_objects picture old.dirs (objects_of new) are ∙ ap₂ (λ fs d. objects_in fs d) (sym files) (sym same_dirs);
+    numbers = λ f. ap (λ x. nat_eq (x.state.number (File f)) 0) state ∙ numbered_are old.files.items kept.numbers picture old.counter (let three = (ready_is old ready).three in omega (arith, three)) f ∙ ap (λ fs. not (is_some (content_in fs f))) (sym files);
+  }
 
   module _ (dirs : List (List ℕ)) (limits : Limits) (s : Here T) (old new : Core T) (picture : List PictureFile) (start mid now : Counts) where
     -- the session with the steps of a take

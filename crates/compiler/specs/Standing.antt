@@ -34,14 +34,17 @@ abbrev pub AreNumbers : List FileRow → Type 0
 AreNumbers files = (f : List ℕ) → nat_eq (file_number_in files f) 0
     ≡ not (is_some (content_in (pictured files) f))
 
+-- what holds of an engine's data from take to take
+pub record IsKept {T : Type 0} (core : Core T) : Type 0 where
+  pub objects : names core.rows.items ≡ objects_in (pictured core.files.items) core.dirs
+  pub numbers : AreNumbers core.files.items
+
 -- an engine with these directories and limits has come to this
 pub record IsIn {T : Type 0} (dirs : List (List ℕ)) (limits : Limits) (core : Core T)
     (e : Compiled T) : Type 0 where
   pub dirs_are : core.dirs ≡ dirs
   pub limits_are : core.limits ≡ limits
   pub is : compiled_in core ≡ e
-  pub objects : names core.rows.items ≡ objects_in (pictured core.files.items) core.dirs
-  pub numbers : AreNumbers core.files.items
 
 -- a runner's count of runs, and the steps
 pub record Counts : Type 0 where
@@ -117,12 +120,12 @@ pub record MakesTurns {T : Type 0} (machine : Machine (Compiled T)) (dirs : List
 -- some of them were made, and so many are left
 pub record Turning {T : Type 0} (machine : Machine (Compiled T)) (dirs : List (List ℕ))
     (limits : Limits) (count left : ℕ) (s : Here T) (core : Core T) (start now : Counts) : Type 0
-    where
-  pub state : Here T
-  pub leads : (next : Here T → Next (Compiled T)) → with_turns machine count s next
-      ≡ with_turns machine left state next
-  pub moved : IsMoved s state
-  pub stands : IsAt dirs limits state core start now
+  where
+    pub state : Here T
+    pub leads : (next : Here T → Next (Compiled T)) → with_turns machine count s next
+        ≡ with_turns machine left state next
+    pub moved : IsMoved s state
+    pub stands : IsAt dirs limits state core start now
 
 abbrev pub has_failed : Scanned → Bool
 has_failed NotBegun = true

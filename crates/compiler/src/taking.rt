@@ -5,7 +5,7 @@ ghost use Rattle.engine_turns.specs.States.{pictured};
 ghost use Rattle.scans.specs.Outcomes.{IsPassed, IsPerhapsPassed};
 ghost use Rattle.session.specs.Sessions.{Next, Done, state_in, scanned};
 ghost use Rattle.compiler.specs.Compiler.{Compiled, compiler};
-ghost use Rattle.compiler.specs.Standing.{Here, Counts, counts, IsAt, HasSpentAtMost, IsRising, Takes, TakesNext};
+ghost use Rattle.compiler.specs.Standing.{Here, Counts, counts, IsKept, IsAt, HasSpentAtMost, IsRising, Takes, TakesNext};
 
 use base::Steps;
 use load_path::Picture;
@@ -36,6 +36,7 @@ fn take<R: Runner, L: Ledger>(
 ) -> Result<Took, AllocError>
     requires files { R.files_of runner.old ≡ pictured engine.old.core.files.items }
     requires dirs { R.dirs_of runner.old ≡ engine.old.core.dirs }
+    requires kept { IsKept engine.old.core }
     ensures took { IfOk result (λ how. (dirs : List (List ℕ)) (limits : Limits) (s : Here R.Rest)
         (start : Counts) → IsAt dirs limits s engine.old.core start
         (counts (R.runs_of runner.old) steps.old) → Takes (compiler (R.meaning dirs limits) dirs)
@@ -43,6 +44,7 @@ fn take<R: Runner, L: Ledger>(
     ensures source { IfOk result (λ how. how ≡ Took.Failed → ⊥) }
     ensures files { R.files_of runner.new ≡ pictured engine.new.core.files.items }
     ensures dirs { R.dirs_of runner.new ≡ engine.new.core.dirs }
+    ensures kept { IsKept engine.new.core }
     ensures runs { R.runs_of runner.new ≡ R.runs_of runner.old }
     ensures steps { steps.new ≤ steps.old + length picture }
 {
@@ -64,6 +66,7 @@ pub fn take_next<R: Runner, S: Source, L: Ledger>(
 ) -> Result<Took, AllocError>
     requires files { R.files_of runner.old ≡ pictured engine.old.core.files.items }
     requires dirs { R.dirs_of runner.old ≡ engine.old.core.dirs }
+    requires kept { IsKept engine.old.core }
     ensures took { IfOk result (λ how. (dirs : List (List ℕ)) (limits : Limits) (s : Here R.Rest)
         (start : Counts) → IsAt dirs limits s engine.old.core start
         (counts (R.runs_of runner.old) steps.old) → S.coming source.old ≡ Some s.coming
@@ -78,6 +81,7 @@ pub fn take_next<R: Runner, S: Source, L: Ledger>(
         (counts (R.runs_of runner.new) steps.new)) }
     ensures files { R.files_of runner.new ≡ pictured engine.new.core.files.items }
     ensures dirs { R.dirs_of runner.new ≡ engine.new.core.dirs }
+    ensures kept { IsKept engine.new.core }
     ensures runs { R.runs_of runner.new ≡ R.runs_of runner.old }
     ensures taken { IfOk result (λ how. (how ≡ Took.Failed → ⊥)
         → IsPassed (S.coming source.old) (S.coming source.new)) }

@@ -4,7 +4,7 @@ ghost use Rattle.engine_turns.specs.States.{pictured};
 ghost use Rattle.rebuild.specs.Engines.{turns_left_of};
 ghost use Rattle.session.specs.Sessions.{Next, state_in, worked, with_turns};
 ghost use Rattle.compiler.specs.Compiler.{Compiled, compiler};
-ghost use Rattle.compiler.specs.Standing.{Here, Counts, counts, IsAt, HasSpentAtMost, IsRising, MakesTurn, MakesTurns};
+ghost use Rattle.compiler.specs.Standing.{Here, Counts, counts, IsKept, IsAt, HasSpentAtMost, IsRising, MakesTurn, MakesTurns};
 
 use base::Steps;
 use rebuild::{Engine, TurnError};
@@ -21,6 +21,7 @@ fn make_turn<R: Runner, L: Ledger>(
 ) -> Result<bool, AllocError>
     requires files { R.files_of runner.old ≡ pictured engine.old.core.files.items }
     requires dirs { R.dirs_of runner.old ≡ engine.old.core.dirs }
+    requires kept { IsKept engine.old.core }
     ensures made { IfOk result (λ made. (dirs : List (List ℕ)) (limits : Limits) (s : Here R.Rest)
         (start : Counts) → IsAt dirs limits s engine.old.core start
         (counts (R.runs_of runner.old) steps.old) → MakesTurn
@@ -35,6 +36,7 @@ fn make_turn<R: Runner, L: Ledger>(
         ≡ turns_left_of engine.old.core - 1) }
     ensures files { R.files_of runner.new ≡ pictured engine.new.core.files.items }
     ensures dirs { R.dirs_of runner.new ≡ engine.new.core.dirs }
+    ensures kept { IsKept engine.new.core }
 {
     match engine.turn(alloc, runner, steps) {
         Ok(_turned) => Ok(true),
@@ -53,6 +55,7 @@ pub fn make_turns<R: Runner, L: Ledger>(
 ) -> Result<bool, AllocError>
     requires files { R.files_of runner.old ≡ pictured engine.old.core.files.items }
     requires dirs { R.dirs_of runner.old ≡ engine.old.core.dirs }
+    requires kept { IsKept engine.old.core }
     ensures made { IfOk result (λ all. (dirs : List (List ℕ)) (limits : Limits) (s : Here R.Rest)
         (start : Counts) → IsAt dirs limits s engine.old.core start
         (counts (R.runs_of runner.old) steps.old) → MakesTurns
@@ -68,6 +71,7 @@ pub fn make_turns<R: Runner, L: Ledger>(
         ≡ turns_left_of engine.old.core - count) }
     ensures files { R.files_of runner.new ≡ pictured engine.new.core.files.items }
     ensures dirs { R.dirs_of runner.new ≡ engine.new.core.dirs }
+    ensures kept { IsKept engine.new.core }
 {
     for _i in 0..count {
         if !make_turn(alloc, engine, runner, steps)? {

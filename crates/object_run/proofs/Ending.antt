@@ -1,50 +1,44 @@
 -- How runs end in code, against the runs over words.
-use Rattle.std.proofs.Common.{◌≡◌, ◌∙◌, ap, sym, subst, refl, ℕ, ◌-◌, List, Option, Some, None, Result, Ok, Err, IfOk, OnOk, map}
+use Rattle.std.proofs.Common.{◌≡◌, ◌∙◌, ap, sym, subst, refl, ℕ, List, Option, Some, None, Result, Ok, Err, IfOk, map}
 use Rattle.std.specs.declared.alloc.AllocError.{AllocError}
 use Rattle.path_tree.specs.Plain.{Plain}
 use Rattle.path_tree.specs.declared.path.Term.{Term}
 use Rattle.load_path.specs.declared.picture.PictureFile.{PictureFile}
 use Rattle.pan_ast.specs.declared.place.Place.{Place}
-use Rattle.asking.specs.Asked.{Word, Tells as Told, Needs, Ran, Finished, Stops}
-use Rattle.asking.specs.declared.limits.TheConstants.{MAX_WORK}
+use Rattle.asking.specs.Asked.{Word, Tells as Told, Needs}
 use Rattle.questions.specs.declared.key.Key.{Key}
 use Rattle.questions.specs.declared.key.Key.TheVariants.{File, Under}
 use Rattle.questions.specs.Contents.{Content}
 use Rattle.questions.specs.Run.{Meter, Outcome, Done, Returned, Failed, Asks}
-use Rattle.questions.specs.Told.{Ending, meter_of, work_of, numbered, ran_by, content_of, answers_of}
+use Rattle.questions.specs.Told.{Ending, numbered, ran_by, content_of, answers_of}
 use Rattle.read_sets.specs.declared.trace.Item.{Item}
 use Rattle.read_sets.specs.Items.{keys_in, pairs_of}
 use Rattle.runner.specs.declared.ends.Built.{Built}
 use Rattle.runner.specs.declared.ends.BuildEnd.{BuildEnd}
 use Rattle.runner.specs.declared.ends.CheckEnd.{CheckEnd}
 use Rattle.runner.specs.Words.{words, object_word}
-use Rattle.runner.specs.Ends.{End, Verdict, build_ran, check_ran}
+use Rattle.runner.specs.Ends.{End, build_ran, check_ran}
 use Rattle.dml_world.specs.declared.stop.Stop.{Stop}
 use Rattle.dml_world.specs.declared.stop.Stop.TheVariants as stop
 use Rattle.dml_world.specs.Exits.{Tells}
 use Rattle.validate.specs.declared.stop.Stop.{Stop as CheckStop}
 use Rattle.validate.specs.declared.stop.Stop.TheVariants as check_stop
 use Rattle.validate.specs.Exits.{Comes}
-use Rattle.template_meaning.specs.Program.{Program}
+use Rattle.template_meaning.specs.Program.{Site, Program}
 use Rattle.run_world.specs.Noted.{AreNumbered, AreWords}
 use Rattle.object_meaning.specs.Rest.{Rest}
+use Rattle.object_meaning.specs.Builds.{build_ending}
 use Rattle.object_meaning.specs.Checks.{check_ending}
 use Rattle.object_run.specs.declared.rest.Rest.{Rest as RRest}
-use Rattle.object_run.specs.Ended.{ended, ran_ended, IsBuildEnd, IsCheckEnd}
+use Rattle.object_run.specs.Ended.{ended, ran_ended, IsBuildEnd, IsCheckEnd, IsNeed}
 
 -- what an ending makes of an outcome
 
-ran_of : {S X T : Type 0} → (tells : Key → Word Content) (f : Ending S X (End T)) (o : Outcome S X) → ran_by tells f o ≡ ran_ended tells (ended f o)
-ran_of tells f (Done x s m) = refl
-ran_of tells f (Returned t s m) = refl
-ran_of tells f (Failed d m) = refl
-ran_of tells f (Asks k m) = refl
-
-ended_meter : {S X R : Type 0} → (f : Ending S X R) (o : Outcome S X) → meter_of (ended f o) ≡ meter_of o
-ended_meter f (Done x s m) = refl
-ended_meter f (Returned t s m) = refl
-ended_meter f (Failed d m) = refl
-ended_meter f (Asks k m) = refl
+ran_of : (tells : Key → Word Content) (site : Site) (o : Outcome Program Place) → ran_by tells (build_ending site) o ≡ ran_ended tells (ended (build_ending site) o)
+ran_of tells site (Done x s m) = refl
+ran_of tells site (Returned t s m) = refl
+ran_of tells site (Failed d m) = refl
+ran_of tells site (Asks k m) = refl
 
 asks_back : {S X R : Type 0} → (f : Ending S X R) (o : Outcome S X) (k : Key) (m : Meter) → ended f o ≡ Asks k m → o ≡ Asks k m
 asks_back {S} {X} {R} f (Done x s n) k m e = let clash : ◌≡◌ {A = Outcome (Unit {0}) R} (Done (f.done x s) tt n) (Asks k m) = e in cc
@@ -84,19 +78,9 @@ module _ (tells : Key → Word Content) (fits : (p : List ℕ) (terms : List Ter
       rw is (rw gives (rw (own_word p (tells key) (fits p q.value.terms) (unknown key gives)) refl))
   build_is (Err stop.Memory) z e gives unknown is = absurd is
 
-  build_meter : (b : Result (Built Rest) Stop) (z : Outcome (Unit {0}) (End Rest)) (e : BuildEnd RRest) → Tells Ok b m z → IsBuildEnd b trace e → meter_of z ≡ m
-  build_meter (Ok b) z e gives is = ap meter_of gives
-  build_meter (Err (stop.Fault f)) z e gives is = ap meter_of gives
-  build_meter (Err (stop.Need q)) z e gives is = ap meter_of gives
-  build_meter (Err stop.Memory) z e gives is = absurd is
-
-  pub build_ended : (b : Result (Built Rest) Stop) (f : Ending Program Place (End Rest)) (o : Outcome Program Place) (end : Result (BuildEnd RRest) AllocError) → Tells Ok b m (ended f o) → ((k : Key) → o ≡ Asks k m → answers_of tells k ≡ None) → IfOk end (λ e. IsBuildEnd b trace e) → IfOk end (λ e. ran_by tells f o ≡ build_ran e)
-  build_ended b f o (Ok e) gives unknown is = ran_of tells f o ∙ build_is b (ended f o) e gives (λ k h. unknown k (asks_back f o k m h)) is
-  build_ended b f o (Err x) gives unknown is = tt
-
-  pub build_spent : (b : Result (Built Rest) Stop) (f : Ending Program Place (End Rest)) (o : Outcome Program Place) (end : Result (BuildEnd RRest) AllocError) → Tells Ok b m (ended f o) → IfOk end (λ e. IsBuildEnd b trace e) → OnOk end (MAX_WORK - m.left ≡ work_of o)
-  build_spent b f o (Ok e) gives is = ap (λ n. MAX_WORK - n.left) (sym (build_meter b (ended f o) e gives is) ∙ ended_meter f o)
-  build_spent b f o (Err x) gives is = tt
+  pub build_ended : (b : Result (Built Rest) Stop) (site : Site) (o : Outcome Program Place) (end : Result (BuildEnd RRest) AllocError) → Tells Ok b m (ended (build_ending site) o) → ((k : Key) → o ≡ Asks k m → answers_of tells k ≡ None) → IfOk end (λ e. IsBuildEnd b trace e) → IfOk end (λ e. ran_by tells (build_ending site) o ≡ build_ran e)
+  build_ended b site o (Ok e) gives unknown is = ran_of tells site o ∙ build_is b (ended (build_ending site) o) e gives (λ k h. unknown k (asks_back (build_ending site) o k m h)) is
+  build_ended b site o (Err x) gives unknown is = tt
 
   -- checks
 
@@ -105,21 +89,11 @@ module _ (tells : Key → Word Content) (fits : (p : List ℕ) (terms : List Ter
   check_is (Err (check_stop.Fault f)) z e gives unknown is = rw is (rw gives (rw pairs refl))
   check_is (Err (check_stop.Need k)) z e gives unknown is = rw gives (of_key k.value (unknown k.value gives) is)
     where
-      of_key : (k : Key) → answers_of tells k ≡ None → IsCheckEnd (Err (check_stop.Need (record { value = k }))) trace e → ran_by tells check_ending (Asks {S = Unit {0}} {X = Unit {0}} k m) ≡ check_ran e
+      of_key : (k : Key) → answers_of tells k ≡ None → IsNeed k e → ran_by tells check_ending (Asks k m) ≡ check_ran e
       of_key (Under p terms) none is = rw is (rw (own_word p (tells (Under p terms)) (fits p terms) none) refl)
       of_key (File f) none is = absurd is
   check_is (Err check_stop.Memory) z e gives unknown is = absurd is
 
-  check_meter : (c : Result (Unit {0}) CheckStop) (z : Outcome (Unit {0}) (Unit {0})) (e : CheckEnd) → Comes (λ x. x) c m z → IsCheckEnd c trace e → meter_of z ≡ m
-  check_meter (Ok x) z e gives is = ap meter_of gives
-  check_meter (Err (check_stop.Fault f)) z e gives is = ap meter_of gives
-  check_meter (Err (check_stop.Need k)) z e gives is = ap meter_of gives
-  check_meter (Err check_stop.Memory) z e gives is = absurd is
-
   pub check_ended : (c : Result (Unit {0}) CheckStop) (z : Outcome (Unit {0}) (Unit {0})) (end : Result CheckEnd AllocError) → Comes (λ x. x) c m z → ((k : Key) → z ≡ Asks k m → answers_of tells k ≡ None) → IfOk end (λ e. IsCheckEnd c trace e) → IfOk end (λ e. ran_by tells check_ending z ≡ check_ran e)
   check_ended c z (Ok e) gives unknown is = check_is c z e gives unknown is
   check_ended c z (Err x) gives unknown is = tt
-
-  pub check_spent : (c : Result (Unit {0}) CheckStop) (z : Outcome (Unit {0}) (Unit {0})) (end : Result CheckEnd AllocError) → Comes (λ x. x) c m z → IfOk end (λ e. IsCheckEnd c trace e) → OnOk end (MAX_WORK - m.left ≡ work_of z)
-  check_spent c z (Ok e) gives is = ap (λ n. MAX_WORK - n.left) (sym (check_meter c z e gives is))
-  check_spent c z (Err x) gives is = tt

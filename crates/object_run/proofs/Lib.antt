@@ -1,2 +1,4 @@
 pub mod Stopping
+pub mod Filling
 pub mod Ending
+pub mod Told

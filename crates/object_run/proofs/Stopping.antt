@@ -1,7 +1,6 @@
 -- An early end of an evaluation is one of the check.
-use Rattle.std.proofs.Common.{◌≡◌, ◌∙◌, ap, sym, refl}
+use Rattle.std.proofs.Common.{◌∙◌, ap, sym}
 use Rattle.questions.specs.Run.{Meter, Outcome, Failed, Asks}
-use Rattle.questions.specs.declared.key.Key.TheVariants.{Under}
 use Rattle.dml_world.specs.declared.stop.Stop.{Stop}
 use Rattle.dml_world.specs.declared.stop.Stop.TheVariants as stop
 use Rattle.dml_world.specs.Exits.{Stops}

@@ -1,6 +1,5 @@
 -- How a build and a check end in code, as the definitions have it.
-use Rattle.std.specs.Prelude.{◌≡◌, ℕ, List, Result, Ok, Err, Option, Some, None, map}
-use Rattle.pan_ast.specs.declared.fault.Fault.{Fault}
+use Rattle.std.specs.Prelude.{◌≡◌, ℕ, List, Result, Ok, Err, map}
 use Rattle.pan_ast.specs.declared.place.Place.{Place}
 use Rattle.asking.specs.Asked.{Ran, Lost, Finished, Word}
 use Rattle.questions.specs.declared.key.Key.{Key}

@@ -1,5 +1,5 @@
 -- Items as plain trees, and back: by them the bodies of functions and of tests are told apart.
-use Rattle.std.specs.Prelude.{◌≡◌, ℕ, zero, suc, ℤ, pos, nat_abs, Bool, List, []}
+use Rattle.std.specs.Prelude.{◌≡◌, ℕ, zero, suc, pos, nat_abs, []}
 use Rattle.std.proofs.Common.{refl}
 use Rattle.std.specs.Coded.{Coded, code_by}
 use Rattle.path_tree.specs.Plain.{Plain, list, text, long, boolean, undef, Items, no_items, item}

@@ -1,6 +1,6 @@
 -- What a check's tests are evaluated in: of which object, and over what was built.
 use Rattle.std.specs.Prelude.{◌≡◌, ℕ, List, [], Result}
-use Rattle.path_tree.specs.Plain.{Plain, undef}
+use Rattle.path_tree.specs.Plain.{undef}
 use Rattle.pan_ast.specs.declared.fault.Fault.{Fault}
 use Rattle.pan_ast.specs.declared.work.Limits.{Limits}
 use Rattle.pan_ast.specs.Templates.{Template}

@@ -2,7 +2,6 @@
 use Rattle.std.specs.Prelude.{◌≡◌, ℕ, List}
 use Rattle.std.specs.Coded.{Coded-set, codes}
 use Rattle.std.proofs.Props.{props}
-use Rattle.path_tree.specs.Plain.{Plain}
 use Rattle.path_tree.specs.Code.{plain_code}
 use Rattle.pan_ast.specs.declared.work.Limits.{Limits}
 use Rattle.runner.specs.declared.ends.Built.{Built}

@@ -1,5 +1,5 @@
 -- Types as plain trees, and back: by them the types that are bound to paths are told apart.
-use Rattle.std.specs.Prelude.{◌≡◌, ℕ, zero, suc, ℤ, pos, nat_abs, Bool, true, false, List, [], ◌∷◌, Option, Some, None}
+use Rattle.std.specs.Prelude.{◌≡◌, ℕ, zero, suc, ℤ, pos, nat_abs, List, [], ◌∷◌, Option, Some, None}
 use Rattle.std.proofs.Common.{refl}
 use Rattle.std.specs.Coded.{Coded, code_by}
 use Rattle.path_tree.specs.Plain.{Plain, list, text, long, boolean, undef, Items, no_items, item}

@@ -20,7 +20,7 @@ impl Model for Rest {
     ghost use Rattle.std.specs.Prelude.{map};
     ghost use Rattle.std.specs.Coded.{codes};
     ghost use Rattle.path_tree.specs.Code.{plain_code};
-    ghost use Rattle.dml_world.specs.Seen.{function_of};
+    ghost use Rattle.dml_world.specs.Seen.{functions_of};
     ghost use Rattle.type_defs.specs.BindingsSeen.{bindings_seen, valid_seen};
     ghost use Rattle.object_meaning.specs.Rest.{Rest};
     ghost use Rattle.object_run.specs.SyntaxCode.{item_code};
@@ -33,7 +33,7 @@ impl Model for Rest {
     ghost view = { λ r. record {
       header = r.header;
       globals = r.globals;
-      functions = map function_of r.functions.entries.items;
+      functions = functions_of r.functions;
       bindings = bindings_seen r.bindings;
       valids = map valid_seen r.valids.items;
       log = r.log.items;

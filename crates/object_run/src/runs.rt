@@ -22,7 +22,7 @@ use pan_ast::{Limits, Work};
 use path_tree::Name;
 use questions::Key;
 use read_sets::Trace;
-use run_world::{Kept, RunWorld, Words};
+use run_world::{Kept, Notes, RunWorld, Words};
 use runner::{BuildEnd, Built, CheckEnd, Known};
 use std::alloc::{AllocError, Global};
 use std::marker::PhantomData;
@@ -83,7 +83,7 @@ pub(crate) fn build_in<T: Words, K: Known, N: Ledger>(
         picture,
         known,
         kept,
-        trace: Trace::new(alloc),
+        notes: Notes::new(alloc),
         of: PhantomData,
     };
     let site = Site {
@@ -93,9 +93,9 @@ pub(crate) fn build_in<T: Words, K: Known, N: Ledger>(
     };
     let mut work = Work { left: MAX_WORK };
     let built = build_object(alloc, &site, &mut world, &mut work, &mut steps);
-    let RunWorld { kept, trace, .. } = world;
+    let RunWorld { kept, notes, .. } = world;
     Ran {
-        end: build_end(built, trace),
+        end: build_end(built, notes.into_trace()),
         kept,
         spent: MAX_WORK - work.left,
     }
@@ -160,7 +160,7 @@ pub(crate) fn check_in<T: Words, K: Known, C: Tested, N: Ledger>(
         picture,
         known,
         kept,
-        trace: Trace::new(alloc),
+        notes: Notes::new(alloc),
         of: PhantomData,
     };
     let site = Site {
@@ -172,9 +172,9 @@ pub(crate) fn check_in<T: Words, K: Known, C: Tested, N: Ledger>(
     let Tests { end, world } = check_object::<C, RunWorld<'_, K, T>, N>(
         alloc, &site, built, world, &mut work, &mut steps,
     );
-    let RunWorld { kept, trace, .. } = world;
+    let RunWorld { kept, notes, .. } = world;
     Ran {
-        end: check_end(end, trace),
+        end: check_end(end, notes.into_trace()),
         kept,
         spent: MAX_WORK - work.left,
     }

@@ -8,6 +8,7 @@ ghost use Rattle.object_run.specs.TestingSets.{IsCase-prop};
 use crate::rest::Rest;
 use base::{Steps, Text};
 use dml_eval::run_dml;
+use dml_meaning::limits::MAX_INCLUDES;
 use dml_world::paths::{Looked, look_at};
 use dml_world::{Around, Frame, Question, SelfUse, World};
 use pan_ast::{Item, Place, Work};
@@ -101,13 +102,13 @@ impl<'a, W: World, T: Tested, L: Ledger> Evaluator<L> for Tester<'a, W, T> {
             template: template.share()?,
             dirs: self.site.dirs,
             max_iteration: self.site.limits.max_iteration,
-            includes: 0,
         };
         let around = Around {
             frame: &frame,
             self_use: SelfUse::Changeable,
             called: None,
             calls_left: self.site.limits.max_recursion,
+            includes_left: MAX_INCLUDES,
         };
         let value = self_value.copy()?;
         match run_dml(
@@ -143,13 +144,13 @@ impl<'a, W: World, T: Tested, L: Ledger> Evaluator<L> for Tester<'a, W, T> {
             template: self.site.object.share()?,
             dirs: self.site.dirs,
             max_iteration: self.site.limits.max_iteration,
-            includes: 0,
         };
         let around = Around {
             frame: &frame,
             self_use: SelfUse::Changeable,
             called: None,
             calls_left: self.site.limits.max_recursion,
+            includes_left: MAX_INCLUDES,
         };
         match look_at(
             alloc,

@@ -10,5 +10,6 @@ mod run_world;
 mod told;
 mod words;
 
+pub use notes::Notes;
 pub use run_world::{Kept, RunWorld};
 pub use words::Words;

@@ -7,7 +7,7 @@ ghost use Rattle.value_calls.specs.Calls.{call_of, value_calls};
 ghost use Rattle.run_world.specs.Noted.{AreNumbered, AreWords};
 ghost use Rattle.run_world.specs.NotedSets.{AreNumbered-prop, AreWords-prop};
 
-use crate::notes::{note_file, note_object};
+use crate::notes::Notes;
 use crate::told::{foreign_of, seen_in, text_of};
 use crate::words::Words;
 use base::Text;
@@ -15,7 +15,6 @@ use dml_world::{Foreign, Seen, TemplateStop, World, WorldStop};
 use load_path::{Content, Picture};
 use pan_ast::{Failure, Template};
 use path_tree::{Name, Refused, Term, Tree};
-use read_sets::Trace;
 use runner::Known;
 use std::alloc::{AllocError, Global};
 use std::marker::PhantomData;
@@ -47,16 +46,16 @@ pub struct RunWorld<'a, K: Known, T: Words> {
     pub picture: &'a Picture,
     pub known: &'a K,
     pub kept: Kept,
-    pub trace: Trace,
+    pub notes: Notes,
     pub of: PhantomData<T>,
     ghost told: { AreWords (words picture.now (K.numbers known.now) (K.objects known.now)) T.tells } by { AreWords-prop (words picture.now (K.numbers known.now) (K.objects known.now)) T.tells },
-    ghost numbered: { AreNumbered T.tells trace } by { AreNumbered-prop T.tells trace },
+    ghost numbered: { AreNumbered T.tells notes } by { AreNumbered-prop T.tells notes },
 }
 
 impl<'a, K: Known, T: Words> World for RunWorld<'a, K, T> {
     type Call = ValueCall;
 
-    ghost asked = { λ w. keys_in w.trace };
+    ghost asked = { λ w. keys_in w.notes };
 
     ghost answers = { answers_of T.tells };
 
@@ -68,7 +67,7 @@ impl<'a, K: Known, T: Words> World for RunWorld<'a, K, T> {
 
     fn file(&mut self, _alloc: Global, name: &Text) -> Result<Seen, AllocError> {
         let number = self.known.file_number(name.as_str());
-        note_file(&mut self.trace, name, number)?;
+        self.notes.note_file(name, number)?;
         Ok(seen_in(self.picture, name))
     }
 
@@ -99,7 +98,7 @@ impl<'a, K: Known, T: Words> World for RunWorld<'a, K, T> {
         let Some(told) = self.known.built(object, terms) else {
             return Err(WorldStop::Need);
         };
-        let Ok(()) = note_object(alloc, &mut self.trace, object, terms, told.number) else {
+        let Ok(()) = self.notes.note_object(alloc, object, terms, told.number) else {
             return Err(WorldStop::Memory);
         };
         match foreign_of(told) {

@@ -60,8 +60,8 @@ fn put_at<W: World>(
 ) -> Result<(), Stop>
     ensures { Runs (λ u. u) result W.answers (program_of program.old)
         (meter work.now (W.asked world.now)) (program_of program.new)
-        (meter work.now (W.asked world.now)) (put_run assignment.entry.place.now assignment.entry.path.now
-        assignment.entry.last terms.now value) }
+        (meter work.now (W.asked world.now)) (put_run assignment.entry.place.now
+        assignment.entry.path.now assignment.entry.last terms.now value) }
 {
     let place = assignment.place;
     match program
@@ -110,8 +110,8 @@ fn assign_at<W: World, L: Ledger>(
         (meter work.old (W.asked world.old)) (program_of program.new)
         (meter work.new (W.asked world.new)) (assign_terms
         (site_of site.now W.reading W.calls) (inside_of inside.now) assignment.entry.place.now
-        assignment.entry.last assignment.entry.path.now assignment.entry.conditional (item_seen assignment.entry.item.now)
-        terms.now) }
+        assignment.entry.last assignment.entry.path.now assignment.entry.conditional
+        (item_seen assignment.entry.item.now) terms.now) }
     ensures counted { steps.new + work.new.left ≡ steps.old + work.old.left }
 {
     if !program.profile.may_assign(terms) {
@@ -152,9 +152,9 @@ pub(crate) fn assign<W: World, L: Ledger>(
     ensures gives { Runs (λ u. u) result W.answers (program_of program.old)
         (meter work.old (W.asked world.old)) (program_of program.new)
         (meter work.new (W.asked world.new)) (assign_run
-        (site_of site.now W.reading W.calls) (inside_of inside.now) prefix.now assignment.entry.place.now
-        assignment.entry.last assignment.entry.path.now assignment.entry.conditional
-        (item_seen assignment.entry.item.now)) }
+        (site_of site.now W.reading W.calls) (inside_of inside.now) prefix.now
+        assignment.entry.place.now assignment.entry.last assignment.entry.path.now
+        assignment.entry.conditional (item_seen assignment.entry.item.now)) }
     ensures counted { steps.new + work.new.left ≡ steps.old + work.old.left }
 {
     let terms = path_terms(

@@ -307,8 +307,8 @@ fn include_value<W: World, L: Ledger>(
     ensures gives { Runs (λ u. u) result W.answers (program_of program.old)
         (meter work.old (W.asked world.old)) (program_of program.new)
         (meter work.new (W.asked world.new)) (include_value
-        (included inside.now.includes_left (site_of site.now W.reading W.calls)) (inside_of inside.now)
-        place.now value.now) }
+        (included inside.now.includes_left (site_of site.now W.reading W.calls))
+        (inside_of inside.now) place.now value.now) }
     ensures counted { steps.new + work.new.left ≡ steps.old + work.old.left }
 {
     if let Some(name) = value.as_text() {

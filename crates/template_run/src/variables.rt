@@ -162,7 +162,8 @@ fn run_value<W: World, L: Ledger>(
         (meter work.old (W.asked world.old)) (program_of program.new)
         (meter work.new (W.asked world.new)) (variable_value
         (site_of site.now W.reading W.calls) (inside_of inside.now) variable.entry.place.now
-        variable.entry.last variable.entry.name.now variable.entry.conditional (item_seen variable.entry.item.now)) }
+        variable.entry.last variable.entry.name.now variable.entry.conditional
+        (item_seen variable.entry.item.now)) }
     ensures counted { steps.new + work.new.left ≡ steps.old + work.old.left }
 {
     if variable.conditional && is_set(program, variable.name) {
@@ -200,7 +201,8 @@ pub(crate) fn run_variable<W: World, L: Ledger>(
         (meter work.old (W.asked world.old)) (program_of program.new)
         (meter work.new (W.asked world.new)) (variable_run
         (site_of site.now W.reading W.calls) (inside_of inside.now) variable.entry.place.now
-        variable.entry.last variable.entry.name.now variable.entry.conditional (item_seen variable.entry.item.now)) }
+        variable.entry.last variable.entry.name.now variable.entry.conditional
+        (item_seen variable.entry.item.now)) }
     ensures counted { steps.new + work.new.left ≡ steps.old + work.old.left }
 {
     let (place, name) = (variable.place, variable.name);

@@ -1,0 +1,14 @@
+use Rattle.std.proofs.Common.{◌≡◌, sym, ap, ◌∙◌}
+use Rattle.read_sets.specs.Items.{pairs_of}
+use Rattle.compiler.proofs.Said.{deps_read, deps_none}
+use Rattle.compiler.proofs.answering.deps.Goals as goal
+
+pub returns-in_ok-dep_of-in-Some : goal.returns-in_ok-dep_of-in-Some
+returns-in_ok-dep_of-in-Some g c =
+    let engine = c.args.engine.now in
+    deps_read g.R.Runner.meaning engine.core c.requires g.met.R.Runner.laws engine.ready engine.reached c.args.name.now _ (pairs_of c.in-Some.reads.build.now) (pairs_of c.in-Some.reads.check.now) c.in_ok-dep_of-in-Some.ensures c.in-Some.ensures.exact
+
+pub returns-in-None : goal.returns-in-None
+returns-in-None g c =
+    let engine = c.args.engine.now in
+    deps_none g.R.Runner.meaning engine.core c.requires g.met.R.Runner.laws engine.ready engine.reached c.args.name.now _ c.unsettled.ensures c.in-None.ensures.exact
