@@ -3,7 +3,6 @@ use Rattle.std.specs.Prelude.{ℕ, pos, List, [], ◌∷◌, Option, Some, None,
 use Rattle.path_tree.specs.Plain.{Plain, long}
 use Rattle.path_tree.specs.Find.{child_count}
 use Rattle.path_tree.specs.Lists.{list_of}
-use Rattle.path_tree.specs.declared.path.Term.{Term}
 use Rattle.path_tree.specs.declared.refused.Refused.{Refused}
 use Rattle.path_tree.specs.declared.refused.Refused.TheVariants.{BadArgument}
 use Rattle.questions.specs.declared.key.Key.TheVariants.{File, Under}

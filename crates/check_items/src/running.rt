@@ -25,7 +25,7 @@ struct Bounds {
     limits: Limits,
 }
 
-fn bounds(words: &str) -> Result<Bounds> {
+fn bounds_in(words: &str) -> Result<Bounds> {
     let mut work = 2_000_000;
     let mut turns = 10_000;
     let mut calls = 50;
@@ -141,7 +141,7 @@ fn run_line<L: Ledger>(
     steps: &mut Steps<L>,
 ) -> Result<()> {
     let (words, statements) = parts(line);
-    let bounds = bounds(words)?;
+    let bounds = bounds_in(words)?;
     let mut text = Vec::from_slice(rt.alloc(), b"object template h;\n")?;
     text.extend_from_slice(statements.as_bytes())?;
     if text.len() > MAX_FILE_BYTES {

@@ -1,12 +1,14 @@
-ghost use Rattle.std.specs.Prelude.{◌≡◌, ◌≤◌, IfErr, IfOk, Ok, OnOk, length, option_copied, option_map};
+ghost use Rattle.std.specs.Prelude.{◌≡◌, ◌≤◌, IfErr, IfOk, Ok, OnOk, length, option_copied, option_map, pos};
 ghost use Rattle.base.specs.Answers.{Gives};
 ghost use Rattle.base.specs.declared.limits.TheConstants.{MAX_FILE_BYTES};
+ghost use Rattle.path_tree.specs.Find.{child_count};
+ghost use Rattle.path_tree.specs.Plain as plain;
 ghost use Rattle.path_tree.specs.Refusals.{refusal};
 ghost use Rattle.pan_ast.specs.Failures.{fault_of};
 ghost use Rattle.pan_ast.specs.TemplatesSeen.{template_seen};
 ghost use Rattle.pan_template.specs.TemplateOf.{template_of};
 ghost use Rattle.questions.specs.declared.key.Key.TheVariants.{Under};
-ghost use Rattle.questions.specs.Contents.{with_key};
+ghost use Rattle.questions.specs.Contents.{is_among, with_key};
 ghost use Rattle.questions.specs.Keys.{key_eq};
 ghost use Rattle.dml_meaning.specs.Words.{look_up};
 ghost use Rattle.dml_world.specs.Answers.{content_of, text_read};
@@ -15,11 +17,14 @@ ghost use Rattle.check_items.specs.Written.{call_of, call_names, file_content, l
 use assign_rules::share_terms;
 use base::Text;
 use base::limits::MAX_FILE_BYTES;
+use call_values::{Arguments, by_count};
+use dml_meaning::Test;
+use dml_world::leaf::passes;
 use dml_world::{Foreign, Seen, TemplateStop, World, WorldStop};
 use pan_ast::{Failure, Template};
 use pan_lexer::lex;
 use pan_parser::parse;
-use path_tree::{Kind, Name, Refused, Term, Tree};
+use path_tree::{Name, Refused, Term, Tree};
 use questions::Key;
 use std::alloc::{AllocError, Global};
 use std::rc::Rc;
@@ -80,7 +85,7 @@ fn text_of(name: &str) -> Option<&'static str>
 }
 
 /// What is in the file of a name.
-fn stored(name: &str) -> Stored
+fn stored_as(name: &str) -> Stored
     ensures { stored_content result ≡ file_content name.now }
 {
     if name == "data/long" {
@@ -112,11 +117,18 @@ pub fn template_of(alloc: Global, file: &Text, text: &[u8]) -> Result<Template, 
     }
 }
 
+/// Whether a key is among these.
+fn is_among(keys: &[Key], key: &Key) -> bool
+    ensures { result ≡ is_among key.now keys.now }
+{
+    keys.iter().any(|other| other.is_same(key))
+}
+
 /// A key is added, where it is new.
 fn add_key(keys: &mut Vec<Key>, key: Key) -> Result<(), AllocError>
     ensures { OnOk result (keys.new.items ≡ with_key key keys.old.items) }
 {
-    if keys.iter().any(|other| other.is_same(&key)) {
+    if is_among(keys, &key) {
         return Ok(());
     }
     keys.push(key)?;
@@ -150,16 +162,39 @@ fn find_call(name: &str) -> Option<Call>
     }
 }
 
+/// How many children a value has.
+#[tactic(auto, using(path_tree::proofs::Counts::few_children))]
+fn child_count(value: &Tree) -> Tree
+    ensures { result ≡ plain.long (pos (child_count value.now)) }
+{
+    let _size = value.size();
+    Tree::long(value.len() as i64)
+}
+
 /// How many children a container has.
 fn length_of(arguments: &[Tree]) -> Result<Tree, Refused>
     ensures { Gives (λ t. t) refusal result (length_of arguments.now) }
 {
-    let [value] = arguments else {
+    let Arguments::One(value) = by_count(arguments) else {
         return Err(Refused::BadArgument);
     };
-    match value.kind() {
-        Kind::List | Kind::Dict => Ok(Tree::long(value.len() as i64)),
-        _ => Err(Refused::BadArgument),
+    if passes(Test::Resource, value.kind()) {
+        return Ok(child_count(value));
+    }
+    Err(Refused::BadArgument)
+}
+
+/// Bytes as a text, where they are UTF-8.
+#[tactic(auto, using(crate::proofs::Texts::texts))]
+fn text_in(alloc: Global, bytes: &[u8]) -> Result<Option<Tree>, AllocError>
+    ensures { IfOk result (λ t. t ≡ text_read bytes.now) }
+{
+    let Ok(text) = str::from_utf8(bytes) else {
+        return Ok(None);
+    };
+    match Tree::text(alloc, text) {
+        Ok(value) => Ok(Some(value)),
+        Err(_) => Err(AllocError),
     }
 }
 
@@ -193,7 +228,7 @@ impl World for Written {
 
     fn file(&mut self, alloc: Global, name: &Text) -> Result<Seen, AllocError> {
         add_key(&mut self.asked, Key::File(name.share()?))?;
-        match stored(name.as_str()) {
+        match stored_as(name.as_str()) {
             Stored::Missing => Ok(Seen::Missing),
             Stored::Long => Ok(Seen::TooLong),
             Stored::Bytes(_) => Ok(Seen::There),
@@ -201,7 +236,7 @@ impl World for Written {
     }
 
     fn template(&mut self, alloc: Global, file: &Text) -> Result<Rc<Template>, TemplateStop> {
-        let Stored::Bytes(text) = stored(file.as_str()) else {
+        let Stored::Bytes(text) = stored_as(file.as_str()) else {
             return Err(TemplateStop::Memory);
         };
         if text.len() > MAX_FILE_BYTES {
@@ -218,16 +253,10 @@ impl World for Written {
     }
 
     fn text(&mut self, alloc: Global, file: &Text) -> Result<Option<Tree>, AllocError> {
-        let Stored::Bytes(bytes) = stored(file.as_str()) else {
+        let Stored::Bytes(bytes) = stored_as(file.as_str()) else {
             return Err(AllocError);
         };
-        let Ok(text) = str::from_utf8(bytes) else {
-            return Ok(None);
-        };
-        match Tree::text(alloc, text) {
-            Ok(value) => Ok(Some(value)),
-            Err(_) => Err(AllocError),
-        }
+        text_in(alloc, bytes)
     }
 
     fn foreign(

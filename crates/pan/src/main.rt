@@ -5,6 +5,7 @@
 ghost use Rattle.std.specs.Prelude.{◌≡◌, ◌<◌};
 
 use base::{Steps, Text};
+use object_run::Library;
 use outside::{HostShelf, HostSink, HostSource};
 use pan_top::{Status, pan};
 use std::alloc::AllocError;
@@ -12,7 +13,6 @@ use std::marker::Brand;
 use std::process::ExitCode;
 use std::sync::ledger::{Blank, Ledger};
 use std::{env, io};
-use written_runner::Written;
 
 /// The program's words, without its name.
 fn words(rt: &HostRuntime) -> io::Result<Vec<Text>> {
@@ -34,8 +34,7 @@ fn run<L: Ledger>(rt: &HostRuntime, blank: Blank) -> Result<Status, AllocError>
         // A word that is not UTF-8 is no word of a command.
         Err(_) => Vec::new(rt.alloc()),
     };
-    // The place of the runner of the language: until it stands, objects are written ones.
-    let mut runner = Written::new(rt.alloc());
+    let mut runner = Library::new(rt.alloc());
     let mut source = HostSource::new(rt.clone()?);
     let mut shelf = HostShelf::new(rt.clone()?);
     let mut out = HostSink::new(rt.stdout());

@@ -1,8 +1,5 @@
-pub mod Building
 pub mod Publishing
-pub mod Naming
-pub mod Wanting
 pub mod Ending
 pub mod Taking
-pub mod Counting
-pub mod Runs
+pub mod Settling
+pub mod Finishing

@@ -7,22 +7,19 @@ use Rattle.std.specs.Ordering.{nat_cmp}
 use Rattle.outside.specs.Cells.{Cell, AreSame}
 use Rattle.outside.specs.declared.shelf.Change.{Change}
 use Rattle.outside.specs.declared.source.MemFile.{MemFile}
-use Rattle.outside.specs.Pictures.{next_picture}
 use Rattle.publication.specs.declared.want.Want.{Want}
+use Rattle.pan_top.specs.Commands.{command_of}
 use Rattle.pan_top.specs.declared.status.End.{End}
+use Rattle.rebuild.specs.Engines.{Meanings}
 use Rattle.pan_top.specs.declared.status.End.TheVariants as E
 use Rattle.pan_top.specs.declared.status.Status.{Status}
 use Rattle.pan_top.specs.declared.status.Status.TheVariants.{Clean, SomeFaults, Usage, SourceFault, ShelfFault, OutFault, Memory, NumbersSpent, TooMuch}
-use Rattle.pan_top.specs.Commands.{is_command}
 use Rattle.pan_top.specs.Ends.{status_of}
-use Rattle.runner.specs.Meaning.{Meaning}
-use Rattle.scans.specs.Scans.{scanned_of}
 use Rattle.publication.specs.Listings.{Lists}
 use Rattle.publication.specs.Changing.{removal, planned, stand, Made, Begun, AreListed, Tells}
-use Rattle.pan_top.specs.Rounds.{MadeOver, BegunOver, IsSessions, Concludes, scanned_session}
-use Rattle.pan_top.specs.Session.{IsInOrder, Publishes, PublishesPart, session_of}
+use Rattle.pan_top.specs.Rounds.{MadeOver, BegunOver, IsSessions, Concludes}
+use Rattle.pan_top.specs.Session.{Session, IsInOrder, Publishes, PublishesPart, session_of}
 use Rattle.publication.proofs.Planning.{puts_same, begun_none, begun_all, on_err}
-use Rattle.pan_top.proofs.Building.{session_is}
 
 -- nothing was done
 pub over_none : (ws : Option (List Want)) (names : List (List ℕ)) (old new : List ℕ → Cell) (before now : Option (List Change)) → AreSame old new → now ≡ before → BegunOver ws names old new before now
@@ -66,41 +63,39 @@ part_by (Some ws) names old mid new before between now same kept listed begun = 
 tells_from : (old mid : List ℕ → Cell) → AreSame old mid → Tells old → Tells mid
 tells_from old mid same told n = ap is_some (same n) ∙ told n
 
-publishes_at : (told now : Option (List (List MemFile))) {M : Type 0} (meaning : Meaning M) (words : List (List ℕ)) (names : List (List ℕ)) (old mid new : List ℕ → Cell) (before between last : Option (List Change)) → now ≡ told → is_command words ≡ true → AreSame old mid → between ≡ before → AreListed names mid → IfSome now (λ ps. MadeOver (scanned_session meaning (scanned_of (next_picture ps))).wants names mid new between last) → IfSome told (λ ps. Publishes (session_of meaning words ps).wants old new before last)
-publishes_at None None meaning words names old mid new before between last is command same kept listed made = tt
-publishes_at None (Some qs) meaning words names old mid new before between last is command same kept listed made = tt
-publishes_at (Some ps) None meaning words names old mid new before between last is command same kept listed made = cc
-publishes_at (Some ps) (Some qs) meaning words names old mid new before between last is command same kept listed made =
-    let pictures : qs ≡ ps = cc in
-    subst (λ s. Publishes s.wants old new before last) (sym (session_is meaning words ps command)) (publishes_by (scanned_session meaning (scanned_of (next_picture ps))).wants names old mid new before between last same kept listed (rw pictures at made))
+publishes_at : (told now : Option (List (List MemFile))) (F : List (List MemFile) → Session) (names : List (List ℕ)) (old mid new : List ℕ → Cell) (before between last : Option (List Change)) → now ≡ told → AreSame old mid → between ≡ before → AreListed names mid → IfSome now (λ ps. MadeOver (F ps).wants names mid new between last) → IfSome told (λ ps. Publishes (F ps).wants old new before last)
+publishes_at None None F names old mid new before between last is same kept listed made = tt
+publishes_at None (Some qs) F names old mid new before between last is same kept listed made = tt
+publishes_at (Some ps) None F names old mid new before between last is same kept listed made = cc
+publishes_at (Some ps) (Some qs) F names old mid new before between last is same kept listed made =
+    let pictures : qs ≡ ps = cc in (publishes_by (F ps).wants names old mid new before between last same kept listed (rw pictures at made))
 
-part_at : (told now : Option (List (List MemFile))) {M : Type 0} (meaning : Meaning M) (words : List (List ℕ)) (names : List (List ℕ)) (old mid new : List ℕ → Cell) (before between last : Option (List Change)) → now ≡ told → is_command words ≡ true → AreSame old mid → between ≡ before → AreListed names mid → IfSome now (λ ps. BegunOver (scanned_session meaning (scanned_of (next_picture ps))).wants names mid new between last) → IfSome told (λ ps. PublishesPart (session_of meaning words ps).wants old new before last)
-part_at None None meaning words names old mid new before between last is command same kept listed begun = tt
-part_at None (Some qs) meaning words names old mid new before between last is command same kept listed begun = tt
-part_at (Some ps) None meaning words names old mid new before between last is command same kept listed begun = cc
-part_at (Some ps) (Some qs) meaning words names old mid new before between last is command same kept listed begun =
-    let pictures : qs ≡ ps = cc in
-    subst (λ s. PublishesPart s.wants old new before last) (sym (session_is meaning words ps command)) (part_by (scanned_session meaning (scanned_of (next_picture ps))).wants names old mid new before between last same kept listed (rw pictures at begun))
+part_at : (told now : Option (List (List MemFile))) (F : List (List MemFile) → Session) (names : List (List ℕ)) (old mid new : List ℕ → Cell) (before between last : Option (List Change)) → now ≡ told → AreSame old mid → between ≡ before → AreListed names mid → IfSome now (λ ps. BegunOver (F ps).wants names mid new between last) → IfSome told (λ ps. PublishesPart (F ps).wants old new before last)
+part_at None None F names old mid new before between last is same kept listed begun = tt
+part_at None (Some qs) F names old mid new before between last is same kept listed begun = tt
+part_at (Some ps) None F names old mid new before between last is same kept listed begun = cc
+part_at (Some ps) (Some qs) F names old mid new before between last is same kept listed begun =
+    let pictures : qs ≡ ps = cc in (part_by (F ps).wants names old mid new before between last same kept listed (rw pictures at begun))
 
-pub publishes_result : (told now : Option (List (List MemFile))) {M : Type 0} (meaning : Meaning M) (words : List (List ℕ)) (names : List (List ℕ)) (old mid new : List ℕ → Cell) (before between last : Option (List Change)) (r : Result Status End) → now ≡ told → is_command words ≡ true → AreSame old mid → between ≡ before → AreListed names mid → OnOk r (Tells mid → IfSome now (λ ps. MadeOver (scanned_session meaning (scanned_of (next_picture ps))).wants names mid new between last)) → OnOk r (Tells old → IfSome told (λ ps. Publishes (session_of meaning words ps).wants old new before last))
-publishes_result told now meaning words names old mid new before between last (Ok status) is command same kept listed made = λ tells. publishes_at told now meaning words names old mid new before between last is command same kept listed (made (tells_from old mid same tells))
-publishes_result told now meaning words names old mid new before between last (Err e) is command same kept listed made = tt
+pub publishes_result : (told now : Option (List (List MemFile))) (F : List (List MemFile) → Session) (names : List (List ℕ)) (old mid new : List ℕ → Cell) (before between last : Option (List Change)) (r : Result Status End) → now ≡ told → AreSame old mid → between ≡ before → AreListed names mid → OnOk r (Tells mid → IfSome now (λ ps. MadeOver (F ps).wants names mid new between last)) → OnOk r (Tells old → IfSome told (λ ps. Publishes (F ps).wants old new before last))
+publishes_result told now F names old mid new before between last (Ok status) is same kept listed made = λ tells. publishes_at told now F names old mid new before between last is same kept listed (made (tells_from old mid same tells))
+publishes_result told now F names old mid new before between last (Err e) is same kept listed made = tt
 
-pub part_result : (told now : Option (List (List MemFile))) {M : Type 0} (meaning : Meaning M) (words : List (List ℕ)) (names : List (List ℕ)) (old mid new : List ℕ → Cell) (before between last : Option (List Change)) (r : Result Status End) → now ≡ told → is_command words ≡ true → AreSame old mid → between ≡ before → AreListed names mid → OnErr r (Tells mid → IfSome now (λ ps. BegunOver (scanned_session meaning (scanned_of (next_picture ps))).wants names mid new between last)) → OnErr r (Tells old → IfSome told (λ ps. PublishesPart (session_of meaning words ps).wants old new before last))
-part_result told now meaning words names old mid new before between last (Ok status) is command same kept listed begun = tt
-part_result told now meaning words names old mid new before between last (Err e) is command same kept listed begun = λ tells. part_at told now meaning words names old mid new before between last is command same kept listed (begun (tells_from old mid same tells))
+pub part_result : (told now : Option (List (List MemFile))) (F : List (List MemFile) → Session) (names : List (List ℕ)) (old mid new : List ℕ → Cell) (before between last : Option (List Change)) (r : Result Status End) → now ≡ told → AreSame old mid → between ≡ before → AreListed names mid → OnErr r (Tells mid → IfSome now (λ ps. BegunOver (F ps).wants names mid new between last)) → OnErr r (Tells old → IfSome told (λ ps. PublishesPart (F ps).wants old new before last))
+part_result told now F names old mid new before between last (Ok status) is same kept listed begun = tt
+part_result told now F names old mid new before between last (Err e) is same kept listed begun = λ tells. part_at told now F names old mid new before between last is same kept listed (begun (tells_from old mid same tells))
 
 -- nothing was done before the run ended
 part_none : (ws : Option (List Want)) (old new : List ℕ → Cell) (before now : Option (List Change)) → AreSame old new → now ≡ before → PublishesPart ws old new before now
 part_none None old new before now same kept = (kept, same)
 part_none (Some ws) old new before now same kept = inl (kept, same)
 
-part_none_at : (told : Option (List (List MemFile))) {M : Type 0} (meaning : Meaning M) (words : List (List ℕ)) (old new : List ℕ → Cell) (before now : Option (List Change)) → AreSame old new → now ≡ before → IfSome told (λ ps. PublishesPart (session_of meaning words ps).wants old new before now)
-part_none_at None meaning words old new before now same kept = tt
-part_none_at (Some ps) meaning words old new before now same kept = part_none (session_of meaning words ps).wants old new before now same kept
+part_none_at : (told : Option (List (List MemFile))) (F : List (List MemFile) → Session) (old new : List ℕ → Cell) (before now : Option (List Change)) → AreSame old new → now ≡ before → IfSome told (λ ps. PublishesPart (F ps).wants old new before now)
+part_none_at None F old new before now same kept = tt
+part_none_at (Some ps) F old new before now same kept = part_none (F ps).wants old new before now same kept
 
-pub untouched_result : {T : Type 0} (told : Option (List (List MemFile))) {M : Type 0} (meaning : Meaning M) (words : List (List ℕ)) (old new : List ℕ → Cell) (before now : Option (List Change)) (r : Result T End) → AreSame old new → now ≡ before → OnErr r (Tells old → IfSome told (λ ps. PublishesPart (session_of meaning words ps).wants old new before now))
-untouched_result told meaning words old new before now r same kept = on_err r (λ tells. part_none_at told meaning words old new before now same kept)
+pub untouched_result : {T : Type 0} (told : Option (List (List MemFile))) (F : List (List MemFile) → Session) (old new : List ℕ → Cell) (before now : Option (List Change)) (r : Result T End) → AreSame old new → now ≡ before → OnErr r (Tells old → IfSome told (λ ps. PublishesPart (F ps).wants old new before now))
+untouched_result told F old new before now r same kept = on_err r (λ tells. part_none_at told F old new before now same kept)
 
 -- by the status
 ended : (e : End) (ws : Option (List Want)) (old new : List ℕ → Cell) (before now : Option (List Change)) → PublishesPart ws old new before now → IsInOrder (status_of e) ws old new before now
@@ -120,28 +115,28 @@ own_by Clean ws old new before now own all = all
 own_by SomeFaults ws old new before now own all = all
 own_by TooMuch ws old new before now own all = all
 own_by Usage ws old new before now own all = all
-own_by NumbersSpent ws old new before now own all = absurd own
+own_by NumbersSpent ws old new before now own all = all
 own_by SourceFault ws old new before now own all = absurd own
 own_by ShelfFault ws old new before now own all = absurd own
 own_by OutFault ws old new before now own all = absurd own
 own_by Memory ws old new before now own all = absurd own
 
-pub in_order_early : (told : Option (List (List MemFile))) {M : Type 0} (meaning : Meaning M) (words : List (List ℕ)) (e : End) (status : Status) (old new : List ℕ → Cell) (before now : Option (List Change)) → Concludes e status → IfSome told (λ ps. PublishesPart (session_of meaning words ps).wants old new before now) → IfSome told (λ ps. IsInOrder status (session_of meaning words ps).wants old new before now)
-in_order_early None meaning words e status old new before now how part = tt
-in_order_early (Some ps) meaning words e status old new before now how part = early_by e status (session_of meaning words ps).wants old new before now how part
+pub in_order_early : (told : Option (List (List MemFile))) (F : List (List MemFile) → Session) (e : End) (status : Status) (old new : List ℕ → Cell) (before now : Option (List Change)) → Concludes e status → IfSome told (λ ps. PublishesPart (F ps).wants old new before now) → IfSome told (λ ps. IsInOrder status (F ps).wants old new before now)
+in_order_early None F e status old new before now how part = tt
+in_order_early (Some ps) F e status old new before now how part = early_by e status (F ps).wants old new before now how part
 
-pub in_order_own : (told : Option (List (List MemFile))) {M : Type 0} (meaning : Meaning M) (words : List (List ℕ)) (status : Status) (old new : List ℕ → Cell) (before now : Option (List Change)) → IsSessions status → IfSome told (λ ps. Publishes (session_of meaning words ps).wants old new before now) → IfSome told (λ ps. IsInOrder status (session_of meaning words ps).wants old new before now)
-in_order_own None meaning words status old new before now own all = tt
-in_order_own (Some ps) meaning words status old new before now own all = own_by status (session_of meaning words ps).wants old new before now own all
+pub in_order_own : (told : Option (List (List MemFile))) (F : List (List MemFile) → Session) (status : Status) (old new : List ℕ → Cell) (before now : Option (List Change)) → IsSessions status → IfSome told (λ ps. Publishes (F ps).wants old new before now) → IfSome told (λ ps. IsInOrder status (F ps).wants old new before now)
+in_order_own None F status old new before now own all = tt
+in_order_own (Some ps) F status old new before now own all = own_by status (F ps).wants old new before now own all
 
 -- the words are no command
-usage_none : (told : Option (List (List MemFile))) {M : Type 0} (meaning : Meaning M) (words : List (List ℕ)) (old : List ℕ → Cell) (before : Option (List Change)) → is_command words ≡ false → IfSome told (λ ps. Publishes (session_of meaning words ps).wants old old before before)
-usage_none None meaning words old before other = tt
-usage_none (Some ps) meaning words old before other = rw other (refl, λ n. refl)
+usage_none : (told : Option (List (List MemFile))) {T : Type 0} (M : Meanings T) (words : List (List ℕ)) (old : List ℕ → Cell) (before : Option (List Change)) → command_of words ≡ None → IfSome told (λ ps. Publishes (session_of M words ps).wants old old before before)
+usage_none None M words old before other = tt
+usage_none (Some ps) M words old before other = rw other (refl, λ n. refl)
 
-pub usage_result : (told : Option (List (List MemFile))) {M : Type 0} (meaning : Meaning M) (words : List (List ℕ)) (old : List ℕ → Cell) (before : Option (List Change)) (r : Result Status End) → is_command words ≡ false → OnOk r (Tells old → IfSome told (λ ps. Publishes (session_of meaning words ps).wants old old before before))
-usage_result told meaning words old before (Ok status) other = λ tells. usage_none told meaning words old before other
-usage_result told meaning words old before (Err e) other = tt
+pub usage_result : (told : Option (List (List MemFile))) {T : Type 0} (M : Meanings T) (words : List (List ℕ)) (old : List ℕ → Cell) (before : Option (List Change)) (r : Result Status End) → command_of words ≡ None → OnOk r (Tells old → IfSome told (λ ps. Publishes (session_of M words ps).wants old old before before))
+usage_result told M words old before (Ok status) other = λ tells. usage_none told M words old before other
+usage_result told M words old before (Err e) other = tt
 
 -- the names on the shelf, after they were listed
 pub listed_on : (names : List (List ℕ)) (old mid : List ℕ → Cell) → AreSame old mid → Lists names old → IsSorted (slice_cmp nat_cmp) names → AreListed names mid

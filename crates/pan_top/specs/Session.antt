@@ -1,25 +1,23 @@
 -- The session of a call, by what a runner means, the words, and the pictures that the source has to
 -- give; and how a call ends.
-use Rattle.std.specs.Prelude.{◌≡◌, ◌≤◌, ℕ, List, [], Option, Some, None, if◌then◌else◌, codes, length, nat_lt, option_map, ◌⊎◌}
-use Rattle.base.specs.declared.limits.TheConstants.{MAX_OBJECTS}
-use Rattle.load_path.specs.declared.picture.PictureFile.{PictureFile}
+use Rattle.std.specs.Prelude.{◌≡◌, ◌≤◌, ℕ, List, [], Option, Some, None, if◌then◌else◌, codes, option_map, ◌⊎◌}
+use Rattle.command_words.specs.declared.commands.Work.{Work}
+use Rattle.compiler.specs.Compiler.{Compiled, compiler, nothing}
+use Rattle.compiler.specs.Standing.{Counts, HasSpent, HasSpentAtMost}
 use Rattle.outside.specs.Cells.{Cell, AreSame}
 use Rattle.outside.specs.Contents.{Appends, AppendsPart}
-use Rattle.outside.specs.Pictures.{next_picture, later_pictures}
+use Rattle.outside.specs.Pictures.{later_pictures}
 use Rattle.outside.specs.declared.shelf.Change.{Change}
 use Rattle.outside.specs.declared.source.MemFile.{MemFile}
 use Rattle.publication.specs.Changing.{AreListed, Makes, Begins}
 use Rattle.publication.specs.Stands.{Stand, Stands, untouched}
 use Rattle.publication.specs.Wants.{wants_of}
 use Rattle.publication.specs.declared.want.Want.{Want}
-use Rattle.runner.specs.Meaning.{Meaning}
-use Rattle.session.specs.Sessions.{Next, GoesOn, Quits, SpendsNumbers, IsTooMuch, Round, Done, next, started, answers, profiles_of}
-use Rattle.scans.specs.Scans.{scanned_of}
-use Rattle.pan_top.specs.Answers.{count_after_all}
-use Rattle.pan_top.specs.Commands.{is_command}
-use Rattle.pan_top.specs.Compiler.{Compiled, compiler, nothing}
+use Rattle.rebuild.specs.Engines.{Meanings}
+use Rattle.session.specs.Machines.{Machine}
+use Rattle.session.specs.Sessions.{State, Next, GoesOn, Quits, SpendsNumbers, IsTooMuch, Round, Done, next, state_in, started, answers, profiles_of}
+use Rattle.pan_top.specs.Commands.{command_of, limits_of}
 use Rattle.pan_top.specs.Ends.{status_of, line_of, Stopped}
-use Rattle.pan_top.specs.Objects.{objects_of}
 use Rattle.pan_top.specs.declared.status.End.{End}
 use Rattle.pan_top.specs.declared.status.End.TheVariants as E
 use Rattle.pan_top.specs.declared.status.Status.{Status}
@@ -37,40 +35,48 @@ pub record Session : Type 0 where
 abbrev pub line_alone : List ℕ → Status → Session
 line_alone line status = record { text = line; status = status; shelf = untouched; wants = None }
 
+abbrev pub usage_fault : Session
+usage_fault = line_alone (codes "usage fault\n") Usage
+
 -- the one round of a build, whose devices meet no fault
 abbrev pub build_round : Round
 build_round = record { line = codes "build"; scan = Done; troubles = [] }
 
-module _ {T : Type 0} (meaning : Meaning T) where
-  -- the session of what a round leads to
-  abbrev pub session_after : Next Compiled → Session
-  session_after (GoesOn t) = record {
-    text = t.text;
-    status = if t.has_faults then SomeFaults else Clean;
-    shelf = t.shelf;
-    wants = Some (wants_of (profiles_of (answers (compiler meaning) t)));
-  }
-  session_after Quits = line_alone [] Clean
-  session_after SpendsNumbers = line_alone (codes "numbers spent\n") NumbersSpent
-  session_after IsTooMuch = line_alone (codes "too much\n") TooMuch
+-- the session of what a round leads to
+abbrev pub session_after : {E : Type 0} → Machine E → Next E → Session
+session_after machine (GoesOn t) = record {
+  text = t.text;
+  status = if t.has_faults then SomeFaults else Clean;
+  shelf = t.shelf;
+  wants = Some (wants_of (profiles_of (answers machine t)));
+}
+session_after machine (Quits t) = line_alone [] Clean
+session_after machine (SpendsNumbers t) = line_alone (codes "numbers spent\n") NumbersSpent
+session_after machine (IsTooMuch t) = line_alone (codes "too much\n") TooMuch
+
+module _ {T : Type 0} (means : Meanings T) where
+  -- the engine with the command's directories and limits
+  abbrev pub engine_for : Work → Machine (Compiled T)
+  engine_for w = compiler (means w.directories (limits_of w)) w.directories
+
+  -- what a build's round leads to, from an engine that has taken nothing
+  abbrev pub round_for : Work → List (List MemFile) → Next (Compiled T)
+  round_for w pictures = next (engine_for w) build_round (started nothing pictures)
+
+  abbrev pub session_for : Option Work → List (List MemFile) → Session
+  session_for None pictures = usage_fault
+  session_for (Some w) pictures = session_after (engine_for w) (round_for w pictures)
 
   abbrev pub session_of : List (List ℕ) → List (List MemFile) → Session
-  session_of words pictures =
-      if is_command words
-      then session_after (next (compiler meaning) build_round (started nothing pictures))
-      else line_alone (codes "usage fault\n") Usage
+  session_of words = session_for (command_of words)
 
--- a runner's count after the session of these words: each object of the scan was built and checked
--- once, unless it is too much
-abbrev pub scan_count : {T : Type 0} → Meaning T → Option (List PictureFile) → ℕ → ℕ
-scan_count meaning None n = n
-scan_count meaning (Some picture) n =
-    if nat_lt MAX_OBJECTS (length (objects_of picture)) then n
-    else count_after_all meaning picture n
+  -- where the session then stands, with the runs and the steps that were made
+  abbrev pub state_for : Option Work → List (List MemFile) → State (Compiled T)
+  state_for None pictures = started nothing pictures
+  state_for (Some w) pictures = state_in (round_for w pictures)
 
-abbrev pub count_of : {T : Type 0} → Meaning T → List (List ℕ) → List (List MemFile) → ℕ → ℕ
-count_of meaning words pictures n =
-    if is_command words then scan_count meaning (scanned_of (next_picture pictures)) n else n
+  abbrev pub state_of : List (List ℕ) → List (List MemFile) → State (Compiled T)
+  state_of words = state_for (command_of words)
 
 -- the session came to its end: its text is written, and the shelf is the session's
 pub record Finished (s : Session) (reached : Status) (held_old held_new : Option (List ℕ))
@@ -162,7 +168,6 @@ abbrev pub Completes : Status → Type 0
 Completes SourceFault = ⊥
 Completes ShelfFault = ⊥
 Completes OutFault = ⊥
-Completes NumbersSpent = ⊥
 Completes _ = Unit
 
 -- where the words are no command, this is the status, or their line could not be written
@@ -203,10 +208,10 @@ IsCounted OutFault before now = before ≤ now
 IsCounted Memory before now = before ≤ now
 IsCounted _ before now = now ≡ before
 
--- A runner's count, by the status: where the session came to its end, the session's own.
-abbrev pub IsRun : Status → ℕ → ℕ → Type 0
-IsRun SourceFault count now = Unit {0}
-IsRun ShelfFault count now = Unit {0}
-IsRun OutFault count now = Unit {0}
-IsRun Memory count now = Unit {0}
-IsRun _ count now = now ≡ count
+-- The runs and the steps that were made, by the status: exactly the session's where it came to its
+-- end, else at most these. A refused call of the engine makes at most what it would have made.
+abbrev pub IsSpent : {E : Type 0} → Status → State E → Counts → Counts → Type 0
+IsSpent Clean s before now = HasSpent s before now
+IsSpent SomeFaults s before now = HasSpent s before now
+IsSpent Usage s before now = HasSpent s before now
+IsSpent _ s before now = HasSpentAtMost s before now

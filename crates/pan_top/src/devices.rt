@@ -1,26 +1,21 @@
-ghost use Rattle.std.specs.Prelude.{◌≡◌, ◌⊎◌, IfOk, IfErr, OnOk, OnErr, IfSome, Some, true, []};
+ghost use Rattle.std.specs.Prelude.{◌≡◌, IfOk, IfErr, OnOk, OnErr, Some, true, []};
 ghost use Rattle.std.specs.List.Sorted.{IsSorted};
 ghost use Rattle.std.specs.Cmp.Lexicographic.{slice_cmp};
 ghost use Rattle.std.specs.Ordering.{nat_cmp};
 ghost use Rattle.outside.specs.Cells.{AreSame};
 ghost use Rattle.outside.specs.Contents.{Appends, AppendsPart};
-ghost use Rattle.outside.specs.Pictures.{next_picture};
 ghost use Rattle.publication.specs.Changing.{Makes, Begins, Tells};
 ghost use Rattle.publication.specs.Listings.{Lists};
 ghost use Rattle.publication.specs.Stands.{Stands, untouched};
 ghost use Rattle.publication.specs.Troubles.{published};
 ghost use Rattle.publication.specs.Wants.{proper, wants_of};
-ghost use Rattle.scans.specs.Scans.{scanned_of};
 ghost use Rattle.pan_top.specs.Ends.{IsEndOf, Caused, Stopped, OfSource, OfShelf, OfName, OfSink};
-ghost use Rattle.pan_top.specs.Session.{IsPassed};
 ghost use Rattle.pan_top.specs.declared.status.Status.{Status};
 
 use crate::status::{End, Status};
 use base::Text;
-use load_path::Picture;
 use outside::{Shelf, Sink, Source, StoreError};
 use publication::{Profile, PublishError, listed, publish_until_failure};
-use scans::{ScanError, scan};
 use std::alloc::Global;
 
 pub fn open_source<S: Source>(source: &mut S, root: &str) -> Result<(), End>
@@ -35,26 +30,6 @@ pub fn open_source<S: Source>(source: &mut S, root: &str) -> Result<(), End>
         Ok(()) => Ok(()),
         Err(StoreError::Failed) => Err(End::Source),
         Err(StoreError::Memory) => Err(End::Memory),
-    }
-}
-
-/// The source's next picture, or None where it is too much.
-pub fn next_scan<S: Source>(alloc: Global, source: &mut S) -> Result<Option<Picture>, End>
-    ensures ok { IfOk result
-        (λ got. IfSome (S.coming source.old) (λ ps. got ≡ scanned_of (next_picture ps))) }
-    ensures taken { OnOk result (IsPassed (S.coming source.old) (S.coming source.new)) }
-    ensures err { OnErr result
-        ((S.coming source.new ≡ S.coming source.old) ⊎ IsPassed (S.coming source.old) (S.coming source.new)) }
-    ensures opened { S.opened source.new ≡ S.opened source.old }
-    ensures kind { IfErr result (IsEndOf OfSource) }
-    ensures cause { Caused Status.SourceFault (S.fault_count source.old) (S.fault_count source.new)
-        result }
-{
-    match scan(alloc, source) {
-        Ok(picture) => Ok(Some(picture)),
-        Err(ScanError::TooMuch) => Ok(None),
-        Err(ScanError::Fault) => Err(End::Source),
-        Err(ScanError::Memory) => Err(End::Memory),
     }
 }
 

@@ -22,7 +22,7 @@ pub enum Status {
     OutFault,
     /// Memory was wanting.
     Memory,
-    /// The engine's numbers are spent. The engine of today spends none, so no call ends so.
+    /// The engine's numbers are spent.
     NumbersSpent,
     /// The source is past the limits of a scan.
     TooMuch,

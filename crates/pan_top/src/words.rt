@@ -1,16 +1,9 @@
-ghost use Rattle.std.specs.Prelude.{◌≡◌, IfOk, Option, Some, None, codes};
-ghost use Rattle.pan_top.specs.Commands.{is_word, is_filled, given, has_option, is_build, folders_of, command_of};
+ghost use Rattle.std.specs.Prelude.{◌≡◌, IfOk, Some};
+ghost use Rattle.pan_top.specs.Commands.{is_word, work_named, command_of};
 
 use base::Text;
-use command_words::{Words, read};
+use command_words::{Words, Work, read, read_work};
 use std::alloc::{AllocError, Global};
-
-/// The folders that a command names.
-#[derive(Debug, Drop)]
-pub struct Folders {
-    pub source: Text,
-    pub out: Text,
-}
 
 fn is_word(word: &str, given: &Option<Text>) -> bool
     ensures { result ≡ is_word word.now given.now }
@@ -21,60 +14,23 @@ fn is_word(word: &str, given: &Option<Text>) -> bool
     }
 }
 
-fn is_filled(given: &Option<Text>) -> bool
-    ensures { result ≡ is_filled given.now }
+/// What the values of a `build` ask for, or None where they do not.
+fn named_work(alloc: Global, words: Words) -> Result<Option<Work>, AllocError>
+    ensures { IfOk result (λ work. work ≡ work_named (Some words)) }
 {
-    match given {
-        None => false,
-        Some(given) => !given.as_str().is_empty(),
-    }
-}
-
-/// Whether an option is given: none is built yet.
-fn has_option(words: &Words) -> bool
-    ensures { result ≡ has_option words.now }
-{
-    words.include.is_some() || words.iteration.is_some() || words.recursion.is_some()
-}
-
-fn is_build(words: &Words) -> bool
-    ensures { result ≡ is_build words.now }
-{
-    is_word("build", &words.mode)
-        && is_filled(&words.source)
-        && is_filled(&words.out)
-        && !has_option(words)
-}
-
-fn given(alloc: Global, word: Option<Text>) -> Result<Text, AllocError>
-    ensures { IfOk result (λ text. text ≡ given word) }
-{
-    match word {
-        None => Text::new(alloc, ""),
-        Some(word) => Ok(word),
-    }
-}
-
-/// The folders of a `build`, or None where the words are none.
-fn named_folders(alloc: Global, words: Words) -> Result<Option<Folders>, AllocError>
-    ensures { IfOk result (λ folders. folders ≡ folders_of (Some words)) }
-{
-    if !is_build(&words) {
+    if !is_word("build", &words.mode) {
         return Ok(None);
     }
-    Ok(Some(Folders {
-        source: given(alloc, words.source)?,
-        out: given(alloc, words.out)?,
-    }))
+    read_work(alloc, words)
 }
 
-/// Reads `build SOURCE OUT`, or gives None where the words are no command.
+/// Reads `build SOURCE OUT` with its options, or gives None where the words are no command.
 #[tactic(auto, unfolding(crate::specs::Commands::command_of))]
-pub fn command(alloc: Global, words: &[Text]) -> Result<Option<Folders>, AllocError>
-    ensures { IfOk result (λ folders. folders ≡ command_of words.now) }
+pub fn command(alloc: Global, words: &[Text]) -> Result<Option<Work>, AllocError>
+    ensures { IfOk result (λ work. work ≡ command_of words.now) }
 {
     match read(alloc, words)? {
         None => Ok(None),
-        Some(words) => named_folders(alloc, words),
+        Some(words) => named_work(alloc, words),
     }
 }

@@ -1,3 +1,3 @@
-object  template h;
+object template h;
 '/a/b' = 1;
 '/a/c' = 'x';
