@@ -1,0 +1,7 @@
+object template extra_field;
+
+include 'types';
+bind '/' = host;
+'/name' = 'a';
+'/port' = 80;
+'/prot' = 'tcp';

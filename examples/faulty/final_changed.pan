@@ -1,0 +1,4 @@
+object template final_changed;
+
+final '/name' = 'a';
+'/name' = 'b';

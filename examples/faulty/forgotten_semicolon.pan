@@ -1,0 +1,4 @@
+object template forgotten_semicolon;
+
+'/name' = 'a'
+'/port' = 80;

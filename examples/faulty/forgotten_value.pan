@@ -1,0 +1,5 @@
+object template forgotten_value;
+
+include 'types';
+bind '/' = host;
+'/name' = 'a';

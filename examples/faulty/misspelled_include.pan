@@ -1,0 +1,3 @@
+object template misspelled_include;
+
+include 'typos';

@@ -1,0 +1,4 @@
+object template misspelled_variable;
+
+variable NAME = 'a';
+'/name' = NAEM;

@@ -1,0 +1,3 @@
+structure template part;
+
+'size' = 1;

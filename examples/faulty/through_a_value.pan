@@ -1,0 +1,4 @@
+object template through_a_value;
+
+'/name' = 'a';
+'/name/short' = 'b';

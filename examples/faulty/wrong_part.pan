@@ -1,0 +1,3 @@
+structure template wrong_part;
+
+'/size' = 1;

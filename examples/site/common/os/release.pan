@@ -1,0 +1,5 @@
+template os/release;
+
+prefix '/system';
+'name' = 'almalinux';
+'version' = '9.4';

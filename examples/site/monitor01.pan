@@ -1,0 +1,28 @@
+object template monitor01;
+
+variable STAGE = 'prod';
+variable RACK = 6;
+variable PLACE = 11;
+include 'site/machine';
+'/hardware' = create('hardware/blade', 'serial', 'B4001');
+include 'service/monitor';
+'/watched' = append('web01:/name');
+'/watched' = append('web02:/name');
+'/watched' = append('web03:/name');
+'/watched' = append('web04:/name');
+'/watched' = append('web05:/name');
+'/watched' = append('web06:/name');
+'/watched' = append('web07:/name');
+'/watched' = append('web08:/name');
+'/watched' = append('web09:/name');
+'/watched' = append('web10:/name');
+'/watched' = append('web11:/name');
+'/watched' = append('web12:/name');
+'/watched' = append('web13:/name');
+'/watched' = append('web14:/name');
+'/watched' = append('web15:/name');
+'/watched' = append('web16:/name');
+'/watched' = append('web17:/name');
+'/watched' = append('web18:/name');
+'/watched' = append('web19:/name');
+'/watched' = append('web20:/name');

@@ -1,0 +1,26 @@
+object template monitor02;
+
+variable STAGE = 'prod';
+variable RACK = 6;
+variable PLACE = 12;
+include 'site/machine';
+'/hardware' = create('hardware/blade', 'serial', 'B4002');
+include 'service/monitor';
+'/watched' = append('web21:/name');
+'/watched' = append('web22:/name');
+'/watched' = append('web23:/name');
+'/watched' = append('web24:/name');
+'/watched' = append('db01:/name');
+'/watched' = append('db02:/name');
+'/watched' = append('db03:/name');
+'/watched' = append('db04:/name');
+'/watched' = append('db05:/name');
+'/watched' = append('db06:/name');
+'/watched' = append('db07:/name');
+'/watched' = append('db08:/name');
+'/watched' = append('store01:/name');
+'/watched' = append('store02:/name');
+'/watched' = append('store03:/name');
+'/watched' = append('store04:/name');
+'/watched' = append('store05:/name');
+'/watched' = append('store06:/name');
