@@ -1,0 +1,13 @@
+//! A watcher: it works on lines, one after the other, over an engine and devices.
+//!
+//! In reading order: `ends` (why it ends before its lines do), `reading` (what a line says), `texts` (what is written),
+//! `step` (a line).
+#![tactic(auto)]
+
+mod ends;
+mod reading;
+mod step;
+mod texts;
+
+pub use ends::End;
+pub use step::{Step, work_on};
