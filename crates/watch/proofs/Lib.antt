@@ -1,0 +1,4 @@
+pub mod Going
+pub mod Cutting
+pub mod Playing
+pub mod Stopping

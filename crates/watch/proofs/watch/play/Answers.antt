@@ -1,0 +1,74 @@
+use Rattle.std.proofs.Common.{◌≡◌, true, false, [], inl, inr, refl, arith}
+use Rattle.compiler.specs.Compiler.{compiler}
+use Rattle.outside.specs.Contents.{Appends}
+use Rattle.outside.specs.Lines.{NextLine}
+use Rattle.watch.proofs.Playing.{one_more, none_yet}
+use Rattle.watch.proofs.Stopping.{broken, no_part, stopped_lines, stopped_out, spent, exceeded, quitted}
+use Rattle.watch.proofs.watch.play.Goals as goal
+
+pub loop-i-init : goal.loop-i-init
+loop-i-init g c = record {
+  files = c.requires.files;
+  dirs = c.requires.dirs;
+  kept = c.requires.kept;
+  knows = c.requires.knows;
+  lines = omega arith;
+  out = omega arith;
+  played = λ dirs limits e ps is told. none_yet (compiler (g.R.Runner.meaning dirs limits) dirs) dirs limits e ps (g.N.Lines.left c.args.lines.now) (g.O.Sink.held c.args.out.now) _ is told refl;
+}
+
+pub returns-in-Ok-false-clause-ok : goal.returns-in-Ok-false-clause-ok
+returns-in-Ok-false-clause-ok g c =
+    let read : NextLine false c.next_line.new.into.items (g.N.Lines.left c.loop-i.lines) (g.N.Lines.left c.next_line.new.lines) = rw c.in-Ok-false.field-0-test at c.in-Ok-false.ensures.ok in
+    λ dirs limits e ps is told. inl (record { many = c.loop-i._i; lines = g.N.Lines.left c.loop-i.lines; played = c.loop-i.invariant.played dirs limits e ps is told; line = c.next_line.new.into.items; over = read })
+
+pub returns-in-Err-clause-err : goal.returns-in-Err-clause-err
+returns-in-Err-clause-err g c = λ dirs limits e ps is told. (c.loop-i.has_faults, stopped_lines (compiler (g.R.Runner.meaning dirs limits) dirs) dirs limits _ _ _ _ _ _ _ _ _ _ _ c.in-Err.end c.in-Err.ensures.kind (c.loop-i.invariant.played dirs limits e ps is told) c.in-Err.ensures.err refl refl)
+
+pub returns-in-Ok-Quits-clause-ok : goal.returns-in-Ok-Quits-clause-ok
+returns-in-Ok-Quits-clause-ok g c =
+    let read : NextLine true c.next_line.new.into.items (g.N.Lines.left c.loop-i.lines) (g.N.Lines.left c.next_line.new.lines) = rw c.in-Ok-true.field-0-test at c.in-Ok-true.ensures.ok in
+    λ dirs limits e ps is told. let played = c.loop-i.invariant.played dirs limits e ps is told in
+    inr (quitted (compiler (g.R.Runner.meaning dirs limits) dirs) dirs limits _ _ _ _ _ _ (g.O.Sink.held c.loop-i.out) _ _ _ _ c.next_line.new.into.items c.work_on.new.text.items played read (rw (c.deref.ensures.value, c.in-Ok-Quits.field-0-is) at (c.in-Ok-Quits.ensures.went dirs limits played.state _ _ played.at)))
+
+pub returns-in-Ok-SpendsNumbers-clause-err : goal.returns-in-Ok-SpendsNumbers-clause-err
+returns-in-Ok-SpendsNumbers-clause-err g c =
+    let read : NextLine true c.next_line.new.into.items (g.N.Lines.left c.loop-i.lines) (g.N.Lines.left c.next_line.new.lines) = rw c.in-Ok-true.field-0-test at c.in-Ok-true.ensures.ok in
+    λ dirs limits e ps is told. let played = c.loop-i.invariant.played dirs limits e ps is told in
+    (c.work_on.new.has_faults, spent (compiler (g.R.Runner.meaning dirs limits) dirs) dirs limits _ _ _ _ _ _ (g.O.Sink.held c.loop-i.out) _ _ _ _ c.next_line.new.into.items c.work_on.new.text.items played read (rw (c.deref.ensures.value, c.in-Ok-SpendsNumbers.field-0-is) at (c.in-Ok-SpendsNumbers.ensures.went dirs limits played.state _ _ played.at)))
+
+pub returns-in-Ok-IsTooMuch-clause-err : goal.returns-in-Ok-IsTooMuch-clause-err
+returns-in-Ok-IsTooMuch-clause-err g c =
+    let read : NextLine true c.next_line.new.into.items (g.N.Lines.left c.loop-i.lines) (g.N.Lines.left c.next_line.new.lines) = rw c.in-Ok-true.field-0-test at c.in-Ok-true.ensures.ok in
+    λ dirs limits e ps is told. let played = c.loop-i.invariant.played dirs limits e ps is told in
+    (c.work_on.new.has_faults, exceeded (compiler (g.R.Runner.meaning dirs limits) dirs) dirs limits _ _ _ _ _ _ (g.O.Sink.held c.loop-i.out) _ _ _ _ c.next_line.new.into.items c.work_on.new.text.items played read (rw (c.deref.ensures.value, c.in-Ok-IsTooMuch.field-0-is) at (c.in-Ok-IsTooMuch.ensures.went dirs limits played.state _ _ played.at)))
+
+pub returns-in-Err-work_on-clause-err : goal.returns-in-Err-work_on-clause-err
+returns-in-Err-work_on-clause-err g c = λ dirs limits e ps is told. let played = c.loop-i.invariant.played dirs limits e ps is told in
+    (c.work_on.new.has_faults, broken (compiler (g.R.Runner.meaning dirs limits) dirs) dirs limits _ _ _ (g.N.Lines.left c.next_line.new.lines) _ _ _ _ _ _ _ c.next_line.new.into.items [] played (0, no_part (g.O.Sink.held c.loop-i.out)) (rw c.deref.ensures.value at (c.in-Err-work_on.ensures.cut dirs limits played.state _ _ played.at)))
+
+pub returns-in-Err-write-clause-err : goal.returns-in-Err-write-clause-err
+returns-in-Err-write-clause-err g c =
+    let read : NextLine true c.next_line.new.into.items (g.N.Lines.left c.loop-i.lines) (g.N.Lines.left c.next_line.new.lines) = rw c.in-Ok-true.field-0-test at c.in-Ok-true.ensures.ok in
+    λ dirs limits e ps is told. let played = c.loop-i.invariant.played dirs limits e ps is told in
+    (c.work_on.new.has_faults, stopped_out (compiler (g.R.Runner.meaning dirs limits) dirs) dirs limits _ _ _ _ _ _ _ _ _ _ _ c.in-Err-write.end c.next_line.new.into.items c.work_on.new.text.items c.in-Err-write.ensures.kind played read (rw (c.deref.ensures.value, c.in-Ok-GoesOn.field-0-is) at (c.in-Ok-GoesOn.ensures.went dirs limits played.state _ _ played.at)) (rw c.deref-in-loop-i.ensures.value at c.in-Err-write.ensures.err))
+
+pub loop-i-preserved : goal.loop-i-preserved
+loop-i-preserved g c =
+    let read : NextLine true c.next_line.new.into.items (g.N.Lines.left c.loop-i.lines) (g.N.Lines.left c.next_line.new.lines) = rw c.in-Ok-true.field-0-test at c.in-Ok-true.ensures.ok in
+    let whole : Appends (g.O.Sink.held c.loop-i.out) c.work_on.new.text.items (g.O.Sink.held c.write.new.out) = rw c.deref-in-loop-i.ensures.value at c.in-Ok.ensures.ok in
+    record {
+      files = c.work_on.ensures.files;
+      dirs = c.work_on.ensures.dirs;
+      kept = c.work_on.ensures.kept;
+      knows = c.in-Ok-GoesOn.ensures.knows;
+      lines = omega (arith, c.loop-i.invariant.lines, c.next_line.ensures.cause.later);
+      out = omega (arith, c.loop-i.invariant.out, c.write.ensures.cause.later);
+      played = λ dirs limits e ps is told. let played = c.loop-i.invariant.played dirs limits e ps is told in
+          one_more (compiler (g.R.Runner.meaning dirs limits) dirs) dirs limits _ _ _ _ _ _ _ _ _ _ _ c.next_line.new.into.items c.work_on.new.text.items played read (rw (c.deref.ensures.value, c.in-Ok-GoesOn.field-0-is) at (c.in-Ok-GoesOn.ensures.went dirs limits played.state _ _ played.at)) whole;
+    }
+
+pub returns-clause-err : goal.returns-clause-err
+returns-clause-err g c =
+    let all : c.loop-i._i ≡ 1000000 = omega (arith, c.loop-i-test.false, c.loop-i.auto._i-end) in
+    λ dirs limits e ps is told. (c.loop-i.has_faults, rw all at (c.loop-i.invariant.played dirs limits e ps is told))
