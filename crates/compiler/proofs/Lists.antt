@@ -1,5 +1,5 @@
 -- The list of a picture's objects has exactly them, in byte order, and no other list does.
-use Rattle.std.proofs.Common.{◌≡◌, ◌+◌, ◌-◌, ℕ, Bool, true, false, List, [], ◌∷◌, ◌++◌, ◌&&◌, ◌||◌, length, map, fold, take, drop, Option, Some, None, is_some, if◌then◌else◌, refl, sym, ap, ap₂, ◌∙◌, subst, arith, length-append}
+use Rattle.std.proofs.Common.{◌≡◌, ◌-◌, ℕ, Bool, true, false, List, [], ◌∷◌, ◌++◌, ◌&&◌, ◌||◌, length, map, fold, take, drop, Some, is_some, if◌then◌else◌, refl, sym, ap, ap₂, ◌∙◌, arith, length-append}
 use Rattle.std.specs.Prelude.{bytes_eq, codes}
 use Rattle.load_path.specs.Candidates.{with_slash}
 use Rattle.load_path.specs.Pictures.{content_in, is_below}

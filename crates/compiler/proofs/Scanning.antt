@@ -1,5 +1,5 @@
 -- Scans, and what an engine makes of the picture.
-use Rattle.std.proofs.Common.{◌≡◌, ◌≤◌, ◌+◌, ℕ, List, Bool, true, false, length, Option, Some, None, Result, Ok, Err, IfOk, OnErr, IfSome, ◌⊎◌, inl, inr, refl, sym, ap, ◌∙◌, subst, arith}
+use Rattle.std.proofs.Common.{◌≡◌, ◌≤◌, ◌+◌, ℕ, List, true, length, Option, Some, None, Result, Ok, Err, IfOk, OnErr, inl, inr, refl, sym, ap, ◌∙◌, subst, arith}
 use Rattle.std.specs.Prelude.{option_map}
 use Rattle.load_path.specs.declared.picture.PictureFile.{PictureFile}
 use Rattle.outside.specs.Causes.{Rose}
@@ -10,7 +10,7 @@ use Rattle.engine_turns.specs.declared.core_data.Core.{Core}
 use Rattle.scans.specs.Outcomes.{Coming, IsScan, IsPassed, IsPerhapsPassed}
 use Rattle.scans.specs.Scans.{scanned_of}
 use Rattle.session.specs.Machines.{Machine, Refusal, TooManyObjects, NumbersSpent}
-use Rattle.session.specs.Sessions.{State, Next, NotBegun, BrokeOff, Done, state_in, passed, with_taken, with_picture, scanned}
+use Rattle.session.specs.Sessions.{Next, NotBegun, BrokeOff, Done, state_in, passed, with_taken, with_picture, scanned}
 use Rattle.compiler.specs.Compiler.{Compiled}
 use Rattle.compiler.specs.Standing.{Here, Counts, HasSpentAtMost, IsAt, IsBelow, IsRising, IsFailed, Takes, TakesNext, has_failed}
 use Rattle.compiler.specs.declared.taking.Took.{Took}

@@ -1,5 +1,5 @@
 -- Where a session, its engine and its counts stand. Inner contracts use it.
-use Rattle.std.specs.Prelude.{◌≡◌, ◌≤◌, ◌+◌, ℕ, Bool, true, false, List, Option, Some, None, not, is_some, nat_eq, nat_lt, length, codes}
+use Rattle.std.specs.Prelude.{◌≡◌, ◌≤◌, ◌+◌, ℕ, Bool, true, false, List, Option, Some, None, not, is_some, nat_eq, nat_lt, codes}
 use Rattle.load_path.specs.Pictures.{content_in}
 use Rattle.load_path.specs.declared.picture.PictureFile.{PictureFile}
 use Rattle.outside.specs.Causes.{Rose}
@@ -10,10 +10,9 @@ use Rattle.engine_turns.specs.declared.rows.FileRow.{FileRow}
 use Rattle.engine_turns.specs.Places.{names, file_number_in}
 use Rattle.engine_turns.specs.Spent.{counted_more}
 use Rattle.engine_turns.specs.States.{pictured}
-use Rattle.publication.specs.declared.profile.Profile.{Profile}
 use Rattle.rebuild.specs.Engines.{situation_of}
-use Rattle.session.specs.Machines.{Machine, Turned}
-use Rattle.session.specs.Sessions.{State, Next, GoesOn, SpendsNumbers, IsTooMuch, Scanned, NotBegun, BrokeOff, Done, answers_in, profiles_of, state_in, worked, writes, with_turns, with_picture, scanned}
+use Rattle.session.specs.Machines.{Machine}
+use Rattle.session.specs.Sessions.{State, Next, SpendsNumbers, IsTooMuch, Scanned, NotBegun, BrokeOff, Done, answers_in, profiles_of, state_in, worked, writes, with_turns, with_picture, scanned}
 use Rattle.session.specs.Texts.{report, faults_in}
 use Rattle.compiler.specs.Names.{objects_in}
 use Rattle.compiler.specs.Compiler.{Compiled}

@@ -1,5 +1,5 @@
 -- Ends of a run.
-use Rattle.std.proofs.Common.{◌≡◌, ℕ, true, false, List, [], Option, Some, None, refl, sym, ap, subst, ◌∙◌, ◌⊎◌, inl, inr, Bool, append-nil, IfErr, OnErr, IfSome, arith}
+use Rattle.std.proofs.Common.{◌≡◌, ℕ, List, [], Option, Some, None, refl, sym, ap, subst, ◌∙◌, ◌⊎◌, inl, inr, Bool, append-nil, IfErr, OnErr, IfSome, arith}
 use Rattle.std.specs.Prelude.{codes, Result, Ok, Err, IfOk, OnOk, option_map, ◌++◌, bytes_eq}
 use Rattle.outside.specs.Cells.{Cell, AreSame}
 use Rattle.outside.specs.Causes.{Rose}

@@ -20,7 +20,7 @@ use Rattle.pan_top.specs.declared.building.Reached.TheVariants as reached
 use Rattle.pan_top.specs.declared.status.End.{End}
 use Rattle.pan_top.specs.declared.status.End.TheVariants as E
 use Rattle.pan_top.specs.declared.status.Status.{Status}
-use Rattle.pan_top.specs.declared.status.Status.TheVariants.{Clean, SomeFaults, Usage, NumbersSpent, TooMuch}
+use Rattle.pan_top.specs.declared.status.Status.TheVariants.{Usage}
 
 pub some_map : {A : Type 0} (o : Option A) (P Q : A → Type 0) → ((x : A) → P x → Q x) → IfSome o P → IfSome o Q
 some_map None P Q f p = tt

@@ -1,22 +1,21 @@
 -- How far a build comes, from what its take and its turns did.
-use Rattle.std.proofs.Common.{◌≡◌, ◌≤◌, ◌+◌, ℕ, Bool, true, false, List, [], Option, Some, None, IfSome, refl, sym, ap, ap₂, ◌∙◌, subst, arith, codes}
+use Rattle.std.proofs.Common.{◌≡◌, ℕ, true, false, List, [], Option, Some, None, IfSome, refl, sym, ap, ap₂, ◌∙◌, subst, arith, codes}
 use Rattle.command_words.specs.declared.commands.Work.{Work}
 use Rattle.outside.specs.declared.source.MemFile.{MemFile}
 use Rattle.engine_turns.specs.declared.core_data.Core.{Core}
-use Rattle.publication.specs.Stands.{Stand, untouched}
-use Rattle.publication.specs.Troubles.{published}
+use Rattle.publication.specs.Stands.{untouched}
 use Rattle.rebuild.specs.Engines.{Meanings, turns_left_of}
 use Rattle.session.specs.Machines.{Machine}
 use Rattle.session.specs.Sessions.{State, Next, GoesOn, SpendsNumbers, IsTooMuch, Scanned, NotBegun, BrokeOff, Done, state_in, with_turns, built, reported, started, scanned, writes}
 use Rattle.engine_turns.specs.Spent.{counted_more}
 use Rattle.compiler.specs.Compiler.{Compiled, compiler, nothing}
-use Rattle.compiler.specs.Standing.{Here, Counts, HasSpent, HasSpentAtMost, IsAt, IsIn, IsRising, MakesTurns, TakesNext, compiled_in, has_failed, if_made}
+use Rattle.compiler.specs.Standing.{Here, Counts, HasSpent, HasSpentAtMost, IsAt, IsIn, IsRising, MakesTurns, TakesNext, has_failed}
 use Rattle.compiler.specs.declared.taking.Took.TheVariants as took
-use Rattle.compiler.proofs.Counting.{no_fewer, spent_none, turns_rise, below_same}
+use Rattle.compiler.proofs.Counting.{no_fewer, spent_none, turns_rise}
 use Rattle.compiler.proofs.Moves.{along}
 use Rattle.pan_top.specs.Commands.{limits_of}
 use Rattle.pan_top.specs.Rounds.{Reaches, build_of, session_at}
-use Rattle.pan_top.specs.Session.{Session, engine_for, round_for, session_after, state_for, session_for}
+use Rattle.pan_top.specs.Session.{engine_for, round_for, session_after, state_for}
 use Rattle.pan_top.specs.declared.building.Reached.TheVariants as reached
 
 pub if_told : {A : Type 0} (P : A → Type 0) (o : Option A) → ((x : A) → o ≡ Some x → P x) → IfSome o P

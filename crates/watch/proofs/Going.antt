@@ -1,11 +1,10 @@
 -- What a line made of a session.
-use Rattle.std.proofs.Common.{◌≡◌, ◌≤◌, ◌+◌, ℕ, Bool, true, false, List, [], ◌++◌, length, map, Option, Some, refl, sym, ap, ap₂, ◌∙◌, subst, arith, min, codes, not, if◌then◌else◌, ◌||◌, ◌&&◌, ◌⊎◌, inl, inr}
+use Rattle.std.proofs.Common.{◌≡◌, ◌≤◌, ℕ, Bool, true, false, List, [], ◌++◌, length, Option, Some, refl, sym, ap, ap₂, ◌∙◌, subst, arith, min, codes, not, if◌then◌else◌, ◌||◌, ◌&&◌, ◌⊎◌, inl, inr}
 use Rattle.std.specs.Prelude.{bytes_eq}
 use Rattle.std.proofs.lemmas.List.{length-map}
 use Rattle.std.specs.List.{list_any}
-use Rattle.compiler.specs.Compiler.{Compiled, compiler, answer_of, forgotten}
-use Rattle.compiler.specs.Names.{objects_in}
-use Rattle.compiler.specs.Standing.{Here, Counts, HasSpentAtMost, IsAt, IsIn, IsKept, MakesTurns, TakesNext, compiled_in, has_failed, going}
+use Rattle.compiler.specs.Compiler.{Compiled, compiler, forgotten}
+use Rattle.compiler.specs.Standing.{Here, Counts, IsAt, IsIn, IsKept, MakesTurns, TakesNext, compiled_in}
 use Rattle.compiler.specs.declared.taking.Took.TheVariants as took
 use Rattle.compiler.proofs.Counting.{at_most}
 use Rattle.compiler.proofs.Moves.{along}
@@ -26,10 +25,10 @@ use Rattle.publication.specs.declared.want.Want.{Want}
 use Rattle.rebuild.specs.Engines.{Meanings, turns_left_of}
 use Rattle.session.specs.Machines.{Machine}
 use Rattle.session.specs.Orders.{Order, Scan, Turns, Build, Quit}
-use Rattle.session.specs.Sessions.{State, Next, GoesOn, SpendsNumbers, IsTooMuch, Scanned, Done, writes, scanned, ordered, some_turns, with_turns, built, reported, answers_in, profiles_of}
+use Rattle.session.specs.Sessions.{Next, GoesOn, Scanned, Done, writes, scanned, ordered, some_turns, with_turns, built, reported, answers_in, profiles_of}
 use Rattle.session.specs.Texts.{files_line, turns_line}
 use Rattle.watch.specs.declared.step.Step.TheVariants as step
-use Rattle.watch.specs.Steps.{Spot, spot, At, Between, EndsAt, GoesBehind, Publishes, Went}
+use Rattle.watch.specs.Steps.{Spot, spot, At, Between, GoesBehind, Publishes, Went}
 
 none_failed : (count : ℕ) → AtMost 0 count count
 none_failed count = omega arith

@@ -16,7 +16,7 @@ use Rattle.session.specs.Orders.{order_of}
 use Rattle.session.specs.Sessions.{Next, GoesOn, Quits, SpendsNumbers, IsTooMuch, Round, next, if_on, reached, started}
 use Rattle.watch.specs.declared.step.Step.TheVariants as step
 use Rattle.watch.specs.Steps.{Spot, Went}
-use Rattle.watch.specs.Played.{Played, Reel, reel, line_of, failed_scans, failed_calls}
+use Rattle.watch.specs.Played.{Played, reel, line_of, failed_scans, failed_calls}
 
 -- rounds and one more
 abbrev on_last : {T : Type 0} → Machine (Compiled T) → Round → Here T → Option (Here T)

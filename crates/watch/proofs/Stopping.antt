@@ -1,5 +1,5 @@
 -- How what was played ends.
-use Rattle.std.proofs.Common.{◌≡◌, ℕ, true, false, List, [], ◌++◌, take, Option, Some, None, inl, inr, refl, sym, ap, ◌∙◌, subst, append-nil}
+use Rattle.std.proofs.Common.{◌≡◌, ℕ, true, List, [], ◌++◌, take, Option, Some, None, inl, inr, refl, sym, ap, ◌∙◌, subst, append-nil}
 use Rattle.std.specs.Prelude.{option_map}
 use Rattle.compiler.specs.Compiler.{Compiled}
 use Rattle.compiler.specs.Standing.{Here}

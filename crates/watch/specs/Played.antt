@@ -1,5 +1,5 @@
 -- The session that a watcher played.
-use Rattle.std.specs.Prelude.{◌≡◌, ◌≤◌, ◌+◌, ◌⊎◌, ℕ, Bool, true, false, List, [], ◌∷◌, ◌++◌, Option, Some, Result, IfErr, option_map, length, map, if◌then◌else◌}
+use Rattle.std.specs.Prelude.{◌≡◌, ◌≤◌, ◌+◌, ◌⊎◌, ℕ, true, false, List, [], ◌∷◌, ◌++◌, Option, Some, Result, IfErr, option_map, length, map, if◌then◌else◌}
 use Rattle.compiler.specs.Compiler.{Compiled}
 use Rattle.compiler.specs.Standing.{Here, has_failed}
 use Rattle.outside.specs.Causes.{Rose}

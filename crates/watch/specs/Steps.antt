@@ -1,7 +1,7 @@
 -- What a line made of a session, against what the engine and the devices hold.
 use Rattle.std.specs.Prelude.{◌≡◌, ◌≤◌, ◌⊎◌, ℕ, Bool, true, false, List, ◌++◌, Option, Some, bytes_eq, ◌&&◌, nat_lt, length}
 use Rattle.compiler.specs.Compiler.{Compiled}
-use Rattle.compiler.specs.Standing.{Here, Counts, HasSpentAtMost, IsAt, compiled_in, has_failed}
+use Rattle.compiler.specs.Standing.{Here, Counts, HasSpentAtMost, IsAt, has_failed}
 use Rattle.engine_turns.specs.declared.core_data.Core.{Core}
 use Rattle.outside.specs.Causes.{Rose}
 use Rattle.outside.specs.Cells.{Cell, AreSame}

@@ -1,7 +1,7 @@
-use Rattle.std.proofs.Common.{◌≡◌, Result, Ok, Err, IfOk, OnErr, rules}
+use Rattle.std.proofs.Common.{rules}
 use Rattle.outside.specs.Causes.{Rose}
 use Rattle.scans.specs.Outcomes.{IsScan, IsPassed}
-use Rattle.std.specs.Prelude.{Some, None}
+use Rattle.std.specs.Prelude.{None}
 use Rattle.compiler.specs.Compiler.{compiler}
 use Rattle.compiler.specs.Standing.{counts}
 use Rattle.compiler.proofs.Scanning.{at_passed, next_taken, take_cut, next_too_much, next_failed, scan_cut, if_ok_both, on_err_is}

@@ -1,11 +1,11 @@
-use Rattle.std.proofs.Common.{[], Some, IfErr, refl, subst, ◌∙◌, rules}
+use Rattle.std.proofs.Common.{[], Some, IfErr, subst, rules}
 use Rattle.std.proofs.lemmas.Result.{IfErr-weaker}
 use Rattle.publication.specs.Stands.{Stands, untouched}
 use Rattle.publication.specs.Troubles.{published}
 use Rattle.publication.specs.Wants.{wants_of}
 use Rattle.publication.proofs.Planning.{on_err}
 use Rattle.pan_top.specs.Ends.{IsEndOf, OfName}
-use Rattle.pan_top.specs.Rounds.{MadeOver, BegunOver}
+use Rattle.pan_top.specs.Rounds.{MadeOver}
 use Rattle.pan_top.proofs.Ending.{quiet, done_stopped}
 use Rattle.pan_top.proofs.Publishing.{over_all}
 use Rattle.pan_top.proofs.building.publish_built.Goals as goal

@@ -1,9 +1,7 @@
-use Rattle.std.proofs.Common.{◌≡◌, ◌-◌, List, [], ℕ, Some, refl, sym, ap, subst, ◌∙◌, arith}
+use Rattle.std.proofs.Common.{[], Some, subst}
 use Rattle.publication.proofs.Planning.{on_err}
 use Rattle.session.specs.Sessions.{built}
-use Rattle.compiler.specs.Standing.{Counts, counts, HasSpentAtMost, MakesTurns, TakesNext}
-use Rattle.compiler.specs.declared.taking.Took.TheVariants as took
-use Rattle.outside.specs.declared.source.MemFile.{MemFile}
+use Rattle.compiler.specs.Standing.{counts, HasSpentAtMost, MakesTurns, TakesNext}
 use Rattle.pan_top.specs.Commands.{limits_of}
 use Rattle.pan_top.specs.Rounds.{Reaches}
 use Rattle.pan_top.specs.Session.{state_for}

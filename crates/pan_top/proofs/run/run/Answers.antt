@@ -1,6 +1,5 @@
-use Rattle.std.proofs.Common.{◌≡◌, IfErr, IfSome, OnOk, OnErr, Some, refl, sym, subst, ◌∙◌}
+use Rattle.std.proofs.Common.{IfErr, IfSome, OnOk, OnErr, refl, sym, subst, ◌∙◌}
 use Rattle.publication.specs.Changing.{AreListed, Tells}
-use Rattle.pan_top.specs.Commands.{command_of}
 use Rattle.pan_top.specs.Ends.{Stopped}
 use Rattle.pan_top.specs.Rounds.{MadeOver, BegunOver}
 use Rattle.pan_top.specs.Session.{session_for, session_of, state_of}

@@ -1,12 +1,10 @@
-use Rattle.std.proofs.Common.{◌≡◌, ◌-◌, codes, false, true, [], inr, sym, refl, subst, ◌∙◌, rules, arith}
+use Rattle.std.proofs.Common.{◌≡◌, codes, inr, refl, subst, rules}
 use Rattle.compiler.specs.Compiler.{compiler}
-use Rattle.compiler.specs.Standing.{counts, IsKept, MakesTurns, TakesNext}
-use Rattle.compiler.specs.declared.taking.Took.TheVariants as took
-use Rattle.compiler.proofs.Moves.{forgotten_in, forgotten_kept}
+use Rattle.compiler.specs.Standing.{counts, MakesTurns, TakesNext}
+use Rattle.compiler.proofs.Moves.{forgotten_in}
 use Rattle.publication.proofs.Planning.{on_err}
 use Rattle.session.specs.Orders.{Build}
 use Rattle.watch.proofs.Going.{scan_failed, scan_spends, scan_exceeds, built_whole, build_spends, cut_off}
-use Rattle.watch.specs.Steps.{spot}
 use Rattle.watch.proofs.step.build_line.Goals as goal
 
 pub returns-in-Failed-clause-went : goal.returns-in-Failed-clause-went

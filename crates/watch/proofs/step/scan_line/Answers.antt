@@ -1,7 +1,6 @@
-use Rattle.std.proofs.Common.{◌≡◌, [], ◌++◌, ap, ap₂, codes, length, rules, sym, refl, subst, ◌∙◌}
+use Rattle.std.proofs.Common.{◌≡◌, ◌++◌, ap₂, codes, length, rules, refl, subst, ◌∙◌}
 use Rattle.compiler.specs.Compiler.{compiler}
 use Rattle.compiler.specs.Standing.{counts, TakesNext}
-use Rattle.compiler.specs.declared.taking.Took.TheVariants as took
 use Rattle.engine_turns.specs.Places.{names}
 use Rattle.engine_turns.specs.States.{pictured}
 use Rattle.session.specs.Orders.{Scan}

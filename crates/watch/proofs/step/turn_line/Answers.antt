@@ -1,4 +1,4 @@
-use Rattle.std.proofs.Common.{◌≡◌, min, rules, sym, subst, ◌∙◌}
+use Rattle.std.proofs.Common.{◌≡◌, min, rules, subst}
 use Rattle.compiler.specs.Compiler.{compiler}
 use Rattle.compiler.specs.Standing.{counts, MakesTurns}
 use Rattle.rebuild.specs.Engines.{turns_left_of}
