@@ -1,5 +1,5 @@
 -- A build, and builds one after the other.
-use Rattle.std.proofs.Common.{◌≡◌, ℕ, suc, Bool, true, false, ◌≤◌, List, [], ◌++◌, take, drop, Option, Some, Result, Ok, Err, IfOk, OnErr, arith, refl, sym, ap, ◌∙◌, subst}
+use Rattle.std.proofs.Common.{◌≡◌, ℕ, suc, Bool, true, false, List, [], ◌++◌, take, drop, Option, Some, Result, Ok, Err, IfOk, OnErr, arith, refl, sym, ap, ◌∙◌, subst}
 use Rattle.std.specs.Prelude.{option_map}
 use Rattle.outside.specs.Contents.{Appends, AppendsPart}
 use Rattle.outside.specs.declared.source.MemFile.{MemFile}
@@ -7,7 +7,7 @@ use Rattle.pan_ast.specs.declared.work.Limits.{Limits}
 use Rattle.engine_turns.specs.declared.core_data.Core.{Core}
 use Rattle.rebuild.specs.Engines.{Meanings, turns_left_of}
 use Rattle.session.specs.Machines.{Machine}
-use Rattle.session.specs.Sessions.{State, Next, GoesOn, SpendsNumbers, IsTooMuch, Done, next, state_in, with_turns, built, reported, started, scanned, answers_in}
+use Rattle.session.specs.Sessions.{Next, GoesOn, SpendsNumbers, IsTooMuch, next, state_in, with_turns, built, reported, started, scanned, answers_in}
 use Rattle.session.specs.Texts.{report}
 use Rattle.compiler.specs.Compiler.{Compiled, compiler, forgotten, nothing}
 use Rattle.compiler.specs.Standing.{Here, Counts, HasSpentAtMost, IsAt, IsIn, MakesTurns, TakesNext, compiled_in}

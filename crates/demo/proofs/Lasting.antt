@@ -1,5 +1,5 @@
 -- The last line, as it is looked for from the front.
-use Rattle.std.proofs.Common.{◌≡◌, ℕ, Bool, true, false, List, [], ◌∷◌, ◌||◌, nat_eq, if◌then◌else◌, refl, sym, ap, ◌∙◌}
+use Rattle.std.proofs.Common.{◌≡◌, ℕ, Bool, true, false, List, [], ◌∷◌, nat_eq, if◌then◌else◌, refl}
 use Rattle.demo.specs.Reports.{has_lines, last_line}
 
 -- the last line of what is left, or this one where no other follows

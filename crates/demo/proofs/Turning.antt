@@ -1,13 +1,13 @@
 -- What so many builds make of a session.
-use Rattle.std.proofs.Common.{◌≡◌, ◌≤◌, ◌+◌, ℕ, zero, suc, Bool, true, false, List, [], ◌∷◌, ◌++◌, take, drop, length, Option, Some, None, refl, sym, ap, ◌∙◌, subst, arith, append_assoc, append-nil}
+use Rattle.std.proofs.Common.{◌≡◌, ℕ, zero, suc, List, [], ◌∷◌, ◌++◌, take, drop, length, Option, Some, None, refl, sym, ap, ◌∙◌, arith, append_assoc, append-nil}
 use Rattle.std.specs.Prelude.{option_map}
 use Rattle.std.proofs.lemmas.List.{take-append-drop}
-use Rattle.outside.specs.Contents.{Appends, AppendsPart}
+use Rattle.outside.specs.Contents.{AppendsPart}
 use Rattle.session.specs.Machines.{Machine}
-use Rattle.session.specs.Sessions.{State, Next, GoesOn, Quits, SpendsNumbers, IsTooMuch, Done, next, state_in, reported, built, with_turns, scanned}
+use Rattle.session.specs.Sessions.{State, Next, GoesOn, Quits, SpendsNumbers, IsTooMuch, next, state_in, reported, built}
 use Rattle.compiler.specs.Compiler.{Compiled}
-use Rattle.compiler.specs.Standing.{Here, Counts, HasSpentAtMost, IsBelow, IsRising}
-use Rattle.compiler.proofs.Counting.{at_most_on, turns_rise, below_same}
+use Rattle.compiler.specs.Standing.{Here, IsBelow, IsRising}
+use Rattle.compiler.proofs.Counting.{turns_rise, below_same}
 use Rattle.compiler.proofs.Scanning.{scan_rises}
 use Rattle.demo.specs.Demo.{build_round, shortened, builds}
 use Rattle.demo.specs.Reports.{last_line}

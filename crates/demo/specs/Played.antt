@@ -1,5 +1,5 @@
 -- What builds made of a session, against what the engine and the devices hold.
-use Rattle.std.specs.Prelude.{◌≡◌, ℕ, Bool, List, [], ◌++◌, Option, nat_lt, option_map, if◌then◌else◌}
+use Rattle.std.specs.Prelude.{◌≡◌, ℕ, Bool, List, ◌++◌, Option, nat_lt, option_map, if◌then◌else◌}
 use Rattle.compiler.specs.Compiler.{Compiled}
 use Rattle.compiler.specs.Standing.{Here, Counts, HasSpentAtMost, IsAt}
 use Rattle.engine_turns.specs.declared.core_data.Core.{Core}

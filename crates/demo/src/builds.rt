@@ -148,7 +148,13 @@ fn play<R: Runner, O: Sink, L: Ledger>(
     for _i in 0..BUILDS {
         line.clear();
         match build_next(
-            alloc, engine, runner, source, &mut line, &mut has_faults, steps,
+            alloc,
+            engine,
+            runner,
+            source,
+            &mut line,
+            &mut has_faults,
+            steps,
         ) {
             Ok(Step::Reports) => {}
             Ok(Step::SpendsNumbers) => return Ok(Ended::NumbersSpent),

@@ -1,10 +1,9 @@
-use Rattle.std.proofs.Common.{◌≡◌, [], Some, false, true, refl, ap, subst, arith, ◌∙◌}
+use Rattle.std.proofs.Common.{[], Some, ap, subst, arith}
 use Rattle.outside.specs.Causes.{Rose}
 use Rattle.publication.proofs.Planning.{on_err}
 use Rattle.session.specs.Sessions.{built}
 use Rattle.compiler.specs.Compiler.{compiler}
 use Rattle.compiler.specs.Standing.{counts, MakesTurns, TakesNext}
-use Rattle.compiler.specs.declared.taking.Took.TheVariants as took
 use Rattle.compiler.proofs.Moves.{forgotten_in, forgotten_kept}
 use Rattle.demo.proofs.Turning.{at_end, end_rises, build_rises}
 use Rattle.demo.proofs.Going.{take_spends, take_exceeds, cut_turning, turns_spend, cut_made, reports}

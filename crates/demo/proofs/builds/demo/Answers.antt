@@ -1,4 +1,4 @@
-use Rattle.std.proofs.Common.{◌≡◌, ap, subst, ◌∙◌}
+use Rattle.std.proofs.Common.{ap, subst, ◌∙◌}
 use Rattle.compiler.specs.Standing.{counts}
 use Rattle.publication.proofs.Planning.{on_err}
 use Rattle.demo.specs.Demo.{demo_session, Breaks}

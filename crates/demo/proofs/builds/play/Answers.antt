@@ -1,7 +1,7 @@
-use Rattle.std.proofs.Common.{◌≡◌, ◌-◌, ◌+◌, suc, ℕ, true, false, [], refl, sym, ap, subst, arith, ◌∙◌}
+use Rattle.std.proofs.Common.{◌≡◌, ◌-◌, ◌+◌, suc, [], refl, arith, ◌∙◌}
 use Rattle.compiler.specs.Compiler.{compiler}
 use Rattle.outside.specs.Contents.{Appends, AppendsPart}
-use Rattle.demo.proofs.Going.{none_yet, next_state, next_at, one_more, spends, exceeds, cut_off, unwritten, all_made}
+use Rattle.demo.proofs.Going.{none_yet, one_more, spends, exceeds, cut_off, unwritten, all_made}
 use Rattle.demo.proofs.builds.play.Goals as goal
 
 pub loop-i-init : goal.loop-i-init

@@ -1,4 +1,4 @@
-use Rattle.std.proofs.Common.{◌≡◌, ◌≤◌, ◌-◌, List, ℕ}
+use Rattle.std.proofs.Common.{◌≡◌, ◌-◌, List, ℕ}
 use Rattle.compiler.specs.Compiler.{Compiled, compiler}
 use Rattle.compiler.specs.Standing.{counts, IsIn, IsKept}
 use Rattle.engine_turns.specs.States.{pictured}
