@@ -1,5 +1,5 @@
 ghost use Rattle.std.specs.Prelude.{◌≡◌, ◌≤◌, ◌++◌, IfOk, OnOk, string_bytes};
-ghost use Rattle.demo_pictures.specs.Demo.{next_number, port_of, numbered, gateway_text, machine_text, machine_name, with_text, fixed_picture, demo_picture};
+ghost use Rattle.demo_pictures.specs.Demo.{next_number, port_of, numbered, gateway_text, common_text, machine_text, machine_name, with_text, fixed_picture, demo_picture};
 
 use base::limits::MAX_FILE_BYTES;
 use base::{Bytes, Text};
@@ -16,14 +16,23 @@ const BOX: &str = "structure template hw/box;\n'serial' = 'none';\n'disks/sda' =
 
 const HEAD: &str = ";\ninclude 'site/types';\ninclude 'site/common';\nbind '/' = host;\n";
 
-fn next_number(x: u64) -> u64
+/// The text of `site/common.pan`.
+pub fn common_text() -> &'static str
+    ensures { result.now ≡ common_text }
+{
+    COMMON
+}
+
+/// The number after this one.
+pub fn next_number(x: u64) -> u64
     ensures { result ≡ next_number x }
 {
     x.wrapping_mul(6364136223846793005)
         .wrapping_add(1442695040888963407)
 }
 
-fn port_of(x: u64) -> u64
+/// The port that a number stands for.
+pub fn port_of(x: u64) -> u64
     ensures { result ≡ port_of x }
 {
     1 + (x >> 33) % 65535
@@ -51,7 +60,7 @@ fn push_gateway(text: &mut String, i: u64) -> Result<(), AllocError>
 }
 
 /// The template of machine `i`.
-fn machine_text(alloc: Global, i: u64, port: u64) -> Result<String, AllocError>
+pub fn machine_text(alloc: Global, i: u64, port: u64) -> Result<String, AllocError>
     ensures { IfOk result (λ text. string_bytes text ≡ machine_text i port) }
 {
     let mut text = String::new(alloc);

@@ -1,0 +1,4 @@
+pub mod Distinct
+pub mod Lasting
+pub mod Turning
+pub mod Going
