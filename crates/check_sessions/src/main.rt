@@ -1,9 +1,10 @@
-//! Builds of written objects over devices in memory, some calls of which fail: prints the status, the faults, the runs,
-//! the text and the shelf.
+//! Builds and watchers of written objects over devices in memory, some calls of which fail: prints the status, the
+//! faults, the runs, the text and the shelf.
 //!
 //! Each line says something of the next run. `file NAME TEXT` is a file of the source, TEXT being all behind NAME, and
 //! a line feed; `many COUNT NAME TEXT` are the files `0NAME`, `1NAME` and so on. `kept NAME TEXT` stands on the shelf
-//! before the run. `fail DEVICE CALL` has a call of the `source`, the `shelf` or the `sink` fail, the first being 0.
+//! before the run. `line TEXT` is a line of a watcher. `fail DEVICE CALL` has a call of the `source`, the `shelf`, the
+//! `lines` or the `sink` fail, the first being 0. The source gives the files once, and then an empty picture.
 //! `run WORD ..` calls the compiler with these words, and forgets what was said. Behind `status` stand the faults that
 //! the source, the shelf and the sink counted, and the runs that were made. Any other line is a remark. An object's text
 //! is the word `object` and lines of three bytes, as `written_runner` says. The expected output is written by hand.
@@ -13,8 +14,10 @@ ghost use Rattle.std.specs.Prelude.{◌≡◌, ◌<◌};
 
 use anyhow::{Result, anyhow};
 use base::{Bytes, Seq, Steps, Text};
-use outside::{Held, MemFile, MemShelf, MemSink, MemSource, Shelf, Sink, Source, are_distinct};
-use pan_top::pan;
+use outside::{
+    Held, MemFile, MemLines, MemShelf, MemSink, MemSource, Shelf, Sink, Source, are_distinct,
+};
+use pan_top::{pan, watch, watch_work};
 use std::alloc::{AllocError, Global};
 use std::marker::Brand;
 use std::mem;
@@ -26,8 +29,10 @@ use written_runner::Written;
 struct Case {
     files: Vec<MemFile>,
     held: Vec<Held>,
+    lines: Vec<Bytes>,
     source_fails: Vec<u64>,
     shelf_fails: Vec<u64>,
+    lines_fails: Vec<u64>,
     sink_fails: Vec<u64>,
 }
 
@@ -35,8 +40,10 @@ fn new_case(alloc: Global) -> Case {
     Case {
         files: Vec::new(alloc),
         held: Vec::new(alloc),
+        lines: Vec::new(alloc),
         source_fails: Vec::new(alloc),
         shelf_fails: Vec::new(alloc),
+        lines_fails: Vec::new(alloc),
         sink_fails: Vec::new(alloc),
     }
 }
@@ -72,11 +79,17 @@ fn kept(alloc: Global, case: &mut Case, name: &str, text: &str) -> Result<()> {
     Ok(())
 }
 
+fn watched_line(alloc: Global, case: &mut Case, text: &str) -> Result<()> {
+    case.lines.push(Bytes::from_slice(alloc, text.as_bytes())?)?;
+    Ok(())
+}
+
 fn fail(case: &mut Case, device: &str, call: &str) -> Result<()> {
     let call = call.parse::<u64>()?;
     match device {
         "source" => case.source_fails.push(call)?,
         "shelf" => case.shelf_fails.push(call)?,
+        "lines" => case.lines_fails.push(call)?,
         "sink" => case.sink_fails.push(call)?,
         _ => return Err(anyhow!("no device")),
     }
@@ -106,10 +119,15 @@ fn compile<L: Ledger>(
     runner: &mut Written,
     source: &mut MemSource,
     shelf: &mut MemShelf,
+    lines: &mut MemLines,
     sink: &mut MemSink,
     steps: &mut Steps<L>,
-) -> u8 {
-    pan(alloc, words, runner, source, shelf, sink, steps).exit_code()
+) -> Result<u8, AllocError> {
+    let status = match watch_work(alloc, words)? {
+        Some(work) => watch(alloc, &work, runner, source, shelf, lines, sink, steps),
+        None => pan(alloc, words, runner, source, shelf, sink, steps),
+    };
+    Ok(status.exit_code())
 }
 
 fn run<L: Ledger>(rt: &HostRuntime, case: Case, words: &str, steps: &mut Steps<L>) -> Result<()> {
@@ -117,8 +135,10 @@ fn run<L: Ledger>(rt: &HostRuntime, case: Case, words: &str, steps: &mut Steps<L
     let Case {
         files,
         held,
+        lines,
         source_fails,
         shelf_fails,
+        lines_fails,
         sink_fails,
     } = case;
     if !are_distinct(alloc, &files)? {
@@ -129,6 +149,7 @@ fn run<L: Ledger>(rt: &HostRuntime, case: Case, words: &str, steps: &mut Steps<L
     let mut runner = Written::new(alloc);
     let mut source = MemSource::new(alloc, pictures, source_fails);
     let mut shelf = MemShelf::new(alloc, held, shelf_fails);
+    let mut lines = MemLines::new(lines, lines_fails);
     let mut sink = MemSink::new(alloc, sink_fails);
     let words = words_of(alloc, words)?;
     let status = compile(
@@ -137,9 +158,10 @@ fn run<L: Ledger>(rt: &HostRuntime, case: Case, words: &str, steps: &mut Steps<L
         &mut runner,
         &mut source,
         &mut shelf,
+        &mut lines,
         &mut sink,
         steps,
-    );
+    )?;
     print!(rt;
         "status {} faults {} {} {} runs {}\n{}",
         status,
@@ -170,6 +192,7 @@ fn say<L: Ledger>(
         "file" => file(alloc, case, name, text),
         "many" => many(alloc, case, name, text),
         "kept" => kept(alloc, case, name, text),
+        "line" => watched_line(alloc, case, rest),
         "fail" => fail(case, name, text),
         "run" => run(rt, mem::replace(case, new_case(alloc)), rest, steps),
         _ => Ok(()),

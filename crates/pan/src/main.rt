@@ -1,13 +1,13 @@
-//! The compiler as a program. It makes a runner of objects and the host's devices, calls `pan_top::pan` and ends with its
-//! status.
+//! The compiler as a program. It makes a runner of objects and the host's devices, calls `pan_top::watch` where the words
+//! are a watcher's and else `pan_top::pan`, and ends with the call's status.
 #![tactic(auto)]
 
 ghost use Rattle.std.specs.Prelude.{◌≡◌, ◌<◌};
 
 use base::{Steps, Text};
 use object_run::Library;
-use outside::{HostShelf, HostSink, HostSource};
-use pan_top::{Status, pan};
+use outside::{HostLines, HostShelf, HostSink, HostSource};
+use pan_top::{Status, pan, watch, watch_work};
 use std::alloc::AllocError;
 use std::marker::Brand;
 use std::process::ExitCode;
@@ -39,12 +39,25 @@ fn run<L: Ledger>(rt: &HostRuntime, blank: Blank) -> Result<Status, AllocError>
     let mut shelf = HostShelf::new(rt.clone()?);
     let mut out = HostSink::new(rt.stdout());
     let mut steps = Steps::<L>::new(blank);
-    Ok(pan(
+    let Some(work) = watch_work(rt.alloc(), &words)? else {
+        return Ok(pan(
+            rt.alloc(),
+            &words,
+            &mut runner,
+            &mut source,
+            &mut shelf,
+            &mut out,
+            &mut steps,
+        ));
+    };
+    let mut lines = HostLines::new(rt.reader());
+    Ok(watch(
         rt.alloc(),
-        &words,
+        &work,
         &mut runner,
         &mut source,
         &mut shelf,
+        &mut lines,
         &mut out,
         &mut steps,
     ))

@@ -10,7 +10,7 @@ use Rattle.pan_top.specs.declared.status.End.{End}
 use Rattle.rebuild.specs.Engines.{Meanings}
 use Rattle.pan_top.specs.declared.status.End.TheVariants as E
 use Rattle.pan_top.specs.declared.status.Status.{Status}
-use Rattle.pan_top.specs.declared.status.Status.TheVariants.{Clean, SomeFaults, Usage, SourceFault, ShelfFault, OutFault, Memory, NumbersSpent, TooMuch}
+use Rattle.pan_top.specs.declared.status.Status.TheVariants.{Clean, SomeFaults, Usage, SourceFault, ShelfFault, LinesFault, OutFault, Memory, NumbersSpent, TooManyLines, TooMuch}
 use Rattle.pan_top.specs.Ends.{Caused, IsEndOf, IsRoundEnd, OfName, OfSink, OfSource, Stopped, status_of}
 use Rattle.publication.specs.Leavings.{Leaves}
 use Rattle.publication.specs.OwnNames.{is_file_of}
@@ -33,7 +33,7 @@ quiet text held E.Out kind = cc
 quiet text held E.Memory kind = none_of text held
 
 -- nothing was written
-early_none : (text : List ℕ) (held : Option (List ℕ)) (e : End) → WritesEarly text e held held
+pub early_none : (text : List ℕ) (held : Option (List ℕ)) (e : End) → WritesEarly text e held held
 early_none text held E.Source = refl
 early_none text held E.Shelf = refl
 early_none text held (E.Publishing m) = refl
@@ -133,6 +133,8 @@ comes_by s SomeFaults e text_old text_new coming_old coming_new old new stopped 
 comes_by s Usage e text_old text_new coming_old coming_new old new stopped takes says = absurd says
 comes_by s TooMuch e text_old text_new coming_old coming_new old new stopped takes says = absurd says
 comes_by s NumbersSpent e text_old text_new coming_old coming_new old new stopped takes says = absurd says
+comes_by s LinesFault e text_old text_new coming_old coming_new old new stopped takes says = absurd says
+comes_by s TooManyLines e text_old text_new coming_old coming_new old new stopped takes says = absurd says
 comes_by s SourceFault e text_old text_new coming_old coming_new old new stopped takes says = record { end = e; pictures = takes; shelf = stopped; text = says }
 comes_by s ShelfFault e text_old text_new coming_old coming_new old new stopped takes says = record { end = e; pictures = takes; shelf = stopped; text = says }
 comes_by s OutFault e text_old text_new coming_old coming_new old new stopped takes says = record { end = e; pictures = takes; shelf = stopped; text = says }

@@ -3,3 +3,4 @@ pub mod Ending
 pub mod Taking
 pub mod Settling
 pub mod Finishing
+pub mod Watchers

@@ -13,7 +13,7 @@ use Rattle.pan_top.specs.declared.status.End.{End}
 use Rattle.rebuild.specs.Engines.{Meanings}
 use Rattle.pan_top.specs.declared.status.End.TheVariants as E
 use Rattle.pan_top.specs.declared.status.Status.{Status}
-use Rattle.pan_top.specs.declared.status.Status.TheVariants.{Clean, SomeFaults, Usage, SourceFault, ShelfFault, OutFault, Memory, NumbersSpent, TooMuch}
+use Rattle.pan_top.specs.declared.status.Status.TheVariants.{Clean, SomeFaults, Usage, SourceFault, ShelfFault, LinesFault, OutFault, Memory, NumbersSpent, TooManyLines, TooMuch}
 use Rattle.pan_top.specs.Ends.{status_of}
 use Rattle.publication.specs.Listings.{Lists}
 use Rattle.publication.specs.Changing.{removal, planned, stand, Made, Begun, AreListed, Tells}
@@ -120,6 +120,8 @@ own_by SourceFault ws old new before now own all = absurd own
 own_by ShelfFault ws old new before now own all = absurd own
 own_by OutFault ws old new before now own all = absurd own
 own_by Memory ws old new before now own all = absurd own
+own_by LinesFault ws old new before now own all = absurd own
+own_by TooManyLines ws old new before now own all = absurd own
 
 pub in_order_early : (told : Option (List (List MemFile))) (F : List (List MemFile) → Session) (e : End) (status : Status) (old new : List ℕ → Cell) (before now : Option (List Change)) → Concludes e status → IfSome told (λ ps. PublishesPart (F ps).wants old new before now) → IfSome told (λ ps. IsInOrder status (F ps).wants old new before now)
 in_order_early None F e status old new before now how part = tt

@@ -10,14 +10,18 @@ abbrev pub is_word : List ℕ → Option (List ℕ) → Bool
 is_word word None = false
 is_word word (Some given) = bytes_eq given word
 
--- MODE is `build`, and the other words are of its form
-abbrev pub work_named : Option Words → Option Work
-work_named None = None
-work_named (Some w) = if is_word (codes "build") w.mode then work_of w else None
+-- MODE is this word, and the other words are of its form
+abbrev pub work_named : List ℕ → Option Words → Option Work
+work_named mode None = None
+work_named mode (Some w) = if is_word mode w.mode then work_of w else None
 
--- what the words ask for, or None where they are no command
+-- what the words ask to build, or None where they are no command to build
 unfoldable pub command_of : List (List ℕ) → Option Work
-command_of words = work_named (given_of words)
+command_of words = work_named (codes "build") (given_of words)
+
+-- what the words ask to watch, or None where they are no command to watch
+unfoldable pub watch_of : List (List ℕ) → Option Work
+watch_of words = work_named (codes "watch") (given_of words)
 
 abbrev pub is_command : List (List ℕ) → Bool
 is_command words = is_some (command_of words)

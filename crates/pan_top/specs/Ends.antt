@@ -16,9 +16,11 @@ exit_code_of S.SomeFaults = 1
 exit_code_of S.Usage = 2
 exit_code_of S.SourceFault = 3
 exit_code_of S.ShelfFault = 4
+exit_code_of S.LinesFault = 6
 exit_code_of S.OutFault = 7
 exit_code_of S.Memory = 8
 exit_code_of S.NumbersSpent = 9
+exit_code_of S.TooManyLines = 10
 exit_code_of S.TooMuch = 11
 
 abbrev pub status_of : End → Status

@@ -2,5 +2,6 @@
 pub mod Ends
 pub mod Commands
 pub mod Session
+pub mod Watcher
 -- What inner contracts use.
 pub mod Rounds

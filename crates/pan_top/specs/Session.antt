@@ -21,7 +21,7 @@ use Rattle.pan_top.specs.Ends.{status_of, line_of, Stopped}
 use Rattle.pan_top.specs.declared.status.End.{End}
 use Rattle.pan_top.specs.declared.status.End.TheVariants as E
 use Rattle.pan_top.specs.declared.status.Status.{Status}
-use Rattle.pan_top.specs.declared.status.Status.TheVariants.{Clean, SomeFaults, Usage, SourceFault, ShelfFault, OutFault, Memory, NumbersSpent, TooMuch}
+use Rattle.pan_top.specs.declared.status.Status.TheVariants.{Clean, SomeFaults, Usage, SourceFault, ShelfFault, LinesFault, OutFault, Memory, NumbersSpent, TooManyLines, TooMuch}
 
 -- what is written, the status, what stands under each name of the shelf, and what profiles want
 -- there, where there is a publication
@@ -168,6 +168,8 @@ abbrev pub Completes : Status → Type 0
 Completes SourceFault = ⊥
 Completes ShelfFault = ⊥
 Completes OutFault = ⊥
+Completes LinesFault = ⊥
+Completes TooManyLines = ⊥
 Completes _ = Unit
 
 -- where the words are no command, this is the status, or their line could not be written

@@ -47,7 +47,7 @@ pub fn end_with_line<O: Sink>(out: &mut O, line: &[u8], status: Status) -> Resul
     Ok(status)
 }
 
-fn build_status(has_faults: bool) -> Status
+pub fn build_status(has_faults: bool) -> Status
     ensures { result ≡ build_status has_faults }
 {
     if has_faults {
@@ -227,7 +227,7 @@ pub fn build<R: Runner, S: Source, H: Shelf, O: Sink, L: Ledger>(
 }
 
 /// The limits of a command's runs.
-fn limits(work: &Work) -> Limits
+pub fn limits(work: &Work) -> Limits
     ensures { result ≡ limits_of work.now }
 {
     Limits {

@@ -100,7 +100,7 @@ fn line(alloc: Global, end: &End) -> Result<Vec<u8>, AllocError>
 }
 
 /// Writes the line of an end, and gives the status.
-fn conclude<O: Sink>(alloc: Global, end: &End, out: &mut O) -> Status
+pub fn conclude<O: Sink>(alloc: Global, end: &End, out: &mut O) -> Status
     ensures status { Concludes end.now result }
     ensures text { (text : List ℕ) (old : Option (List ℕ)) → WritesEarly text end.now old
         (O.held out.old) → Says text result end.now old (O.held out.new) }

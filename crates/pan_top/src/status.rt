@@ -18,12 +18,16 @@ pub enum Status {
     SourceFault,
     /// The shelf failed.
     ShelfFault,
+    /// A line could not be read.
+    LinesFault,
     /// The text could not be written.
     OutFault,
     /// Memory was wanting.
     Memory,
     /// The engine's numbers are spent.
     NumbersSpent,
+    /// A watcher read as many lines as it may.
+    TooManyLines,
     /// The source is past the limits of a scan.
     TooMuch,
 }
@@ -39,9 +43,11 @@ impl Status {
             Status::Usage => 2,
             Status::SourceFault => 3,
             Status::ShelfFault => 4,
+            Status::LinesFault => 6,
             Status::OutFault => 7,
             Status::Memory => 8,
             Status::NumbersSpent => 9,
+            Status::TooManyLines => 10,
             Status::TooMuch => 11,
         }
     }
