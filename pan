@@ -10,6 +10,7 @@ help() {
 pan compiles templates of the Pan language into one JSON profile for each machine.
 
   ./pan build SOURCE OUT [options]    compiles each object template below SOURCE into OUT
+  ./pan watch SOURCE OUT [options]    the same, asked by lines on standard input
       --include LIST                  include directories below SOURCE, joined by `:` (`.` without it)
       --max-iteration N               turns of a loop (10000)
       --max-recursion N               nested calls of functions (50)

@@ -1,0 +1,215 @@
+#!/usr/bin/env python3
+"""Runs the built program over sources that are made here, and ends with `N passed, M failed`.
+
+    tests/made.py [HISTORIES]      so many random histories of a watcher (200 unless told)
+
+- Four hundred objects that read each other in a chain, in a star and in a circle.
+- A watcher writes the text of a line before it reads the next one.
+- Random histories of a watcher: between its builds files come, go and change. After each build the folder has to
+  hold what a build from scratch makes of the same source, and the faults have to be the same; an object is compiled
+  only where the dependency file of its last build names something that has changed.
+
+The seeds are the numbers of the histories. The program is the one that the variable PAN names, else crates/pan/out/pan.
+"""
+import os
+import random
+import re
+import subprocess
+import sys
+import tempfile
+from pathlib import Path
+
+TOP = Path(__file__).resolve().parent.parent
+PROGRAM = Path(os.environ.get("PAN", TOP / "crates" / "pan" / "out" / "pan")).resolve()
+OBJECTS = 400
+BUILDS = 6
+
+
+def write(folder, name, text):
+    path = folder / name
+    path.parent.mkdir(parents=True, exist_ok=True)
+    path.write_text(text)
+
+
+def shelf_of(folder):
+    return {str(path.relative_to(folder)): path.read_bytes() for path in folder.rglob("*") if path.is_file()}
+
+
+def build(source, out):
+    """The lines of a build, and what it leaves."""
+    ended = subprocess.run([PROGRAM, "build", source, out], capture_output=True, text=True, timeout=120)
+    return ended.stdout.splitlines(), shelf_of(out)
+
+
+def made_site(folder, reads):
+    """Builds objects of which each reads the ones that are named, and gives the lines and the profiles."""
+    for name, others in reads.items():
+        lines = "".join(f"'/sum' = value('/sum') + value('{other}:/sum');\n" for other in others)
+        write(folder / "source", f"{name}.pan", f"object template {name};\n'/sum' = 1;\n{lines}")
+    return build(folder / "source", folder / "out")
+
+
+def chain_star_and_circle(folder):
+    names = [f"h{n:03}" for n in range(OBJECTS)]
+    lines, shelf = made_site(folder / "chain", {name: names[n + 1 : n + 2] for n, name in enumerate(names)})
+    yield "a chain", lines[-1] == f"objects {OBJECTS} ok {OBJECTS} faults 0 run {OBJECTS}"
+    yield "each of a chain", all(
+        shelf[f"{name}.json"] == b'{"sum":%d}\n' % (OBJECTS - n) for n, name in enumerate(names)
+    )
+    lines, shelf = made_site(folder / "star", {name: names[1:51] if n == 0 else names[:1] if n > 50 else [] for n, name in enumerate(names)})
+    yield "a star", lines[-1] == f"objects {OBJECTS} ok {OBJECTS} faults 0 run {OBJECTS}"
+    yield "the middle of a star", shelf["h000.json"] == b'{"sum":51}\n'
+    yield "the others of a star", shelf["h399.json"] == b'{"sum":52}\n'
+    lines, shelf = made_site(folder / "circle", {name: [names[(n + 1) % OBJECTS]] for n, name in enumerate(names)})
+    yield "a circle", lines[-1] == f"objects {OBJECTS} ok 0 faults {OBJECTS} run {OBJECTS}"
+    wanted = [f"fault {name} F31 {name}.pan:3:26 {names[(n + 1) % OBJECTS]}" for n, name in enumerate(names)]
+    yield "each of a circle", lines[OBJECTS:-1] == wanted and not shelf
+
+
+class Watcher:
+    def __init__(self, source, out):
+        words = [PROGRAM, "watch", source, out]
+        self.process = subprocess.Popen(words, stdin=subprocess.PIPE, stdout=subprocess.PIPE, text=True, bufsize=1)
+
+    def ask(self, line, last):
+        """What is written for a line, to the line that ends it."""
+        self.process.stdin.write(line + "\n")
+        self.process.stdin.flush()
+        said = []
+        while not said or not re.match(last, said[-1]):
+            said.append(self.process.stdout.readline().rstrip("\n"))
+            if said[-1] == "" and self.process.poll() is not None:
+                raise RuntimeError(f"the watcher ended at {line}: {said}")
+        return said
+
+    def quit(self):
+        self.process.stdin.write("quit\n")
+        self.process.stdin.close()
+        return self.process.wait(timeout=60)
+
+
+def answers_before_it_asks(folder):
+    write(folder / "source", "h.pan", "object template h;\n'/a' = 1;\n")
+    watcher = Watcher(folder / "source", folder / "out")
+    yield "a scan", watcher.ask("scan", "files") == ["files 1 objects 1"]
+    yield "what is pending", watcher.ask("show h", "pending|profile") == ["pending"]
+    yield "a build", watcher.ask("build", "objects")[-1] == "objects 1 ok 1 faults 0 run 1"
+    write(folder / "source", "h.pan", "object template h;\n'/a' = 2;\n")
+    yield "a build of a change", watcher.ask("build", "objects")[0] == "run h"
+    yield "why", watcher.ask("why h", ".") == ["changed file h.pan"]
+    yield "what is shown", watcher.ask("show h", "profile") == ['profile {"a":2}']
+    yield "a watcher's end", watcher.quit() == 0
+
+
+def random_template(random, kind, name):
+    """A template that includes, looks for, and reads a few of the same small set of names."""
+    lines = [f"{kind}template {name};"]
+    if kind and random.random() < 0.5:
+        prefixes = random.choice(["'p'", "'p', 'q'", "'q'"])
+        lines.append(f"variable LOADPATH = list({prefixes});")
+    for _ in range(random.randrange(4)):
+        other, part = random.choice("abcde"), random.choice("xyz")
+        lines.append(
+            random.choice(
+                [
+                    f"'/{part}' = {random.randrange(3)};",
+                    f"'/{part}' ?= value('{other}:/{random.choice('xyz')}');",
+                    f"'/{part}' = exists('{other}:/{random.choice('xyz')}');",
+                    f"include {{ if_exists('t{random.randrange(3)}') }};",
+                    f"include 't{random.randrange(3)}';",
+                    f"'/{part}' = file_exists('f{random.randrange(2)}');",
+                    f"bind '/{part}' = long;",
+                    f"valid '/{part}' = exists('{other}:/x');",
+                ]
+            )
+        )
+    return "\n".join(lines) + "\n"
+
+
+def change(random, source):
+    """One file comes, goes or changes."""
+    name = random.choice(["a", "b", "c", "d", "e", "t0", "t1", "t2", "p/t0", "q/t1", "p/t2", "f0", "f1"])
+    path = source / (name if name.startswith("f") else f"{name}.pan")
+    if path.exists() and random.random() < 0.3:
+        path.unlink()
+    elif name.startswith("f"):
+        write(source, name, str(random.randrange(3)))
+    elif name in "abcde":
+        write(source, f"{name}.pan", random_template(random, "object ", name))
+    else:
+        write(source, f"{name}.pan", random_template(random, "", name.split("/")[-1]))
+
+
+def has_changed(deps, before, now, answers_before, answers_now):
+    """Whether a dependency file names a file or an object that is another one now."""
+    for line in deps.decode().splitlines():
+        kind, name = line.split(" ", 1)
+        old, new = (answers_before, answers_now) if kind == "object" else (before, now)
+        # An object that has a fault may have been read all the same: others see its tree before its check.
+        if old.get(name) != new.get(name) or (kind == "object" and isinstance(old.get(name), str)):
+            return True
+    return False
+
+
+def answers_of(lines, shelf):
+    """What each object came to: its profile, or its fault."""
+    answers = {name[:-5]: text for name, text in shelf.items() if name.endswith(".json")}
+    for line in lines:
+        if line.startswith("fault "):
+            answers[line.split(" ")[1]] = line
+    return answers
+
+
+def history(number):
+    dice = random.Random(number)
+    with tempfile.TemporaryDirectory() as room:
+        folder = Path(room)
+        source, out = folder / "source", folder / "out"
+        source.mkdir()
+        for _ in range(12):
+            change(dice, source)
+        watcher = Watcher(source, out)
+        old_files, old_shelf, old_answers = {}, {}, {}
+        for turn in range(BUILDS):
+            said = watcher.ask("build", "objects")
+            scratch_said, scratch = build(source, folder / f"scratch{turn}")
+            faults = [line for line in said if line.startswith("fault ")]
+            if faults != [line for line in scratch_said if line.startswith("fault ")]:
+                return f"build {turn}: {said}, from scratch {scratch_said}"
+            if shelf_of(out) != scratch:
+                return f"build {turn}: the profiles differ from those from scratch"
+            files, answers = shelf_of(source), answers_of(said, scratch)
+            for line in said:
+                name = line[4:] if line.startswith("run ") else ""
+                deps = old_shelf.get(f"{name}.dep")
+                if deps and not has_changed(deps, old_files, files, old_answers, answers):
+                    return f"build {turn}: {name} was compiled, and nothing that it read has changed"
+            old_files, old_shelf, old_answers = files, scratch, answers
+            for _ in range(dice.randrange(4)):
+                change(dice, source)
+        watcher.quit()
+    return ""
+
+
+def main(words):
+    if not PROGRAM.is_file():
+        print(f"no program at {PROGRAM}: build it, or name it in the variable PAN")
+        return 2
+    passed = failed = 0
+    for part in (chain_star_and_circle, answers_before_it_asks):
+        with tempfile.TemporaryDirectory() as room:
+            for name, is_well in part(Path(room)):
+                passed, failed = passed + is_well, failed + (not is_well)
+                if not is_well:
+                    print(f"FAILED {name}")
+    for number in range(int(words[0]) if words else 200):
+        why = history(number)
+        passed, failed = passed + (not why), failed + bool(why)
+        if why:
+            print(f"FAILED history {number}: {why}")
+    print(f"{passed} passed, {failed} failed")
+    return 1 if failed else 0
+
+
+if __name__ == "__main__":
+    sys.exit(main(sys.argv[1:]))
