@@ -1,7 +1,7 @@
 -- The fault codes: their numbers, and how they are printed.
 use Rattle.std.specs.Prelude.{ℕ, List, codes}
 use Rattle.pan_ast.specs.declared.fault.Code.{Code}
-use Rattle.pan_ast.specs.declared.fault.Code.TheVariants.{BadCharacter, NotUtf8, OpenText, Double, IntegerTooLarge, BadSyntax, TooDeep, TypeClash, Overflow, ZeroDivisor, BadArgument, BadPattern, BadIndex, TooLarge, Final, BadPath, GlobalChange, NoVariable, NoFunction, Iterations, CallDepth, WorkSpent, UserError, NotBoolean, SelfChange, NoPath, NoObject, ForeignFailed, Circular, NoType, Redefined, BadRange, WrongType, OutOfRange, MissingField, ExtraField, FalseTest, FalseValid, UndefLeft, NoBoundPath, NoTemplate, WrongKind, WrongStatement, WrongTemplate, IncludeDepth, FileTooLong, NotSupported}
+use Rattle.pan_ast.specs.declared.fault.Code.TheVariants.{BadCharacter, NotUtf8, OpenText, Double, IntegerTooLarge, BadSyntax, TooDeep, TypeClash, Overflow, ZeroDivisor, BadArgument, BadPattern, BadIndex, TooLarge, Final, BadPath, GlobalChange, NoVariable, NoFunction, Iterations, CallDepth, WorkSpent, UserError, NotBoolean, SelfChange, NoPath, NoObject, ForeignFailed, Circular, NoType, Redefined, BadRange, WrongType, OutOfRange, MissingField, ExtraField, FalseTest, FalseValid, UndefLeft, NoBoundPath, NoTemplate, WrongKind, WrongStatement, WrongTemplate, IncludeDepth, FileTooLong}
 
 abbrev pub code_text : Code → List ℕ
 code_text BadCharacter = codes "F01"
@@ -50,7 +50,6 @@ code_text WrongStatement = codes "F45"
 code_text WrongTemplate = codes "F46"
 code_text IncludeDepth = codes "F47"
 code_text FileTooLong = codes "F48"
-code_text NotSupported = codes "F99"
 
 abbrev pub code_number : Code → ℕ
 code_number BadCharacter = 1
@@ -99,4 +98,3 @@ code_number WrongStatement = 45
 code_number WrongTemplate = 46
 code_number IncludeDepth = 47
 code_number FileTooLong = 48
-code_number NotSupported = 99

@@ -105,12 +105,10 @@ pub enum Code {
     IncludeDepth = 47,
     /// F48: a file over its length. The detail is the file.
     FileTooLong = 48,
-    /// F99: a form of template that this version of the compiler does not support.
-    NotSupported = 99,
 }
 
 impl Code {
-    /// The number of the code: 1 to 7, 10 to 48, or 99.
+    /// The number of the code: 1 to 7, or 10 to 48.
     pub fn number(self) -> u8
         ensures { result ≡ code_number self }
     {
@@ -168,7 +166,6 @@ impl Code {
             Code::WrongTemplate => "F46",
             Code::IncludeDepth => "F47",
             Code::FileTooLong => "F48",
-            Code::NotSupported => "F99",
         }
     }
 }
