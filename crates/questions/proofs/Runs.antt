@@ -14,7 +14,8 @@ use Rattle.questions.specs.Told.{keys_of, Ending, meter_of, answer_by, whole, wo
 use Rattle.questions.proofs.Process.{Process, Over, Question, walk, walk_on, held, EndsCircular, Either, IsLawful}
 use Rattle.questions.proofs.Lawful.{Lawful}
 use Rattle.questions.proofs.Told.{Extends, StopsAt, is_asking, stops_at, ends_later, same_end, asked_stays, fault_plain}
-use Rattle.questions.proofs.Same.{with_new, with_old, answer_new, answer_old, key_same}
+use Rattle.questions.proofs.Same.{with_new, with_old, answer_new, answer_old}
+use Rattle.questions.specs.KeyLaws.{key_same}
 
 longer : (qs : List (Key × Content)) (k : Key) (c : Content) → answer_in qs k ≡ None → Extends (answer_in qs) (answer_in ((k, c) ∷ qs))
 longer qs k c none = record { same = λ j d some. answer_old k j c d qs none some }

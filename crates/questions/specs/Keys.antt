@@ -1,5 +1,7 @@
--- When two keys are one, and what they ask for.
-use Rattle.std.specs.Prelude.{ℕ, List, [], ◌∷◌, Option, Some, None, Bool, true, false, ◌&&◌, ◌==◌}
+-- When two keys are one, what they ask for, and what a hash reads of them.
+use Rattle.std.specs.Prelude.{ℕ, List, [], ◌∷◌, ◌++◌, Option, Some, None, Bool, true, false, ◌&&◌, ◌==◌}
+use Rattle.std.specs.Hash as fed
+use Rattle.std.specs.Hash.{HashWrites}
 use Rattle.std.specs.Str.{bytes_eq}
 use Rattle.path_tree.specs.declared.path.Term.{Term}
 use Rattle.path_tree.specs.declared.path.Term.TheVariants as term
@@ -31,3 +33,16 @@ file_of (Under object terms) = None
 abbrev pub object_of : Key → Option (List ℕ)
 object_of (File name) = None
 object_of (Under object terms) = Some object
+
+-- what is fed to a hash
+abbrev pub term_fed : Term → HashWrites
+term_fed (term.Key k) = fed.str k
+term_fed (term.Index i) = fed.u32 i
+
+abbrev pub terms_fed : List Term → HashWrites
+terms_fed [] = []
+terms_fed (t ∷ ts) = term_fed t ++ terms_fed ts
+
+abbrev pub key_fed : Key → HashWrites
+key_fed (File name) = fed.str name
+key_fed (Under object terms) = fed.str object ++ terms_fed terms

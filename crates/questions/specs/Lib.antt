@@ -5,3 +5,5 @@ pub mod Contents
 pub mod Run
 pub mod Laws
 pub mod Told
+-- What inner contracts use.
+pub mod KeyLaws

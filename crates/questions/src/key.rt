@@ -1,8 +1,11 @@
-ghost use Rattle.std.specs.Prelude.{◌≡◌, ◌==◌, option_copied};
-ghost use Rattle.questions.specs.Keys.{key_eq, term_eq, terms_eq, file_of, object_of};
+ghost use Rattle.std.specs.Prelude.{◌≡◌, ◌==◌, fold, option_copied};
+ghost use Rattle.std.specs.Cmp.{partial_equiv_from_equiv};
+ghost use Rattle.questions.specs.KeyLaws.{key_alike, key_equivalence};
+ghost use Rattle.questions.specs.Keys.{file_of, key_eq, key_fed, object_of, term_eq, term_fed, terms_eq, terms_fed};
 
 use base::{Seq, Text};
 use path_tree::{Name, Term};
+use std::hash::{Hash, Hasher};
 
 /// What a run asks for: a file by its name, or what stands at terms in the tree of an object.
 #[derive(Debug, Drop)]
@@ -72,6 +75,55 @@ impl Key {
         match self {
             Key::File(_) => None,
             Key::Under { object, .. } => Some(object),
+        }
+    }
+}
+
+impl PartialEq for Key {
+    ghost eq = { key_eq };
+
+    ghost laws = { partial_equiv_from_equiv key_equivalence };
+
+    fn eq(&self, other: &Key) -> bool {
+        self.is_same(other)
+    }
+}
+
+impl Eq for Key {
+    ghost laws = { key_equivalence };
+}
+
+fn hash_term<H: Hasher>(term: &Term, state: &mut H)
+    ensures { state.new ≡ fold H.write state.old (term_fed term.now) }
+{
+    match term {
+        Term::Key(key) => key.as_str().hash(state),
+        Term::Index(index) => state.write_u32(*index),
+    }
+}
+
+fn hash_terms<H: Hasher>(terms: &[Term], state: &mut H)
+    ensures { state.new ≡ fold H.write state.old (terms_fed terms.now) }
+{
+    let [first, rest @ ..] = terms else {
+        return;
+    };
+    hash_term(first, state);
+    hash_terms(rest, state);
+}
+
+impl Hash for Key {
+    ghost hash_input = { key_fed };
+
+    ghost respects_eq = { key_alike };
+
+    fn hash<H: Hasher>(&self, state: &mut H) {
+        match self {
+            Key::File(name) => name.hash(state),
+            Key::Under { object, terms } => {
+                object.as_str().hash(state);
+                hash_terms(terms.as_slice(), state);
+            }
         }
     }
 }
