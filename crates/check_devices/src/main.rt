@@ -9,8 +9,8 @@ ghost use Rattle.outside.specs.Pictures.{are_pictures};
 use anyhow::Result;
 use base::{Bytes, Seq, Text};
 use outside::{
-    Got, HostShelf, HostSink, HostSource, MemFile, MemShelf, MemSink, MemSource, Shelf, Sink,
-    Source, StoreError, SureShelf, SureSink, SureSource, are_distinct,
+    Got, HostShelf, HostSink, HostSource, KeepingSink, MemFile, MemShelf, MemSink, MemSource,
+    Shelf, Sink, Source, StoreError, SureShelf, SureSink, SureSource, are_distinct,
 };
 use std::alloc::{AllocError, Global};
 use std::io::{ErrorKind, Write};
@@ -204,7 +204,7 @@ fn listed<H: Shelf>(alloc: Global, shelf: &mut H, root: &str) -> Result<String, 
 fn print_folders(rt: &HostRuntime) -> Result<()> {
     let alloc = rt.alloc();
     println!(rt; "a shelf of the host")?;
-    let mut shelf = HostShelf::new(rt.clone()?);
+    let mut shelf = HostShelf::new(rt.clone()?, None);
     print_seen(rt, kept(alloc, &mut shelf, "folder/out"), shelf.faults())?;
     println!(rt; "names come in byte order")?;
     print_seen(rt, listed(alloc, &mut shelf, "names"), shelf.faults())?;
@@ -219,10 +219,51 @@ fn print_folders(rt: &HostRuntime) -> Result<()> {
     Ok(())
 }
 
+// Opens a shelf at its source, at a folder that holds it, below it, beside it, and at it by a folder that is made.
+fn print_apart(rt: &HostRuntime) -> Result<()> {
+    println!(rt; "a shelf that keeps apart from its source")?;
+    fs::create_dir_all(rt, "apart/source")?;
+    let source = Text::new(rt.alloc(), "apart/source")?;
+    let mut shelf = HostShelf::new(rt.clone()?, Some(source));
+    for root in [
+        "apart/source",
+        "apart",
+        "apart/source/out",
+        "apart/sour",
+        "apart/new/../source",
+    ] {
+        println!(rt; "{root} {:?}", shelf.open_root(root))?;
+    }
+    if let Some(trouble) = shelf.trouble() {
+        println!(rt; "{}: {}", trouble.path.as_str(), trouble.reason.as_str())?;
+    }
+    println!(rt; "faults {}", shelf.faults())?;
+    fs::remove_dir_all(rt, "apart")?;
+    Ok(())
+}
+
+fn print_kept(rt: &HostRuntime) -> Result<()> {
+    let alloc = rt.alloc();
+    println!(rt; "a sink that keeps what is told of faults")?;
+    let mut sink = KeepingSink::new(alloc, SureSink::new(alloc));
+    for piece in [
+        "run a\nfault a F06 a.pan:1:1\nfau",
+        "lt b F01 b.pan:2:1\nfaults\n",
+    ] {
+        println!(rt; "{}", wrote(&mut sink, piece.as_bytes()))?;
+    }
+    for line in sink.fault_lines() {
+        println!(rt; "{}", str::from_utf8(line.as_slice())?)?;
+    }
+    Ok(())
+}
+
 fn main(rt: HostRuntime) -> Result<()> {
     print_sources(&rt)?;
     print_shelves(&rt)?;
     print_sinks(&rt)?;
     print_narrow(&rt)?;
-    print_folders(&rt)
+    print_folders(&rt)?;
+    print_apart(&rt)?;
+    print_kept(&rt)
 }

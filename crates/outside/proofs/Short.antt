@@ -1,6 +1,6 @@
 -- A file that was read up to one byte more than it may have.
-use Rattle.std.proofs.Common.{◌≡◌, ◌≤◌, ◌+◌, ◌++◌, ℕ, List, [], length, min, true, Option, Some, None, IfSome, refl, ap, ◌∙◌, arith}
-use Rattle.std.specs.Prelude.{nat_le, take, option_map}
+use Rattle.std.proofs.Common.{◌≡◌, ◌≤◌, ◌+◌, ℕ, List, length, min, true, Option, Some, None, IfSome, refl, ap, ◌∙◌, arith}
+use Rattle.std.specs.Prelude.{take, option_map}
 use Rattle.std.proofs.lemmas.Bool.{le-leb}
 use Rattle.std.proofs.lemmas.List.{length-take, take_all}
 use Rattle.base.specs.declared.limits.TheConstants.{MAX_FILE_BYTES}

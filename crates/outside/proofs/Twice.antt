@@ -1,6 +1,6 @@
 -- Names that stand twice.
-use Rattle.std.proofs.Common.{◌≡◌, ◌+◌, ◌-◌, ◌<◌, ◌≤◌, ℕ, suc, zero, Bool, true, false, List, [], ◌∷◌, length, drop, ◌&&◌, ◌||◌, refl, sym, ap, ◌∙◌, arith}
-use Rattle.std.specs.Prelude.{not, bytes_eq, cond, slice_index_or}
+use Rattle.std.proofs.Common.{◌≡◌, ℕ, suc, zero, Bool, true, false, List, [], ◌∷◌, drop, ◌&&◌, ◌||◌, refl}
+use Rattle.std.specs.Prelude.{not, bytes_eq, cond}
 use Rattle.outside.specs.declared.source.MemFile.{MemFile}
 use Rattle.outside.specs.Pictures.{are_distinct, has_name}
 

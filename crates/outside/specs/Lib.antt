@@ -5,6 +5,7 @@ pub mod Cells
 pub mod Changes
 pub mod Lines
 pub mod Contents
+pub mod FaultLines
 -- What the forms in memory are seen as, and what inner contracts use.
 pub mod Calls
 pub mod Reels

@@ -1,5 +1,5 @@
 -- A shelf in memory.
-use Rattle.std.specs.Prelude.{ℕ, List, [], ◌∷◌, ◌++◌, Option}
+use Rattle.std.specs.Prelude.{ℕ, List, Option}
 use Rattle.outside.specs.declared.sure_shelf.Held.{Held}
 use Rattle.outside.specs.declared.shelf.Change.{Change}
 

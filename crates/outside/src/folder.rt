@@ -1,4 +1,5 @@
-ghost use Rattle.std.specs.Prelude.{◌≡◌, ◌≤◌, ◌++◌, ◌∷◌, [], IfOk, IfErr, OnOk, IsErrAnd, IfSome, MatchOption, Some, None, Ok, Err, true, false, string_bytes, codes, length};
+ghost use Rattle.std.specs.Prelude.{◌≡◌, ◌≤◌, ◌++◌, ◌∷◌, [], IfOk, IfErr, OnOk, IsErrAnd, IfSome, MatchOption, Some, None, Ok, Err, true, false, string_bytes, codes, length, IsTrue, ◌↔◌};
+ghost use Rattle.std.specs.Path.{PathStartsWith};
 ghost use Rattle.base.specs.declared.limits.TheConstants.{MAX_FILE_BYTES};
 ghost use Rattle.outside.specs.Pictures.{got_of, read_of};
 ghost use Rattle.std.specs.IoError.{error_kind};
@@ -10,6 +11,7 @@ use base::limits::MAX_FILE_BYTES;
 use std::alloc::{AllocError, Global};
 use std::fs::{DirEntry, File, ReadDir};
 use std::io::{ErrorKind, Read, Write};
+use std::path::Path;
 use std::rt::Files;
 use std::{fs, io};
 
@@ -118,15 +120,17 @@ impl Walk {
         Ok(())
     }
 
-    /// Takes the entries of the folder with this path from the root, where it is still there.
+    /// Takes the entries of the folder with this path from the root, where it is still there. `place` is its path
+    /// from then on.
     fn enter<R: Files + AllocGlobal + Clone + Drop>(
         &mut self,
         rt: &R,
         root: &str,
         folder: &str,
+        place: &mut String,
     ) -> io::Result<()> {
-        let path = path_below(self.alloc, root, folder)?;
-        match unless_absent(fs::read_dir(rt, path.as_str()))? {
+        *place = path_below(self.alloc, root, folder)?;
+        match unless_absent(fs::read_dir(rt, place.as_str()))? {
             Some(entries) => self.list(folder, entries),
             None => Ok(()),
         }
@@ -134,19 +138,21 @@ impl Walk {
 }
 
 /// The regular files of a folder and of all folders below it, by their paths from it, in byte order. A link
-/// at the root is followed, and none below it.
+/// at the root is followed, and none below it. After a failure `place` is the path of the folder that it was about.
 pub(crate) fn files_below<R: Files + AllocGlobal + Clone + Drop>(
     rt: &R,
     root: &str,
+    place: &mut String,
 ) -> io::Result<Vec<Text>> {
     let mut walk = Walk::new(rt.alloc());
+    *place = String::from_str(rt.alloc(), root)?;
     walk.list("", fs::read_dir(rt, root)?)?;
     for _ in 0..u64::MAX {
         let Some(next) = walk.pending.pop() else {
             break;
         };
         if next.as_str().ends_with('/') {
-            walk.enter(rt, root, next.as_str())?;
+            walk.enter(rt, root, next.as_str(), place)?;
         } else {
             walk.names.push(next)?;
         }
@@ -245,6 +251,36 @@ fn write_and_rename<R: Files>(
     file.write_all(bytes)?;
     drop(file);
     fs::rename(rt, hidden, path)
+}
+
+/// Whether a folder is another one or holds it, by their real paths.
+fn is_or_holds(folder: &str, other: &str) -> bool
+    ensures { IsTrue result ↔ PathStartsWith other.now folder.now }
+{
+    Path::new(other).starts_with(folder)
+}
+
+/// Fails where the folder at `path` is the folder `source` or holds it. Links are followed in both. A folder that is
+/// not there holds nothing.
+pub(crate) fn keep_apart<R: Files + AllocGlobal>(
+    rt: &R,
+    path: &str,
+    source: &Option<Text>,
+) -> io::Result<()> {
+    let Some(source) = source else {
+        return Ok(());
+    };
+    let Some(folder) = unless_absent(fs::canonicalize(rt, path))? else {
+        return Ok(());
+    };
+    let source = fs::canonicalize(rt, source.as_str())?;
+    if is_or_holds(folder.as_path().as_str(), source.as_path().as_str()) {
+        return Err(io::Error::new(
+            ErrorKind::InvalidInput,
+            "it is SOURCE, or holds it: profiles need a folder of their own",
+        ));
+    }
+    Ok(())
 }
 
 /// Removes a file, where it is there.

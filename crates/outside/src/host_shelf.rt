@@ -1,36 +1,42 @@
 ghost use Rattle.std.specs.Prelude.{◌≡◌, IfOk, None};
 
 use crate::error::StoreError;
-use crate::faults::Faults;
 use crate::folder;
 use crate::folder::root_of;
 use crate::shelf::Shelf;
+use crate::troubles::{Trouble, Troubles};
 use base::Text;
 use std::alloc::AllocError;
 use std::rt::Files;
 use std::{fs, io};
 
-/// A folder of the host. It tells its root, and nothing of what it holds or of what was done to it.
+/// A folder of the host. It tells its root, and nothing of what it holds or of what was done to it. Its last failure is
+/// kept in words.
 ///
 /// A name is the path of a regular file from the folder. What is neither a folder nor a regular file is
 /// not listed, nor what lies behind a link.
 #[derive(Drop)]
 pub struct HostShelf<R: Files + AllocGlobal + Clone + Drop> {
     rt: R,
+    /// The folder from which files are read, which the shelf may not be or hold.
+    source: Option<Text>,
     root: Option<Text>,
-    faults: Faults,
+    troubles: Troubles,
 }
 
 impl<R: Files + AllocGlobal + Clone + Drop> HostShelf<R> {
-    /// A shelf that is still to be opened.
-    pub fn new(rt: R) -> HostShelf<R>
+    /// A shelf that is still to be opened. It is refused at the folder `source`, and at one that holds it: else files of
+    /// the source that look like the shelf's would be removed.
+    pub fn new(rt: R, source: Option<Text>) -> HostShelf<R>
+        ensures source { result.source ≡ source }
         ensures root { result.root ≡ None }
-        ensures faults { result.faults.count ≡ 0 }
+        ensures faults { result.troubles.faults.count ≡ 0 }
     {
         HostShelf {
             rt,
+            source,
             root: None,
-            faults: Faults::new(),
+            troubles: Troubles::new(),
         }
     }
 
@@ -38,10 +44,19 @@ impl<R: Files + AllocGlobal + Clone + Drop> HostShelf<R> {
         folder::path_below(self.rt.alloc(), root_of(&self.root), name)
     }
 
+    /// The last failure in words; None where there was none, or memory for the words was wanting.
+    pub fn trouble(&self) -> Option<&Trouble> {
+        self.troubles.last()
+    }
+
+    /// Makes the folder where it is missing. One whose path only leads to a folder once parts of it are made, as
+    /// `new/../source`, is judged again then.
     fn make_root(&self, root: &str) -> io::Result<Text>
         ensures { IfOk result (λ made. made ≡ root.now) }
     {
+        folder::keep_apart(&self.rt, root, &self.source)?;
         fs::create_dir_all(&self.rt, root)?;
+        folder::keep_apart(&self.rt, root, &self.source)?;
         Ok(Text::new(self.rt.alloc(), root)?)
     }
 }
@@ -55,10 +70,10 @@ impl<R: Files + AllocGlobal + Clone + Drop> Shelf for HostShelf<R> {
 
     ghost changes = { λ _. None };
 
-    ghost fault_count = { λ s. s.faults.count };
+    ghost fault_count = { λ s. s.troubles.faults.count };
 
     fn faults(&self) -> u64 {
-        self.faults.count()
+        self.troubles.count()
     }
 
     fn open_root(&mut self, root: &str) -> Result<(), StoreError> {
@@ -67,17 +82,18 @@ impl<R: Files + AllocGlobal + Clone + Drop> Shelf for HostShelf<R> {
                 self.root = Some(root);
                 Ok(())
             }
-            Err(error) => Err(self.faults.judge(&error)),
+            Err(error) => Err(self.troubles.judge(self.rt.alloc(), root, &error)),
         }
     }
 
     fn names(&mut self, into: &mut Vec<Text>) -> Result<(), StoreError> {
-        match folder::files_below(&self.rt, root_of(&self.root)) {
+        let mut place = String::new(self.rt.alloc());
+        match folder::files_below(&self.rt, root_of(&self.root), &mut place) {
             Ok(names) => {
                 *into = names;
                 Ok(())
             }
-            Err(error) => Err(self.faults.judge(&error)),
+            Err(error) => Err(self.troubles.judge(self.rt.alloc(), place.as_str(), &error)),
         }
     }
 
@@ -88,7 +104,7 @@ impl<R: Files + AllocGlobal + Clone + Drop> Shelf for HostShelf<R> {
                 into.truncate(most);
                 Ok(there)
             }
-            Err(error) => Err(self.faults.judge(&error)),
+            Err(error) => Err(self.troubles.judge(self.rt.alloc(), path.as_str(), &error)),
         }
     }
 
@@ -97,7 +113,7 @@ impl<R: Files + AllocGlobal + Clone + Drop> Shelf for HostShelf<R> {
         let path = self.path(name)?;
         match folder::put_file(&self.rt, path.as_str(), bytes) {
             Ok(()) => Ok(()),
-            Err(error) => Err(self.faults.judge(&error)),
+            Err(error) => Err(self.troubles.judge(self.rt.alloc(), path.as_str(), &error)),
         }
     }
 
@@ -106,7 +122,7 @@ impl<R: Files + AllocGlobal + Clone + Drop> Shelf for HostShelf<R> {
         let path = self.path(name)?;
         match folder::remove_file(&self.rt, path.as_str()) {
             Ok(()) => Ok(()),
-            Err(error) => Err(self.faults.judge(&error)),
+            Err(error) => Err(self.troubles.judge(self.rt.alloc(), path.as_str(), &error)),
         }
     }
 }

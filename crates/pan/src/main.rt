@@ -36,7 +36,7 @@ fn run<L: Ledger>(rt: &HostRuntime, blank: Blank) -> Result<Status, AllocError>
     };
     let mut runner = Library::new(rt.alloc());
     let mut source = HostSource::new(rt.clone()?);
-    let mut shelf = HostShelf::new(rt.clone()?);
+    let mut shelf = HostShelf::new(rt.clone()?, None);
     let mut out = HostSink::new(rt.stdout());
     let mut steps = Steps::<L>::new(blank);
     let Some(work) = watch_work(rt.alloc(), &words)? else {

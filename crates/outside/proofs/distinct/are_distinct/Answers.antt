@@ -1,5 +1,5 @@
-use Rattle.std.proofs.Common.{◌≡◌, ◌-◌, ◌∷◌, true, false, drop, sym, ap, ◌∙◌, arith, rules}
-use Rattle.std.specs.Prelude.{bytes_eq, cond}
+use Rattle.std.proofs.Common.{◌≡◌, ◌-◌, ◌∷◌, true, false, drop, sym, ◌∙◌, arith, rules}
+use Rattle.std.specs.Prelude.{bytes_eq}
 use Rattle.std.specs.HashSet.{contains}
 use Rattle.std.proofs.lemmas.Grind.{common_steps}
 use Rattle.outside.specs.Pictures.{has_name}

@@ -1,5 +1,4 @@
-use Rattle.std.proofs.Common.{◌≡◌, ◌≤◌, ℕ, List, length, refl, arith, IfSome}
-use Rattle.std.specs.Prelude.{option_map, take}
+use Rattle.std.proofs.Common.{◌≤◌, length, refl, arith}
 use Rattle.base.specs.declared.limits.TheConstants.{MAX_FILE_BYTES}
 use Rattle.outside.proofs.Short.{short_told}
 use Rattle.outside.proofs.folder.read_short.Goals as goal
