@@ -17,7 +17,7 @@ use base::{Bytes, Seq, Steps, Text};
 use outside::{
     Held, MemFile, MemLines, MemShelf, MemSink, MemSource, Shelf, Sink, Source, are_distinct,
 };
-use pan_top::{pan, watch, watch_work};
+use pan_top::pan;
 use std::alloc::{AllocError, Global};
 use std::marker::Brand;
 use std::mem;
@@ -112,24 +112,6 @@ fn print_shelf(rt: &HostRuntime, held: &[Held]) -> Result<()> {
     Ok(())
 }
 
-/// Calls the compiler, and gives the exit status.
-fn compile<L: Ledger>(
-    alloc: Global,
-    words: &[Text],
-    runner: &mut Written,
-    source: &mut MemSource,
-    shelf: &mut MemShelf,
-    lines: &mut MemLines,
-    sink: &mut MemSink,
-    steps: &mut Steps<L>,
-) -> Result<u8, AllocError> {
-    let status = match watch_work(alloc, words)? {
-        Some(work) => watch(alloc, &work, runner, source, shelf, lines, sink, steps),
-        None => pan(alloc, words, runner, source, shelf, sink, steps),
-    };
-    Ok(status.exit_code())
-}
-
 fn run<L: Ledger>(rt: &HostRuntime, case: Case, words: &str, steps: &mut Steps<L>) -> Result<()> {
     let alloc = rt.alloc();
     let Case {
@@ -152,7 +134,7 @@ fn run<L: Ledger>(rt: &HostRuntime, case: Case, words: &str, steps: &mut Steps<L
     let mut lines = MemLines::new(lines, lines_fails);
     let mut sink = MemSink::new(alloc, sink_fails);
     let words = words_of(alloc, words)?;
-    let status = compile(
+    let status = pan(
         alloc,
         &words,
         &mut runner,
@@ -161,10 +143,10 @@ fn run<L: Ledger>(rt: &HostRuntime, case: Case, words: &str, steps: &mut Steps<L
         &mut lines,
         &mut sink,
         steps,
-    )?;
+    );
     print!(rt;
         "status {} faults {} {} {} runs {}\n{}",
-        status,
+        status.exit_code(),
         source.faults(),
         shelf.faults(),
         sink.faults(),

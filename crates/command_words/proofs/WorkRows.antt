@@ -1,7 +1,7 @@
 -- Written values of options.
 use Rattle.std.proofs.Common.{◌≡◌, ℕ, List, [], ◌∷◌, Option, Some, None, refl, codes}
-use Rattle.command_words.specs.Commands.{limit_of, directories_of}
-use Rattle.command_words.specs.declared.limits.TheConstants.{MAX_ITERATIONS, DEFAULT_ITERATIONS, MAX_RECURSION, DEFAULT_RECURSION}
+use Rattle.command_words.specs.Commands.{limit_of, directories_of, number_given}
+use Rattle.command_words.specs.declared.limits.TheConstants.{MAX_ITERATIONS, DEFAULT_ITERATIONS, MAX_RECURSION, DEFAULT_RECURSION, MAX_MACHINES, MAX_START}
 
 abbrev recursion : List ℕ → Option ℕ
 recursion text = limit_of MAX_RECURSION DEFAULT_RECURSION (Some text)
@@ -60,3 +60,22 @@ hidden = refl
 
 rooted : directories_of (Some (codes "/a")) ≡ None
 rooted = refl
+
+-- COUNT and START of a demo
+most_machines : number_given 1 MAX_MACHINES (Some (codes "2000")) ≡ Some 2000
+most_machines = refl
+
+too_many_machines : number_given 1 MAX_MACHINES (Some (codes "2001")) ≡ None
+too_many_machines = refl
+
+no_machine : number_given 1 MAX_MACHINES (Some (codes "0")) ≡ None
+no_machine = refl
+
+largest_start : number_given 0 MAX_START (Some (codes "18446744073709551615")) ≡ Some 18446744073709551615
+largest_start = refl
+
+too_large_start : number_given 0 MAX_START (Some (codes "18446744073709551616")) ≡ None
+too_large_start = refl
+
+not_given_start : number_given 0 MAX_START None ≡ None
+not_given_start = refl

@@ -1,10 +1,14 @@
--- What the values of the words say, for `build` and `watch`.
-use Rattle.std.specs.Prelude.{ℕ, ◌==◌, Bool, List, [], ◌∷◌, Option, Some, None, ◌&&◌, ◌||◌, if◌then◌else◌, nat_le, nat_lt, length, map, bytes_eq, codes}
+-- What the words ask for.
+use Rattle.std.specs.Prelude.{ℕ, ◌==◌, Bool, false, List, [], ◌∷◌, Option, Some, None, is_some, option_map, ◌&&◌, ◌||◌, if◌then◌else◌, nat_le, nat_lt, length, map, bytes_eq, codes}
 use Rattle.std.specs.List.{list_all, slice_split}
 use Rattle.load_path.specs.FileNames.{is_file_name}
 use Rattle.numbers.specs.Numbers.{number_of}
+use Rattle.command_words.specs.TheCommand.{given_of}
+use Rattle.command_words.specs.declared.commands.Command.{Command}
+use Rattle.command_words.specs.declared.commands.Command.TheVariants.{Build, Watch, Demo}
+use Rattle.command_words.specs.declared.commands.Demonstration.{Demonstration}
 use Rattle.command_words.specs.declared.commands.Work.{Work}
-use Rattle.command_words.specs.declared.limits.TheConstants.{MAX_PARTS, MAX_ITERATIONS, DEFAULT_ITERATIONS, MAX_RECURSION, DEFAULT_RECURSION}
+use Rattle.command_words.specs.declared.limits.TheConstants.{MAX_PARTS, MAX_ITERATIONS, DEFAULT_ITERATIONS, MAX_RECURSION, DEFAULT_RECURSION, MAX_MACHINES, MAX_START}
 use Rattle.command_words.specs.declared.words.Words.{Words}
 
 -- a number in decimal digits without a leading zero, from low to high
@@ -77,3 +81,48 @@ abbrev pub work_of : Words → Option Work
 work_of w =
     work_with (filled w.source) (filled w.out) (directories_of w.include) (iterations_of w)
     (recursion_of w)
+
+-- a word that is a number, from low to high
+abbrev pub number_given : ℕ → ℕ → Option (List ℕ) → Option ℕ
+number_given low high None = None
+number_given low high (Some text) = number_within low high text
+
+abbrev pub demonstration_with : Option ℕ → Option ℕ → Option ℕ → Option ℕ → Option Demonstration
+demonstration_with None start iterations recursion = None
+demonstration_with (Some count) None iterations recursion = None
+demonstration_with (Some count) (Some start) None recursion = None
+demonstration_with (Some count) (Some start) (Some iterations) None = None
+demonstration_with (Some count) (Some start) (Some iterations) (Some recursion) =
+    Some (record {
+      count = count;
+      start = start;
+      iterations = iterations;
+      recursion = recursion;
+    })
+
+-- what `demo` works on: SOURCE is the count of its machines, OUT its start number, and it has no
+-- directories
+abbrev pub demonstration_of : Words → Option Demonstration
+demonstration_of w = if is_some w.include then None
+    else demonstration_with (number_given 1 MAX_MACHINES w.source)
+    (number_given 0 MAX_START w.out) (iterations_of w) (recursion_of w)
+
+abbrev pub is_word : List ℕ → Option (List ℕ) → Bool
+is_word word None = false
+is_word word (Some given) = bytes_eq given word
+
+-- the command, by MODE
+abbrev pub command_by : Words → Option Command
+command_by w =
+    if is_word (codes "build") w.mode then option_map Build (work_of w)
+    else if is_word (codes "watch") w.mode then option_map Watch (work_of w)
+    else if is_word (codes "demo") w.mode then option_map Demo (demonstration_of w)
+    else None
+
+abbrev pub command_in : Option Words → Option Command
+command_in None = None
+command_in (Some w) = command_by w
+
+-- the command that the words are, or None where they are none
+unfoldable pub command_of : List (List ℕ) → Option Command
+command_of words = command_in (given_of words)

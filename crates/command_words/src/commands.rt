@@ -1,11 +1,15 @@
-ghost use Rattle.std.specs.Prelude.{◌≡◌, ◌<◌, ◌-◌, ◌^◌, IfOk, Some, map};
+ghost use Rattle.std.specs.Prelude.{◌≡◌, ◌<◌, ◌≤◌, ◌+◌, ◌-◌, ◌*◌, ◌^◌, IfOk, MatchOption, Some, map};
+ghost use Rattle.std.specs.Char.{digit_value};
 ghost use Rattle.std.specs.List.{list_all};
-ghost use Rattle.command_words.specs.Commands.{number_within, limit_of, is_part, directory_of, parts_of, are_parts, directories_among, directories_of, filled, work_of};
+ghost use Rattle.base.specs.Integers.{digits_value};
+ghost use Rattle.command_words.specs.Commands.{number_within, number_given, limit_of, is_part, directory_of, parts_of, are_parts, directories_among, directories_of, filled, within, work_of, demonstration_of, is_word, command_by, command_of};
 
 use crate::limits::{
-    DEFAULT_ITERATIONS, DEFAULT_RECURSION, MAX_ITERATIONS, MAX_PARTS, MAX_RECURSION,
+    DEFAULT_ITERATIONS, DEFAULT_RECURSION, MAX_ITERATIONS, MAX_MACHINES, MAX_PARTS, MAX_RECURSION,
+    MAX_START,
 };
-use crate::words::Words;
+use crate::words::{Words, read};
+use base::ascii::digit_value;
 use base::{Seq, Text};
 use load_path::is_file_name;
 use numbers::number_of;
@@ -22,6 +26,27 @@ pub struct Work {
     pub iterations: u64,
     /// Calls inside one another.
     pub recursion: u64,
+}
+
+/// What `demo` works on.
+#[derive(Clone, Copy, Debug, PartialEq, Eq)]
+pub struct Demonstration {
+    /// How many machines the site has.
+    pub count: u32,
+    /// The number that the site is made from.
+    pub start: u64,
+    /// Turns of one loop.
+    pub iterations: u64,
+    /// Calls inside one another.
+    pub recursion: u64,
+}
+
+/// What the words ask for.
+#[derive(Debug, Drop)]
+pub enum Command {
+    Build(Work),
+    Watch(Work),
+    Demo(Demonstration),
 }
 
 /// The number of a text, where it is one from `low` to `high`.
@@ -130,7 +155,7 @@ fn filled(text: Option<Text>) -> Option<Text>
 /// What `build` and `watch` work on, by the values of their words, or None where one is not of its form. LIST is 1 to
 /// `MAX_PARTS` parts joined by `:`, each `.`, which means the empty directory, or a file name; a number is decimal
 /// digits without a leading zero, from 1 to its limit.
-pub fn read_work(alloc: Global, words: Words) -> Result<Option<Work>, AllocError>
+fn read_work(alloc: Global, words: Words) -> Result<Option<Work>, AllocError>
     ensures { IfOk result (λ work. work ≡ work_of words) }
 {
     let iterations = limit_of(MAX_ITERATIONS, DEFAULT_ITERATIONS, &words.iteration);
@@ -153,5 +178,135 @@ pub fn read_work(alloc: Global, words: Words) -> Result<Option<Work>, AllocError
             }))
         }
         _ => Ok(None),
+    }
+}
+
+/// A number and one more decimal digit, where 64 bits hold it.
+fn with_digit(number: u64, digit: u8) -> Option<u64>
+    ensures { MatchOption result (2 ^ 64 ≤ number * 10 + digit_value digit)
+        (λ more. more ≡ number * 10 + digit_value digit) }
+{
+    let Some(tens) = number.checked_mul(10) else {
+        return None;
+    };
+    tens.checked_add(u64::from(digit_value(digit)))
+}
+
+/// Each number of 64 bits is a start number.
+fn start(number: u64) -> Option<u64>
+    ensures { result ≡ within 0 MAX_START (Some number) }
+{
+    Some(number)
+}
+
+/// The number that decimal digits spell, where 64 bits hold it.
+fn exact_value(digits: &[u8]) -> Option<u64>
+    ensures { result ≡ within 0 MAX_START (Some (digits_value 10 digits.now)) }
+{
+    let mut number = 0u64;
+    for digit in digits {
+        let Some(more) = with_digit(number, *digit) else {
+            return None;
+        };
+        number = more;
+    }
+    start(number)
+}
+
+/// The start number of a demo.
+fn start_of(given: &Option<Text>) -> Option<u64>
+    ensures { result ≡ number_given 0 MAX_START given.now }
+{
+    let Some(text) = given else {
+        return None;
+    };
+    let digits = text.as_str().as_bytes();
+    if number_of(digits).is_none() {
+        return None;
+    }
+    exact_value(digits)
+}
+
+/// How many machines a demo has.
+fn count_of(given: &Option<Text>) -> Option<u32>
+    ensures { result ≡ number_given 1 MAX_MACHINES given.now }
+{
+    let Some(text) = given else {
+        return None;
+    };
+    match number_within(1, MAX_MACHINES, text.as_str()) {
+        Some(count) => Some(count as u32),
+        None => None,
+    }
+}
+
+/// What `demo` works on, by the values of its words.
+fn read_demonstration(words: &Words) -> Option<Demonstration>
+    ensures { result ≡ demonstration_of words.now }
+{
+    if words.include.is_some() {
+        return None;
+    }
+    match (
+        count_of(&words.source),
+        start_of(&words.out),
+        limit_of(MAX_ITERATIONS, DEFAULT_ITERATIONS, &words.iteration),
+        limit_of(MAX_RECURSION, DEFAULT_RECURSION, &words.recursion),
+    ) {
+        (Some(count), Some(start), Some(iterations), Some(recursion)) => Some(Demonstration {
+            count,
+            start,
+            iterations,
+            recursion,
+        }),
+        _ => None,
+    }
+}
+
+fn is_word(word: &str, given: &Option<Text>) -> bool
+    ensures { result ≡ is_word word.now given.now }
+{
+    match given {
+        None => false,
+        Some(given) => given.as_str() == word,
+    }
+}
+
+/// The command, by MODE.
+fn command_by(alloc: Global, words: Words) -> Result<Option<Command>, AllocError>
+    ensures { IfOk result (λ command. command ≡ command_by words) }
+{
+    if is_word("build", &words.mode) {
+        return match read_work(alloc, words)? {
+            Some(work) => Ok(Some(Command::Build(work))),
+            None => Ok(None),
+        };
+    }
+    if is_word("watch", &words.mode) {
+        return match read_work(alloc, words)? {
+            Some(work) => Ok(Some(Command::Watch(work))),
+            None => Ok(None),
+        };
+    }
+    if is_word("demo", &words.mode) {
+        return match read_demonstration(&words) {
+            Some(demonstration) => Ok(Some(Command::Demo(demonstration))),
+            None => Ok(None),
+        };
+    }
+    Ok(None)
+}
+
+/// The command that the words are: `build SOURCE OUT` and `watch SOURCE OUT` with the options `--include`,
+/// `--max-iteration` and `--max-recursion`, or `demo COUNT START` with the last two; None where they are none. The words
+/// are read by `clap`. SOURCE and OUT are not empty. COUNT is a number from 1 to `MAX_MACHINES`, START one from 0 to
+/// `MAX_START`.
+#[tactic(auto, unfolding(crate::specs::Commands::command_of))]
+pub fn read_command(alloc: Global, words: &[Text]) -> Result<Option<Command>, AllocError>
+    ensures { IfOk result (λ command. command ≡ command_of words.now) }
+{
+    match read(alloc, words)? {
+        None => Ok(None),
+        Some(words) => command_by(alloc, words),
     }
 }

@@ -10,3 +10,7 @@ pub const DEFAULT_ITERATIONS: u64 = 10_000;
 pub const MAX_RECURSION: u64 = 200;
 /// Calls inside one another, unless given.
 pub const DEFAULT_RECURSION: u64 = 50;
+/// Machines of a demo.
+pub const MAX_MACHINES: u64 = 2_000;
+/// The start number of a demo.
+pub const MAX_START: u64 = 18_446_744_073_709_551_615;

@@ -1,4 +1,4 @@
-use crate::{read, read_work};
+use crate::{Command, Work, read_command};
 use base::Text;
 use std::alloc::{AllocError, Global};
 use std::test::Fail;
@@ -11,14 +11,17 @@ fn words(alloc: Global, text: &str) -> Result<Vec<Text>, AllocError> {
     Ok(words)
 }
 
+fn work_of(alloc: Global, text: &str) -> Result<Option<Work>, AllocError> {
+    match read_command(alloc, &words(alloc, text)?)? {
+        Some(Command::Build(work) | Command::Watch(work)) => Ok(Some(work)),
+        _ => Ok(None),
+    }
+}
+
 #[test]
 fn reads_directories_and_limits(rt: HostRuntime) -> Result<(), Fail> {
-    let alloc = rt.alloc();
-    let given = read(
-        alloc,
-        &words(alloc, "build s o --include=.:a/b --max-recursion 200")?,
-    )?;
-    let work = read_work(alloc, given.ok_or("a fault of the words")?)?.ok_or("no work")?;
+    let work = work_of(rt.alloc(), "build s o --include=.:a/b --max-recursion 200")?;
+    let work = work.ok_or("no command")?;
     assert_eq!(rt; work.source.as_str(), "s");
     assert_eq!(rt; work.out.as_str(), "o");
     assert_eq!(rt; work.directories.as_slice().len(), 2);
@@ -29,9 +32,19 @@ fn reads_directories_and_limits(rt: HostRuntime) -> Result<(), Fail> {
 
 #[test]
 fn refuses_an_empty_part(rt: HostRuntime) -> Result<(), Fail> {
-    let alloc = rt.alloc();
-    let given = read(alloc, &words(alloc, "watch s o --include=a::b")?)?;
-    let work = read_work(alloc, given.ok_or("a fault of the words")?)?;
+    let work = work_of(rt.alloc(), "watch s o --include=a::b")?;
     assert!(rt; work.is_none());
+    Ok(())
+}
+
+#[test]
+fn reads_the_largest_start_number(rt: HostRuntime) -> Result<(), Fail> {
+    let alloc = rt.alloc();
+    let command = read_command(alloc, &words(alloc, "demo 2000 18446744073709551615")?)?;
+    let Some(Command::Demo(demonstration)) = command else {
+        return Err(Fail::from("no command"));
+    };
+    assert_eq!(rt; demonstration.count, 2000);
+    assert_eq!(rt; demonstration.start, u64::MAX);
     Ok(())
 }

@@ -90,6 +90,7 @@ pub fn take_next<R: Runner, S: Source, L: Ledger>(
     ensures later { S.fault_count source.old ≤ S.fault_count source.new }
     ensures rose { IfOk result (λ how. how ≡ Took.Failed
         → Rose (S.fault_count source.old) (S.fault_count source.new)) }
+    ensures once { S.fault_count source.new ≤ S.fault_count source.old + 1 }
     ensures same { IfOk result (λ how. (how ≡ Took.Failed → ⊥)
         → S.fault_count source.new ≡ S.fault_count source.old) }
 {

@@ -7,21 +7,21 @@ use Rattle.pan_ast.specs.declared.work.Limits.{Limits}
 use Rattle.engine_turns.specs.declared.core_data.Core.{Core}
 use Rattle.rebuild.specs.Engines.{Meanings, turns_left_of}
 use Rattle.session.specs.Machines.{Machine}
-use Rattle.session.specs.Sessions.{Next, GoesOn, SpendsNumbers, IsTooMuch, next, state_in, with_turns, built, reported, started, scanned, answers_in}
+use Rattle.session.specs.Sessions.{Next, GoesOn, SpendsNumbers, IsTooMuch, next, state_in, with_turns, built, reported, started, scanned, answers_in, build_round, ended_by}
 use Rattle.session.specs.Texts.{report}
 use Rattle.compiler.specs.Compiler.{Compiled, compiler, forgotten, nothing}
 use Rattle.compiler.specs.Standing.{Here, Counts, HasSpentAtMost, IsAt, IsIn, MakesTurns, TakesNext, compiled_in}
 use Rattle.compiler.specs.declared.taking.Took.TheVariants as took
 use Rattle.compiler.proofs.Counting.{at_most, at_most_on, no_fewer, spent_none}
 use Rattle.compiler.proofs.Moves.{along}
-use Rattle.demo.specs.Demo.{build_round, shortened, builds, demo_dirs, demo_limits, demo_session, Ends, Breaks}
+use Rattle.demo.specs.Demo.{shortened, builds, demo_dirs, demo_session, Ends, Breaks}
 use Rattle.demo.specs.Pictures.{demo_pictures}
 use Rattle.demo.specs.declared.ends.End.{End}
-use Rattle.demo.specs.declared.ends.Ended.{Ended}
-use Rattle.demo.specs.Played.{Says, Goes, Playing, ended_by}
+use Rattle.session.specs.declared.Ended.{Ended}
+use Rattle.demo.specs.Played.{Says, Goes, Playing}
 use Rattle.demo.specs.Reports.{last_line}
 use Rattle.demo.specs.declared.builds.Step.TheVariants as step
-use Rattle.demo.specs.declared.ends.Ended.TheVariants as ended
+use Rattle.session.specs.declared.Ended.TheVariants as ended
 use Rattle.demo.proofs.Turning.{at_end, shortened_below, builds_rise, grows, part_by, text_by, part_on, nothing_written}
 
 some_same : (a b : List (List MemFile)) → ◌≡◌ {A = Option (List (List MemFile))} (Some a) (Some b) → a ≡ b
@@ -153,11 +153,11 @@ not_begun x start held = record {
   spent = record { no_fewer = omega arith; in_runs = no_fewer (state_in x).runs start.runs; in_steps = omega arith };
 }
 
-module _ {T : Type 0} (M : Meanings T) (count begin : ℕ) (core : Core T) (coming : List (List MemFile)) (start start' now : Counts) (held held' : Option (List ℕ)) (is : IsIn demo_dirs demo_limits core nothing) (told : coming ≡ demo_pictures count begin) (same : start' ≡ start) where
-  pub ended_ok : (r : Result Ended End) → IfOk r (λ how. (dirs : List (List ℕ)) (limits : Limits) (e : Compiled T) (ps : List (List MemFile)) → IsIn dirs limits core e → coming ≡ ps → Ends (builds (compiler (M dirs limits) dirs) 4 (started e ps)) how start' now held held') → IfOk r (λ how. Ends (demo_session M count begin) how start now held held')
-  ended_ok (Ok how) f = subst (λ c. Ends (demo_session M count begin) how c now held held') same (f demo_dirs demo_limits nothing (demo_pictures count begin) is told)
+module _ {T : Type 0} (M : Meanings T) (limits : Limits) (count begin : ℕ) (core : Core T) (coming : List (List MemFile)) (start start' now : Counts) (held held' : Option (List ℕ)) (is : IsIn demo_dirs limits core nothing) (told : coming ≡ demo_pictures count begin) (same : start' ≡ start) where
+  pub ended_ok : (r : Result Ended End) → IfOk r (λ how. (dirs : List (List ℕ)) (limits : Limits) (e : Compiled T) (ps : List (List MemFile)) → IsIn dirs limits core e → coming ≡ ps → Ends (builds (compiler (M dirs limits) dirs) 4 (started e ps)) how start' now held held') → IfOk r (λ how. Ends (demo_session M limits count begin) how start now held held')
+  ended_ok (Ok how) f = subst (λ c. Ends (demo_session M limits count begin) how c now held held') same (f demo_dirs limits nothing (demo_pictures count begin) is told)
   ended_ok (Err e) f = tt
 
-  pub broken_err : (r : Result Ended End) → OnErr r ((dirs : List (List ℕ)) (limits : Limits) (e : Compiled T) (ps : List (List MemFile)) → IsIn dirs limits core e → coming ≡ ps → Breaks (builds (compiler (M dirs limits) dirs) 4 (started e ps)) start' now held held') → OnErr r (Breaks (demo_session M count begin) start now held held')
+  pub broken_err : (r : Result Ended End) → OnErr r ((dirs : List (List ℕ)) (limits : Limits) (e : Compiled T) (ps : List (List MemFile)) → IsIn dirs limits core e → coming ≡ ps → Breaks (builds (compiler (M dirs limits) dirs) 4 (started e ps)) start' now held held') → OnErr r (Breaks (demo_session M limits count begin) start now held held')
   broken_err (Ok how) f = tt
-  broken_err (Err e) f = subst (λ c. Breaks (demo_session M count begin) c now held held') same (f demo_dirs demo_limits nothing (demo_pictures count begin) is told)
+  broken_err (Err e) f = subst (λ c. Breaks (demo_session M limits count begin) c now held held') same (f demo_dirs limits nothing (demo_pictures count begin) is told)

@@ -4,12 +4,12 @@ use Rattle.std.specs.Prelude.{option_map}
 use Rattle.std.proofs.lemmas.List.{take-append-drop}
 use Rattle.outside.specs.Contents.{AppendsPart}
 use Rattle.session.specs.Machines.{Machine}
-use Rattle.session.specs.Sessions.{State, Next, GoesOn, Quits, SpendsNumbers, IsTooMuch, next, state_in, reported, built}
+use Rattle.session.specs.Sessions.{State, Next, GoesOn, Quits, SpendsNumbers, IsTooMuch, build_round, next, state_in, reported, built}
 use Rattle.compiler.specs.Compiler.{Compiled}
 use Rattle.compiler.specs.Standing.{Here, IsBelow, IsRising}
 use Rattle.compiler.proofs.Counting.{turns_rise, below_same}
 use Rattle.compiler.proofs.Scanning.{scan_rises}
-use Rattle.demo.specs.Demo.{build_round, shortened, builds}
+use Rattle.demo.specs.Demo.{shortened, builds}
 use Rattle.demo.specs.Reports.{last_line}
 
 pub below_on : {E : Type 0} (s t u : State E) → IsBelow s t → IsBelow t u → IsBelow s u

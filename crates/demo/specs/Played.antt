@@ -1,22 +1,17 @@
 -- What builds made of a session, against what the engine and the devices hold.
-use Rattle.std.specs.Prelude.{◌≡◌, ℕ, Bool, List, ◌++◌, Option, nat_lt, option_map, if◌then◌else◌}
+use Rattle.std.specs.Prelude.{◌≡◌, ℕ, Bool, List, ◌++◌, Option, nat_lt, option_map}
 use Rattle.compiler.specs.Compiler.{Compiled}
 use Rattle.compiler.specs.Standing.{Here, Counts, HasSpentAtMost, IsAt}
 use Rattle.engine_turns.specs.declared.core_data.Core.{Core}
 use Rattle.outside.specs.declared.source.MemFile.{MemFile}
 use Rattle.pan_ast.specs.declared.work.Limits.{Limits}
 use Rattle.session.specs.Machines.{Machine}
-use Rattle.session.specs.Sessions.{State, Next, GoesOn, SpendsNumbers, IsTooMuch, next, answers_in}
+use Rattle.session.specs.Sessions.{State, Next, GoesOn, SpendsNumbers, IsTooMuch, build_round, next, answers_in}
 use Rattle.session.specs.Texts.{report, faults_in}
-use Rattle.demo.specs.Demo.{build_round, builds}
+use Rattle.demo.specs.Demo.{builds}
 use Rattle.demo.specs.Reports.{last_line}
 use Rattle.demo.specs.declared.builds.Step.{Step}
 use Rattle.demo.specs.declared.builds.Step.TheVariants as step
-use Rattle.demo.specs.declared.ends.Ended.{Ended}
-use Rattle.demo.specs.declared.ends.Ended.TheVariants as ended
-
-abbrev pub ended_by : Bool → Ended
-ended_by has_faults = if has_faults then ended.SomeFaults else ended.Clean
 
 -- what is said of a settled engine
 pub record Says {E : Type 0} (machine : Machine E) (e : E) (has_faults : Bool) (line : List ℕ)

@@ -6,20 +6,20 @@ ghost use Rattle.outside.specs.Contents.{Appends, AppendsPart};
 ghost use Rattle.outside.specs.declared.source.MemFile.{MemFile};
 ghost use Rattle.pan_ast.specs.declared.work.Limits.{Limits};
 ghost use Rattle.rebuild.specs.Engines.{turns_left_of};
-ghost use Rattle.session.specs.Sessions.{next, state_in, started};
-ghost use Rattle.demo.specs.Demo.{build_round, builds, demo_dirs, demo_limits, demo_session, Ends, Breaks, Caused};
-ghost use Rattle.demo.specs.Played.{Goes, Says, ended_by};
+ghost use Rattle.session.specs.Sessions.{build_round, next, state_in, started};
+ghost use Rattle.demo.specs.Demo.{builds, demo_dirs, demo_session, Ends, Breaks, Caused};
+ghost use Rattle.demo.specs.Played.{Goes, Says};
 
-use crate::ends::{End, Ended};
+use crate::ends::End;
 use crate::pictures::pictures;
 use crate::report::last_line;
 use base::{Seq, Steps, Text};
-use command_words::limits::{DEFAULT_ITERATIONS, DEFAULT_RECURSION};
 use compiler::{Took, build, make_turns, start, take_next};
 use outside::{Sink, StoreError, SureSource};
 use pan_ast::Limits;
 use rebuild::Engine;
 use runner::Runner;
+use session::{Ended, ended_by};
 use std::alloc::{AllocError, Global};
 use std::sync::ledger::Ledger;
 
@@ -107,16 +107,6 @@ fn write<O: Sink>(out: &mut O, text: &[u8]) -> Result<(), End>
     }
 }
 
-/// How builds end that were all made.
-fn ended(has_faults: bool) -> Ended
-    ensures { result ≡ ended_by has_faults }
-{
-    if has_faults {
-        return Ended::SomeFaults;
-    }
-    Ended::Clean
-}
-
 /// Makes the builds, one after the other, and writes the last line of each report.
 fn play<R: Runner, O: Sink, L: Ledger>(
     alloc: Global,
@@ -166,7 +156,7 @@ fn play<R: Runner, O: Sink, L: Ledger>(
             Err(end) => return Err(end),
         }
     }
-    Ok(ended(has_faults))
+    Ok(ended_by(has_faults))
 }
 
 /// The root alone.
@@ -178,9 +168,13 @@ fn root(alloc: Global) -> Result<Seq<Text>, AllocError>
     Ok(Seq::from_vec(dirs))
 }
 
-/// An engine without options.
-fn new_engine<R: Runner>(alloc: Global, runner: &mut R) -> Result<Engine<R>, AllocError>
-    ensures at { IfOk result (λ engine. IsIn demo_dirs demo_limits engine.core nothing) }
+/// An engine with these limits.
+fn new_engine<R: Runner>(
+    alloc: Global,
+    runner: &mut R,
+    limits: Limits,
+) -> Result<Engine<R>, AllocError>
+    ensures at { IfOk result (λ engine. IsIn demo_dirs limits engine.core nothing) }
     ensures kept { IfOk result (λ engine. IsKept engine.core) }
     ensures files { IfOk result
         (λ engine. R.files_of runner.new ≡ pictured engine.core.files.items) }
@@ -188,15 +182,11 @@ fn new_engine<R: Runner>(alloc: Global, runner: &mut R) -> Result<Engine<R>, All
     ensures runs { R.runs_of runner.new ≡ R.runs_of runner.old }
 {
     let dirs = root(alloc)?;
-    let limits = Limits {
-        max_iteration: DEFAULT_ITERATIONS,
-        max_recursion: DEFAULT_RECURSION,
-    };
     start(alloc, runner, limits, dirs.as_slice())
 }
 
-/// Four builds of a site of so many machines that is made from a number, in memory and over one engine without options;
-/// the last line of each report is written.
+/// Four builds of a site of so many machines that is made from a number, in memory and over one engine; the last line of
+/// each report is written.
 ///
 /// Before the second build a line is added to the first machine's template, before the third that machine's port is
 /// another one, and before the fourth a line is added to the template that all machines include. Objects are built and
@@ -206,19 +196,20 @@ pub fn demo<R: Runner, O: Sink, L: Ledger>(
     alloc: Global,
     count: u32,
     start: u64,
+    limits: Limits,
     runner: &mut R,
     out: &mut O,
     steps: &mut Steps<L>,
 ) -> Result<Ended, End>
-    ensures ok { IfOk result (λ how. Ends (demo_session R.meaning count start) how
+    ensures ok { IfOk result (λ how. Ends (demo_session R.meaning limits count start) how
         (counts (R.runs_of runner.old) steps.old) (counts (R.runs_of runner.new) steps.new)
         (O.held out.old) (O.held out.new)) }
-    ensures err { OnErr result (Breaks (demo_session R.meaning count start)
+    ensures err { OnErr result (Breaks (demo_session R.meaning limits count start)
         (counts (R.runs_of runner.old) steps.old) (counts (R.runs_of runner.new) steps.new)
         (O.held out.old) (O.held out.new)) }
     ensures out_cause { Caused (O.fault_count out.old) (O.fault_count out.new) result }
 {
     let mut source = SureSource::new(alloc, pictures(alloc, count, start)?);
-    let mut engine = new_engine(alloc, runner)?;
+    let mut engine = new_engine(alloc, runner, limits)?;
     play(alloc, &mut engine, runner, &mut source, out, steps)
 }

@@ -1,6 +1,6 @@
 //! The demo: four builds of a site in memory, each after an edit of it.
 //!
-//! In reading order: `ends` (how a demo ends), `pictures` (the site as a source has it, before each build), `report` (the
+//! In reading order: `ends` (why a demo ends before its builds do), `pictures` (the site as a source has it, before each build), `report` (the
 //! last line of a text), `builds` (the builds, and the public `demo`).
 #![tactic(auto)]
 
@@ -10,4 +10,4 @@ mod pictures;
 mod report;
 
 pub use builds::demo;
-pub use ends::{End, Ended};
+pub use ends::End;

@@ -111,7 +111,7 @@ other_lawful : (may : Key → Type 0) (a : Around) → Fits may a → (p : Place
 other_lawful may a w p o ms here true e h = h
 other_lawful may a w p o ms here false e h = lawful_ask_then may 0 (Under o ms) (looked_under p o) (w.other o ms e) (under_lawful may p o ms)
 
-look_at_lawful : (may : Key → Type 0) (a : Around) → Fits may a → (p : Place) (t : List ℕ) (from : Anchor) (ms : List Term) → Lawful may 1 (look_at a p t from ms)
+pub look_at_lawful : (may : Key → Type 0) (a : Around) → Fits may a → (p : Place) (t : List ℕ) (from : Anchor) (ms : List Term) → Lawful may 1 (look_at a p t from ms)
 look_at_lawful may a w p t anchor.Absolute ms = search pieces
 look_at_lawful may a w p t anchor.Relative ms = search pieces
 look_at_lawful may a w p t (anchor.External o) ms = other_lawful may a w p o ms (give (looked_in (get ms a.root))) (bytes_eq o a.object) refl (lawful_give may 1 _)

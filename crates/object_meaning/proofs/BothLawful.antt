@@ -12,8 +12,7 @@ use Rattle.questions.proofs.Lawful.{Lawful, lawful_scoped}
 use Rattle.questions.proofs.Runs.{run_laws, ran_is, work_is}
 use Rattle.dml_meaning.specs.declared.limits.TheConstants.{MAX_OPEN_ITEMS}
 use Rattle.dml_meaning.specs.Laws.{IsReading}
-use Rattle.dml_meaning.proofs.Leaves.{pieces}
-use Rattle.object_meaning.proofs.AtPaths.{look_at_lawful}
+use Rattle.dml_meaning.proofs.Leaves.{look_at_lawful, pieces}
 use Rattle.dml_meaning.proofs.Create.{dml_lawful}
 use Rattle.dml_meaning.proofs.Items.{eval_lawful}
 use Rattle.defaults.proofs.Lawful.{all_lawful}

@@ -1,2 +1,1 @@
-pub mod AtPaths
 pub mod BothLawful

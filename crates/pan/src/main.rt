@@ -1,5 +1,5 @@
-//! The compiler as a program. It makes a runner of objects and the host's devices, calls `pan_top::watch` where the words
-//! are a watcher's and else `pan_top::pan`, and ends with the call's status.
+//! The compiler as a program. It makes a runner of objects and the host's devices, calls `pan_top::pan`, and ends with
+//! the call's status.
 #![tactic(auto)]
 
 ghost use Rattle.std.specs.Prelude.{◌≡◌, ◌<◌};
@@ -7,7 +7,7 @@ ghost use Rattle.std.specs.Prelude.{◌≡◌, ◌<◌};
 use base::{Steps, Text};
 use object_run::Library;
 use outside::{HostLines, HostShelf, HostSink, HostSource};
-use pan_top::{Status, pan, watch, watch_work};
+use pan_top::{Status, pan};
 use std::alloc::AllocError;
 use std::marker::Brand;
 use std::process::ExitCode;
@@ -37,23 +37,12 @@ fn run<L: Ledger>(rt: &HostRuntime, blank: Blank) -> Result<Status, AllocError>
     let mut runner = Library::new(rt.alloc());
     let mut source = HostSource::new(rt.clone()?);
     let mut shelf = HostShelf::new(rt.clone()?, None);
+    let mut lines = HostLines::new(rt.reader());
     let mut out = HostSink::new(rt.stdout());
     let mut steps = Steps::<L>::new(blank);
-    let Some(work) = watch_work(rt.alloc(), &words)? else {
-        return Ok(pan(
-            rt.alloc(),
-            &words,
-            &mut runner,
-            &mut source,
-            &mut shelf,
-            &mut out,
-            &mut steps,
-        ));
-    };
-    let mut lines = HostLines::new(rt.reader());
-    Ok(watch(
+    Ok(pan(
         rt.alloc(),
-        &work,
+        &words,
         &mut runner,
         &mut source,
         &mut shelf,

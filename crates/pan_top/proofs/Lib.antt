@@ -1,6 +1,5 @@
-pub mod Publishing
-pub mod Ending
-pub mod Taking
-pub mod Settling
-pub mod Finishing
-pub mod Watchers
+pub mod Closing
+pub mod Causing
+pub mod Showing
+pub mod Watching
+pub mod Calling

@@ -1,7 +1,8 @@
--- What a stranger must believe: how a run ends, the words, and the session of a call.
-pub mod Ends
-pub mod Commands
-pub mod Session
-pub mod Watcher
--- What inner contracts use.
-pub mod Rounds
+-- What a stranger must believe: the statuses and their lines; how a build, a watcher and a demo end;
+-- and the call.
+pub mod Statuses
+pub mod Scenes
+pub mod Builds
+pub mod Watches
+pub mod Demos
+pub mod Calls

@@ -1,18 +1,15 @@
-//! The top calls of the compiler. For `build` it reads the words, scans the source, has the engine compile what was
-//! scanned, publishes the profiles and writes the report; for `watch` it works on lines, one after the other.
+//! The top call of the compiler: it reads the words, and builds, watches or shows the demo.
 //!
-//! In reading order: `status` (how a run ends), `words` (the command), `devices` (the calls on what lies outside),
-//! `building` (a build), `run` (the session and `pan`), `watching` (a watcher).
+//! In reading order: `status` (how a call ends), `closing` (the line of an end), `building`, `watching`, `showing`
+//! (the demo), `top` (`pan`).
 #![tactic(auto)]
 
 mod building;
-mod devices;
-mod run;
+mod closing;
+mod showing;
 mod status;
+mod top;
 mod watching;
-mod words;
 
-pub use run::pan;
 pub use status::Status;
-pub use watching::watch;
-pub use words::watch_work;
+pub use top::pan;

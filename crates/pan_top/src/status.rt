@@ -1,9 +1,8 @@
 ghost use Rattle.std.specs.Prelude.{◌≡◌};
-ghost use Rattle.pan_top.specs.declared.status.End.TheVariants.{Memory};
-ghost use Rattle.pan_top.specs.Ends.{status_of, exit_code_of};
+ghost use Rattle.pan_top.specs.Statuses.{exit_code_of, status_after, status_of};
 
-use base::Text;
-use std::alloc::{AllocError, AllocFailed};
+use session::Ended;
+use site_build::End;
 
 /// How a call of the compiler ended.
 #[derive(Clone, Copy, Debug, PartialEq, Eq)]
@@ -51,47 +50,28 @@ impl Status {
             Status::TooMuch => 11,
         }
     }
-}
 
-/// Why a run ended before its session did.
-#[derive(Debug, Drop)]
-pub enum End {
-    /// A call on the source failed.
-    Source,
-    /// The shelf could not be opened or listed.
-    Shelf,
-    /// A call on a name of the shelf failed: the name without its suffix.
-    Publishing(Text),
-    /// A write failed.
-    Out,
-    Memory,
-}
-
-impl End {
-    pub fn status(&self) -> Status
-        ensures { result ≡ status_of self.now }
+    /// The status of a session that came to its end.
+    pub(crate) fn after(ended: Ended) -> Status
+        ensures { result ≡ status_after ended }
     {
-        match self {
+        match ended {
+            Ended::Clean => Status::Clean,
+            Ended::SomeFaults => Status::SomeFaults,
+            Ended::NumbersSpent => Status::NumbersSpent,
+            Ended::TooMuch => Status::TooMuch,
+        }
+    }
+
+    /// The status of a build that ended early.
+    pub(crate) fn of_end(end: &End) -> Status
+        ensures { result ≡ status_of end.now }
+    {
+        match end {
             End::Source => Status::SourceFault,
             End::Shelf | End::Publishing(_) => Status::ShelfFault,
             End::Out => Status::OutFault,
             End::Memory => Status::Memory,
         }
-    }
-}
-
-impl From<AllocError> for End {
-    ghost from_gives = { λ _ e. e ≡ Memory };
-
-    fn from(_e: AllocError) -> End {
-        End::Memory
-    }
-}
-
-impl<T: Drop> From<AllocFailed<T>> for End {
-    ghost from_gives = { λ _ e. e ≡ Memory };
-
-    fn from(_e: AllocFailed<T>) -> End {
-        End::Memory
     }
 }

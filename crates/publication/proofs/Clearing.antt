@@ -1,5 +1,5 @@
 -- Names go one after the other.
-use Rattle.std.proofs.Common.{◌≡◌, ◌≤◌, ℕ, Bool, true, false, List, [], ◌∷◌, ◌++◌, Option, Some, None, is_some, IfSome, not, if◌then◌else◌, ◌||◌, ◌&&◌, ◌⊎◌, inl, inr, refl, sym, ap, ◌∙◌, subst, length, arith}
+use Rattle.std.proofs.Common.{◌≡◌, ◌≤◌, ◌+◌, ℕ, Bool, true, false, List, [], ◌∷◌, ◌++◌, Option, Some, None, is_some, IfSome, not, if◌then◌else◌, ◌||◌, ◌&&◌, ◌⊎◌, inl, inr, refl, sym, ap, ◌∙◌, subst, length, arith}
 use Rattle.std.specs.Prelude.{bytes_eq}
 use Rattle.std.specs.List.{list_any, list_all}
 use Rattle.std.proofs.lemmas.List.{length-append}
@@ -73,6 +73,12 @@ counted None done ts before count later is on rose had = rw (length-append ts []
 counted (Some t) true ts before count later is on rose had = cc
 counted (Some t) false ts before count later is on rose had = rw (length-append ts (t ∷ [])) (omega (arith, on, had, rose refl))
 
+no_more : (o : Option Trouble) (done : Bool) (ts : List Trouble) (before count later : ℕ) → is_some o ≡ not done → later ≤ count + (if done then 0 else 1) → count ≤ before + length ts → later ≤ before + length (ts ++ one_or_none o)
+no_more None true ts before count later is on had = rw (length-append ts []) (omega (arith, on, had))
+no_more None false ts before count later is on had = cc
+no_more (Some t) true ts before count later is on had = cc
+no_more (Some t) false ts before count later is on had = rw (length-append ts (t ∷ [])) (omega (arith, on, had))
+
 module _ (ws : List Want) (m : List ℕ) (rest : List (List ℕ)) (ts new_ts : List Trouble) (before count later : ℕ) (start now new : List ℕ → Cell) where
   other_by : (n : List ℕ) (b : Bool) → goes ws m ≡ true → goes ws n ≡ false → bytes_eq m n ≡ b → b ≡ false
   other_by n true going stays is = let f : true ≡ false = sym going ∙ ap (goes ws) ((bytes_eq-Decides m n).0 is) ∙ stays in cc
@@ -118,6 +124,7 @@ module _ (ws : List Want) (m : List ℕ) (rest : List (List ℕ)) (ts new_ts : L
   sweep_step going c s = subst (λ list. Clearing ws rest list before later start new) (sym s.troubles) (record {
     removals = removals_on c going s.trouble s.on;
     causes = counted s.trouble s.done ts before count later s.is s.came.later s.came.rose c.causes;
+    most = no_more s.trouble s.done ts before count later s.is s.came.most c.most;
     kept = λ n stays. s.came.unsettles n (other_by n (bytes_eq m n) going stays refl) ∙ c.kept n stays;
     gone = λ n gone clear. gone_by n (bytes_eq m n) refl going c s gone clear;
     going = λ n gone. going_by n (bytes_eq m n) refl going c s gone;

@@ -140,6 +140,7 @@ pub placing_begins : (ws : List Want) (ts : List Trouble) (before count : ℕ) (
 placing_begins ws ts before count start now c = record {
   fit = removals_fit ws ts c.removals;
   causes = c.causes;
+  most = c.most;
   stands = λ n. by n (is_some (wanted ws n)) (is_own n) refl refl;
   fresh = λ n some. (removals_keep ws ts n c.removals, removals_open ws ts n c.removals (stays_by ws n (is_own n) refl some));
   same = λ n some. refl;
@@ -160,10 +161,11 @@ pub clearing_begins : (ws : List Want) (names : List (List ℕ)) (p : Publisher)
 clearing_begins ws names p count start covers knows = record {
   removals = refl;
   causes = omega arith;
+  most = omega arith;
   kept = λ n stays. refl;
   gone = λ n going absent. rw (unwanted ws [] n going refl) (absent_at (start n) (get bytes_eq p.own n) (covers n going absent) (knows n (and_left (is_own n) (not (is_some (wanted ws n))) going)));
   going = λ n going. inl refl;
 }
 
 pub placing_done : (ws : List Want) (ts : List Trouble) (before count : ℕ) (start now : List ℕ → Cell) → Placing ws [] ts before count start now → Published ws ts before count start now
-placing_done ws ts before count start now p = record { fit = p.fit; causes = p.causes; stands = λ n. p.stands n }
+placing_done ws ts before count start now p = record { fit = p.fit; causes = p.causes; most = p.most; stands = λ n. p.stands n }

@@ -1,5 +1,5 @@
 -- The two files of an object.
-use Rattle.std.proofs.Common.{◌≡◌, ◌≤◌, ℕ, Bool, true, false, List, [], ◌∷◌, Option, Some, None, is_some, IfSome, ◌⊎◌, inl, inr, refl, sym, ap, ap₂, ◌∙◌, subst, arith}
+use Rattle.std.proofs.Common.{◌≡◌, ◌≤◌, ◌+◌, ℕ, Bool, true, false, List, [], ◌∷◌, Option, Some, None, is_some, IfSome, ◌⊎◌, inl, inr, refl, sym, ap, ap₂, ◌∙◌, subst, arith}
 use Rattle.std.specs.Prelude.{bytes_eq, option_map}
 use Rattle.outside.specs.Causes.{Rose}
 use Rattle.outside.specs.Cells.{Cell, with_content, Sets, AllBut}
@@ -13,7 +13,7 @@ use Rattle.publication.specs.OwnNames.{json_name, dep_name}
 use Rattle.publication.specs.Wants.{wants_of, proper}
 use Rattle.publication.specs.Stands.{Meets}
 use Rattle.publication.specs.Troubles.{is_removal}
-use Rattle.publication.specs.Published.{Left, BringsFile, BringsProfile, Partly, IsOn, call_of, placed, one_or_none}
+use Rattle.publication.specs.Published.{Left, BringsFile, BringsProfile, Partly, IsOn, call_of, failures, placed, one_or_none}
 use Rattle.publication.proofs.Proper.{two_names}
 
 abbrev at_json : Profile → Call → Trouble
@@ -56,6 +56,7 @@ pub json_failed : (p : Profile) (t : Trouble) (before now : ℕ) (old new : List
 json_failed p t before now old new ok file = record {
   later = file.brings.later;
   rose = file.brings.rose;
+  most = file.brings.most;
   on = (file.on.0, no_removal (json_name p.name) p.json t.call old new file.brings.left);
   stands = λ n. subst (λ (u : Trouble). Meets (placed (wants_of (p ∷ [])) (u ∷ []) n) (old n) (new n)) (sym (is_it p Json t file.on)) (json_by p t.call n (bytes_eq (json_name p.name) n) (bytes_eq (dep_name p.name) n) old new refl refl (two_names p [] n ok) file.brings.left);
 }
@@ -72,11 +73,16 @@ rose_by : (trouble : Option Trouble) (before mid now : ℕ) → before ≤ mid �
 rose_by None before mid now later rose is = cc
 rose_by (Some t) before mid now later rose is = omega (arith, later, rose refl)
 
+most_by : (trouble : Option Trouble) (before mid now : ℕ) → mid ≤ before + 0 → now ≤ mid + failures (option_map call_of trouble) → now ≤ before + failures trouble
+most_by None before mid now first second = omega (arith, first, second)
+most_by (Some t) before mid now first second = omega (arith, first, second)
+
 -- the first file has its bytes, and then the second was to get its own
 pub json_done : (p : Profile) (trouble : Option Trouble) (before mid_count now : ℕ) (old mid new : List ℕ → Cell) → proper (wants_of (p ∷ [])) ≡ true → BringsFile p.name Json p.json None before mid_count old mid → BringsFile p.name Dep p.dep trouble mid_count now mid new → BringsProfile p trouble before now old new
 json_done p trouble before mid_count now old mid new ok json dep = record {
   later = omega (arith, json.brings.later, dep.brings.later);
   rose = rose_by trouble before mid_count now json.brings.later dep.brings.rose;
+  most = most_by trouble before mid_count now json.brings.most dep.brings.most;
   on = on_by p trouble mid new dep.on dep.brings.left;
   stands = λ n. subst (λ (u : Option Trouble). Meets (placed (wants_of (p ∷ [])) (one_or_none u) n) (old n) (new n)) (sym (the_rest p trouble dep.on)) (dep_by p (option_map call_of trouble) n (bytes_eq (json_name p.name) n) (bytes_eq (dep_name p.name) n) old mid new refl refl (two_names p [] n ok) json.brings.left dep.brings.left);
 }

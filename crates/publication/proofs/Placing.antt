@@ -1,5 +1,5 @@
 -- Profiles get their bytes one after the other.
-use Rattle.std.proofs.Common.{◌≡◌, ◌≤◌, ℕ, Bool, true, false, List, [], ◌∷◌, ◌++◌, Option, Some, None, is_some, IfSome, if◌then◌else◌, ◌||◌, refl, sym, ap, ◌∙◌, subst, length, arith}
+use Rattle.std.proofs.Common.{◌≡◌, ◌≤◌, ◌+◌, ℕ, Bool, true, false, List, [], ◌∷◌, ◌++◌, Option, Some, None, is_some, IfSome, if◌then◌else◌, ◌||◌, refl, sym, ap, ◌∙◌, subst, length, arith}
 use Rattle.std.specs.Prelude.{bytes_eq}
 use Rattle.std.specs.List.{list_any, list_all}
 use Rattle.std.proofs.lemmas.List.{length-append}
@@ -18,7 +18,7 @@ use Rattle.publication.specs.declared.want.Want.{Want}
 use Rattle.publication.specs.Wants.{json_want, dep_want, wants_of, wanted, proper}
 use Rattle.publication.specs.Stands.{Stand, Meets, AtStart, untouched}
 use Rattle.publication.specs.Troubles.{keeps, unsettles, fits, is_removal, published}
-use Rattle.publication.specs.Published.{AtMost, Placing, BringsProfile, placed, one_or_none}
+use Rattle.publication.specs.Published.{AtMost, Placing, BringsProfile, failures, placed, one_or_none}
 use Rattle.publication.proofs.Proper.{first_alone, proper_own, proper_rest}
 
 -- a trouble of an object says nothing of names that are not its files'
@@ -158,11 +158,16 @@ module _ (ws : List Want) (p : Profile) (ps : List Profile) (ts : List Trouble) 
   counted None on rose had = rw (length-append ts []) (omega (arith, on, had))
   counted (Some t) on rose had = rw (length-append ts (t ∷ [])) (omega (arith, on, had, rose refl))
 
+  no_more : (o : Option Trouble) → later ≤ count + failures o → count ≤ before + length ts → later ≤ before + length (ts ++ one_or_none o)
+  no_more None on had = rw (length-append ts []) (omega (arith, on, had))
+  no_more (Some t) on had = rw (length-append ts (t ∷ [])) (omega (arith, on, had))
+
   -- one more profile got its bytes
   pub place_step : proper All ≡ true → Placing ws All ts before count start now → BringsProfile p trouble count later now new → Placing ws (wants_of ps) (ts ++ one_or_none trouble) before later start new
   place_step ok placing brings = record {
     fit = rw (list_all-append (fits ws) ts (one_or_none trouble), placing.fit) (fits_one trouble (all_fit trouble ok placing brings.on));
     causes = counted trouble brings.later brings.rose placing.causes;
+    most = no_more trouble brings.most placing.most;
     stands = λ n. stands_by n (bytes_eq (json_name p.name) n) (bytes_eq (dep_name p.name) n) ok placing brings refl refl;
     fresh = λ n some. let b = beside n ok some in let o = off p trouble n brings.on b.0 b.1 in let f = placing.fresh n (ap is_some (wanted_beside n b.0 b.1) ∙ some) in (any_same (keeps n) ts trouble o.0 ∙ f.0, any_same (unsettles n) ts trouble o.1 ∙ f.1);
     same = λ n some. let b = beside n ok some in let w = wanted_beside n b.0 b.1 in placing.same n (ap is_some w ∙ some) ∙ w;

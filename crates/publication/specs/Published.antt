@@ -20,15 +20,21 @@ use Rattle.publication.specs.Wants.{wanted, wants_of, goes}
 use Rattle.publication.specs.Stands.{Stand, Meets, Stands, untouched, AtStart, Has, Unspecified}
 use Rattle.publication.specs.Troubles.{called, fits, fits_removal, published, name_of, keeps, unsettles, is_removal}
 
+-- how many calls failed, of one
+abbrev pub failures : {A : Type 0} → Option A → ℕ
+failures None = 0
+failures (Some x) = 1
+
 -- at most so many calls failed as the count rose
 abbrev pub AtMost : ℕ → ℕ → ℕ → Type 0
 AtMost failed before now = saturated (before + failed) ≤ now
 
--- a publication was done, but for these troubles
+-- a publication was done, but for these troubles; no other call failed
 pub record Published (ws : List Want) (troubles : List Trouble) (before now : ℕ) (old new : List ℕ
     → Cell) : Type 0 where
   pub fit : list_all (fits ws) troubles ≡ true
   pub causes : AtMost (length troubles) before now
+  pub most : now ≤ before + length troubles
   pub stands : Stands (published ws troubles untouched) old new
 
 -- Memory was wanting in one. But for one open name, each name is as it was or as after the
@@ -57,6 +63,7 @@ pub record Came (name : List ℕ) (content : Option (List ℕ)) (done : Bool) (b
     (old new : List ℕ → Cell) : Type 0 where
   pub later : before ≤ now
   pub rose : done ≡ false → Rose before now
+  pub most : now ≤ before + (if done then 0 else 1)
   pub gives : done ≡ true → Sets old name content new
   pub unsettles : AllBut old name new
   pub tells : (n : List ℕ) → Meets Stand.Unspecified (old n) (new n)
@@ -80,6 +87,7 @@ pub record Brings (name bytes : List ℕ) (failed : Option Call) (before now : �
     → Cell) : Type 0 where
   pub later : before ≤ now
   pub rose : is_some failed ≡ true → Rose before now
+  pub most : now ≤ before + failures failed
   pub left : Left name bytes failed old new
 
 -- the trouble is with this file of the object
@@ -111,6 +119,7 @@ pub record BringsProfile (p : Profile) (trouble : Option Trouble) (before now : 
     → Cell) : Type 0 where
   pub later : before ≤ now
   pub rose : is_some trouble ≡ true → Rose before now
+  pub most : now ≤ before + failures trouble
   pub on : IfSome trouble (λ t. (t.object ≡ p.name) × (is_removal t.call ≡ false))
   pub stands : Stands (placed (wants_of (p ∷ [])) (one_or_none trouble)) old new
 
@@ -126,6 +135,7 @@ pub record Placing (ws rest : List Want) (troubles : List Trouble) (before now :
     (start cell : List ℕ → Cell) : Type 0 where
   pub fit : list_all (fits ws) troubles ≡ true
   pub causes : AtMost (length troubles) before now
+  pub most : now ≤ before + length troubles
   pub stands : (n : List ℕ) → Meets (if is_some (wanted rest n) then AtStart
       else published ws troubles untouched n) (start n) (cell n)
   pub fresh : (n : List ℕ) → is_some (wanted rest n) ≡ true
@@ -137,6 +147,7 @@ pub record Clearing (ws : List Want) (rest : List (List ℕ)) (troubles : List T
     (before now : ℕ) (start cell : List ℕ → Cell) : Type 0 where
   pub removals : list_all (fits_removal ws) troubles ≡ true
   pub causes : AtMost (length troubles) before now
+  pub most : now ≤ before + length troubles
   pub kept : (n : List ℕ) → goes ws n ≡ false → cell n ≡ start n
   pub gone : (n : List ℕ) → goes ws n ≡ true → list_any (λ m. bytes_eq m n) rest ≡ false
       → Meets (published ws troubles untouched n) (start n) (cell n)

@@ -53,6 +53,7 @@ fn bring_unread<H: Shelf>(
         (H.fault_count shelf.new) (H.cell shelf.old) (H.cell shelf.new)) }
     ensures unsettles { OnErr result (AllBut (H.cell shelf.old) name.now (H.cell shelf.new)) }
     ensures later { H.fault_count shelf.old ≤ H.fault_count shelf.new }
+    ensures opened { H.opened shelf.new ≡ H.opened shelf.old }
     ensures log { IfOk result (λ failed. IfSome (H.cell shelf.old name.now)
         (LogsPut name.now bytes.now failed (H.changes shelf.old) (H.changes shelf.new))) }
 {
@@ -75,6 +76,7 @@ fn remove_name<H: Shelf>(shelf: &mut H, name: &str) -> Result<bool, AllocError>
         (H.fault_count shelf.new) (H.cell shelf.old) (H.cell shelf.new)) }
     ensures unsettles { OnErr result (AllBut (H.cell shelf.old) name.now (H.cell shelf.new)) }
     ensures later { H.fault_count shelf.old ≤ H.fault_count shelf.new }
+    ensures opened { H.opened shelf.new ≡ H.opened shelf.old }
     ensures log { IfOk result
         (λ gone. H.changes shelf.new ≡ done (H.changes shelf.old) (removed gone name.now)) }
 {
@@ -187,6 +189,7 @@ impl Publisher {
         ensures knows { OnOk result (Knows self.new (H.cell shelf.new)) }
         ensures unsettles { OnErr result (AllBut (H.cell shelf.old) name.now (H.cell shelf.new)) }
         ensures later { H.fault_count shelf.old ≤ H.fault_count shelf.new }
+        ensures opened { H.opened shelf.new ≡ H.opened shelf.old }
         ensures log { IfOk result
             (λ gone. H.changes shelf.new ≡ done (H.changes shelf.old) (removed gone name.now)) }
     {
@@ -215,6 +218,7 @@ impl Publisher {
         ensures knows { OnOk result (Knows self.new (H.cell shelf.new)) }
         ensures unsettles { OnErr result (AllBut (H.cell shelf.old) name.now (H.cell shelf.new)) }
         ensures later { H.fault_count shelf.old ≤ H.fault_count shelf.new }
+        ensures opened { H.opened shelf.new ≡ H.opened shelf.old }
         ensures log { IfOk result (λ failed. IfSome (H.cell shelf.old name.now)
             (LogsPut name.now bytes.now failed (H.changes shelf.old) (H.changes shelf.new))) }
     {
@@ -248,6 +252,7 @@ impl Publisher {
         ensures unsettles { OnErr result (AllBut (H.cell shelf.old) (name_of which object.now)
             (H.cell shelf.new)) }
         ensures later { H.fault_count shelf.old ≤ H.fault_count shelf.new }
+        ensures opened { H.opened shelf.new ≡ H.opened shelf.old }
         ensures log { IfOk result (λ trouble. IfSome (H.cell shelf.old (name_of which object.now))
             (LogsPut (name_of which object.now) bytes.now (option_map call_of trouble)
             (H.changes shelf.old) (H.changes shelf.new))) }
@@ -279,6 +284,7 @@ impl Publisher {
         ensures knows { OnOk result (Knows self.new (H.cell shelf.new)) }
         ensures err { OnErr result (Partly profile.now (H.cell shelf.old) (H.cell shelf.new)) }
         ensures later { H.fault_count shelf.old ≤ H.fault_count shelf.new }
+        ensures opened { H.opened shelf.new ≡ H.opened shelf.old }
         ensures log { IfOk result (λ trouble. Tells (H.cell shelf.old) → H.changes shelf.new
             ≡ done (H.changes shelf.old) (put_of (H.cell shelf.old) profile.now trouble)) }
     {
@@ -318,6 +324,7 @@ impl Publisher {
             (H.fault_count shelf.old) start (H.cell shelf.old)
             → Interrupted ws before (H.fault_count shelf.new) start (H.cell shelf.new)) }
         ensures later { H.fault_count shelf.old ≤ H.fault_count shelf.new }
+        ensures opened { H.opened shelf.new ≡ H.opened shelf.old }
         ensures log { OnOk result (Tells (H.cell shelf.old) → Writes (H.cell shelf.old) profiles.now
             troubles.old.items troubles.new.items (H.changes shelf.old) (H.changes shelf.new)) }
     {
@@ -345,6 +352,7 @@ impl Publisher {
         ensures knows { OnOk result (Knows self.new (H.cell shelf.new)) }
         ensures unsettles { OnErr result (AllBut (H.cell shelf.old) name.now (H.cell shelf.new)) }
         ensures later { H.fault_count shelf.old ≤ H.fault_count shelf.new }
+        ensures opened { H.opened shelf.new ≡ H.opened shelf.old }
         ensures log { OnOk result (Removes (name.now ∷ []) troubles.old.items troubles.new.items
             (H.changes shelf.old) (H.changes shelf.new)) }
     {
@@ -378,6 +386,7 @@ impl Publisher {
             (H.fault_count shelf.old) start (H.cell shelf.old)
             → Interrupted ws before (H.fault_count shelf.new) start (H.cell shelf.new)) }
         ensures later { H.fault_count shelf.old ≤ H.fault_count shelf.new }
+        ensures opened { H.opened shelf.new ≡ H.opened shelf.old }
         ensures log { OnOk result (Removes names.now troubles.old.items troubles.new.items
             (H.changes shelf.old) (H.changes shelf.new)) }
     {
@@ -423,6 +432,7 @@ impl Publisher {
         ensures err { OnErr result (Interrupted (wants_of profiles.now) (H.fault_count shelf.old)
             (H.fault_count shelf.new) (H.cell shelf.old) (H.cell shelf.new)) }
         ensures later { H.fault_count shelf.old ≤ H.fault_count shelf.new }
+        ensures opened { H.opened shelf.new ≡ H.opened shelf.old }
         ensures log { IfOk result (λ troubles. Tells (H.cell shelf.old)
             → Logged self.old profiles.now
             troubles.items (H.cell shelf.old) (H.changes shelf.old) (H.changes shelf.new)) }

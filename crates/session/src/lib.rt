@@ -1,14 +1,41 @@
 //! What a session of lines is: what is written, what stands on the shelf, and how it ends.
 //!
-//! In reading order: `limits`, `texts` (the text of a build); and of `specs/`: `Orders` (what a line says), `Machines` (the
-//! engine), `Texts` (what is written), `Sessions` (rounds, and what they lead to).
+//! In reading order: `limits`, `Ended` (how a session comes to its end), `texts` (the text of a build); and of
+//! `specs/`: `Orders` (what a line says), `Machines` (the engine), `Texts` (what is written), `Sessions` (rounds, and
+//! what they lead to).
 #![tactic(auto)]
 
 pub mod limits;
 mod texts;
 
+ghost use Rattle.std.specs.Prelude.{◌≡◌};
+ghost use Rattle.session.specs.Sessions.{ended_by};
+
 use base::{Bytes, Text};
 pub use texts::{count_faults, report};
+
+/// How a session comes to its end.
+#[derive(Clone, Copy, Debug, PartialEq, Eq)]
+pub enum Ended {
+    /// No object of the last report has a fault.
+    Clean,
+    /// Some object of the last report has a fault.
+    SomeFaults,
+    /// The engine's numbers are spent.
+    NumbersSpent,
+    /// A picture is past the limits of a scan or of an engine.
+    TooMuch,
+}
+
+/// How a session ends after its last report.
+pub fn ended_by(has_faults: bool) -> Ended
+    ensures { result ≡ ended_by has_faults }
+{
+    if has_faults {
+        return Ended::SomeFaults;
+    }
+    Ended::Clean
+}
 
 /// What compiling an object gives.
 #[derive(Debug, Drop)]

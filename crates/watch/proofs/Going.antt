@@ -1,10 +1,10 @@
 -- What a line made of a session.
-use Rattle.std.proofs.Common.{◌≡◌, ◌≤◌, ℕ, Bool, true, false, List, [], ◌++◌, length, Option, Some, refl, sym, ap, ap₂, ◌∙◌, subst, arith, min, codes, not, if◌then◌else◌, ◌||◌, ◌&&◌, ◌⊎◌, inl, inr}
+use Rattle.std.proofs.Common.{◌≡◌, ◌≤◌, ◌+◌, ℕ, Bool, true, false, List, [], ◌++◌, length, Option, Some, refl, sym, ap, ap₂, ◌∙◌, subst, arith, min, codes, not, if◌then◌else◌, ◌||◌, ◌&&◌, ◌⊎◌, inl, inr}
 use Rattle.std.specs.Prelude.{bytes_eq}
 use Rattle.std.proofs.lemmas.List.{length-map}
 use Rattle.std.specs.List.{list_any}
 use Rattle.compiler.specs.Compiler.{Compiled, compiler, forgotten}
-use Rattle.compiler.specs.Standing.{Here, Counts, IsAt, IsIn, IsKept, MakesTurns, TakesNext, compiled_in}
+use Rattle.compiler.specs.Standing.{Here, Counts, IsAt, IsIn, IsKept, MakesTurns, TakesNext, compiled_in, failures}
 use Rattle.compiler.specs.declared.taking.Took.TheVariants as took
 use Rattle.compiler.proofs.Counting.{at_most}
 use Rattle.compiler.proofs.Moves.{along}
@@ -32,6 +32,10 @@ use Rattle.watch.specs.Steps.{Spot, spot, At, Between, GoesBehind, Publishes, We
 
 none_failed : (count : ℕ) → AtMost 0 count count
 none_failed count = omega arith
+
+-- a scan that did not fail left the count as it was
+same_count : (scan : Scanned) (before now : ℕ) → scan ≡ Done → before ≤ now → now ≤ before + failures scan → now ≡ before
+same_count scan before now is later most = let none : now ≤ before + failures Done = subst (λ x. now ≤ before + failures x) is most in omega (arith, later, none)
 
 -- the files and the objects of what an engine has taken
 pub files_are : {T : Type 0} (M : Meanings T) (core : Core T) → IsKept core → (dirs : List (List ℕ)) (limits : Limits) (e : Compiled T) → IsIn dirs limits core e → files_line (length (pictured core.files.items)) (length (names core.rows.items)) ≡ files_line (length e.files) (length (answers_in (compiler (M dirs limits) dirs) e))
@@ -72,8 +76,10 @@ module _ {T : Type 0} (machine : Machine (Compiled T)) (dirs : List (List ℕ)) 
     on = behind t.state text at t.stands t.pictures t.shelf t.has_faults t.text;
     source_later = later;
     source_rose = t.rose;
+    source_most = t.most;
     shelf_later = omega arith;
     shelf_rose = none_failed shelves;
+    shelf_most = omega arith;
   }
 
   pub scan_failed : (order : Order) (next : Here T → Next (Compiled T)) (text : List ℕ) → Scans order next → At dirs limits s Before start began → (t : Took took.Failed) → sources ≤ sources' → text ≡ codes "source fault\n" → Went machine dirs limits order s step.GoesOn text Before After start began
@@ -85,8 +91,10 @@ module _ {T : Type 0} (machine : Machine (Compiled T)) (dirs : List (List ℕ)) 
     on = behind t.state text at t.stands t.pictures t.shelf t.has_faults t.text;
     source_later = later;
     source_rose = t.rose;
+    source_most = t.most;
     shelf_later = omega arith;
     shelf_rose = none_failed shelves;
+    shelf_most = omega arith;
   }
 
   pub scan_spends : (order : Order) (next : Here T → Next (Compiled T)) (text : List ℕ) → Scans order next → (t : Took took.SpendsNumbers) → sources ≤ sources' → Went machine dirs limits order s step.SpendsNumbers text Before After start began
@@ -95,11 +103,13 @@ module _ {T : Type 0} (machine : Machine (Compiled T)) (dirs : List (List ℕ)) 
     troubles = [];
     state = t.state;
     leads = λ line. scans line t.scan ∙ t.leads next;
-    on = record { shelf = λ n. refl; has_faults = refl; spent = t.stands };
+    on = record { shelf = λ n. refl; source_count = same_count t.scan sources sources' t.failed later t.most; shelf_count = refl; has_faults = refl; spent = t.stands };
     source_later = later;
     source_rose = t.rose;
+    source_most = t.most;
     shelf_later = omega arith;
     shelf_rose = none_failed shelves;
+    shelf_most = omega arith;
   }
 
   pub scan_exceeds : (order : Order) (next : Here T → Next (Compiled T)) (text : List ℕ) → Scans order next → (t : Took took.IsTooMuch) → sources ≤ sources' → Went machine dirs limits order s step.IsTooMuch text Before After start began
@@ -108,11 +118,13 @@ module _ {T : Type 0} (machine : Machine (Compiled T)) (dirs : List (List ℕ)) 
     troubles = [];
     state = t.state;
     leads = λ line. scans line t.scan ∙ t.leads next;
-    on = record { shelf = λ n. refl; has_faults = refl; spent = t.stands };
+    on = record { shelf = λ n. refl; source_count = same_count t.scan sources sources' t.failed later t.most; shelf_count = refl; has_faults = refl; spent = t.stands };
     source_later = later;
     source_rose = t.rose;
+    source_most = t.most;
     shelf_later = omega arith;
     shelf_rose = none_failed shelves;
+    shelf_most = omega arith;
   }
 
 module _ {T : Type 0} (M : Meanings T) (dirs : List (List ℕ)) (limits : Limits) (s : Here T) (old new : Core T) (told : Option (List (List MemFile))) (has_faults : Bool) (spent spent' : Counts) (sources shelves : ℕ) (cell start : List ℕ → Cell) (began : Counts) (number count : ℕ) where
@@ -145,8 +157,10 @@ module _ {T : Type 0} (M : Meanings T) (dirs : List (List ℕ)) (limits : Limits
     };
     source_later = omega arith;
     source_rose = λ e. cc;
+    source_most = omega arith;
     shelf_later = omega arith;
     shelf_rose = none_failed shelves;
+    shelf_most = omega arith;
   }
 
   pub turns_spent : (text : List ℕ) → At dirs limits s First start began → count ≡ min number (turns_left_of old) → MakesTurns m dirs limits count s false new began spent' → Went m dirs limits (Turns number) s step.SpendsNumbers text First Then start began
@@ -155,11 +169,13 @@ module _ {T : Type 0} (M : Meanings T) (dirs : List (List ℕ)) (limits : Limits
     troubles = [];
     state = made.state;
     leads = λ line. ap (λ k. some_turns m k s) (which at is) ∙ made.leads (λ t. writes t (turns_line count (m.turns_left t.engine)));
-    on = record { shelf = λ n. refl; has_faults = refl; spent = made.stands };
+    on = record { shelf = λ n. refl; source_count = refl; shelf_count = refl; has_faults = refl; spent = made.stands };
     source_later = omega arith;
     source_rose = λ e. cc;
+    source_most = omega arith;
     shelf_later = omega arith;
     shelf_rose = none_failed shelves;
+    shelf_most = omega arith;
   }
 
 -- a line that only writes what an engine says
@@ -172,8 +188,10 @@ tells_of machine dirs limits s here start began order other text same leads at =
   on = record { at = record { engine = record { engine = at.engine.engine; spent = record { in_runs = at.engine.spent.in_runs; in_steps = at.engine.spent.in_steps } }; coming = at.coming; has_faults = at.has_faults; shelf = at.shelf }; written = refl };
   source_later = omega arith;
   source_rose = λ e. cc;
+  source_most = omega arith;
   shelf_later = omega arith;
   shelf_rose = none_failed here.shelf_count;
+  shelf_most = omega arith;
 })
 
 -- what stands after a publication upon what stood
@@ -198,7 +216,7 @@ module _ {T : Type 0} (M : Meanings T) (dirs : List (List ℕ)) (limits : Limits
   abbrev Took_next : Type 0
   Took_next = TakesNext machine dirs limits s took.Taken mid began spent_mid told' sources sources'
 
-  turns_lead : (t : Took_next) → left ≡ turns_left_of mid → (troubles : List Trouble) → scanned machine t.scan s (built machine troubles) ≡ with_turns machine left t.state (λ u. GoesOn (reported machine troubles u))
+  pub turns_lead : (t : Took_next) → left ≡ turns_left_of mid → (troubles : List Trouble) → scanned machine t.scan s (built machine troubles) ≡ with_turns machine left t.state (λ u. GoesOn (reported machine troubles u))
   turns_lead t is troubles = t.leads (built machine troubles) ∙ ap (λ k. with_turns machine k t.state (λ u. GoesOn (reported machine troubles u))) (ap machine.turns_left (sym t.stands.engine.is) ∙ sym is)
 
   abbrev Made : Took_next → Bool → Type 0
@@ -227,8 +245,10 @@ module _ {T : Type 0} (M : Meanings T) (dirs : List (List ℕ)) (limits : Limits
         };
         source_later = later;
         source_rose = t.rose;
+        source_most = t.most;
         shelf_later = shelf_later;
         shelf_rose = d.done.causes;
+        shelf_most = d.done.most;
       }
 
   pub build_spends : (text : List ℕ) → (t : Took_next) → sources ≤ sources' → left ≡ turns_left_of mid → (made : Made t false) → Went machine dirs limits Build s step.SpendsNumbers text Begun (spot settled told' has_faults spent' sources' shelves cell) start began
@@ -237,11 +257,13 @@ module _ {T : Type 0} (M : Meanings T) (dirs : List (List ℕ)) (limits : Limits
     troubles = [];
     state = made.state;
     leads = λ line. turns_lead t is [] ∙ made.leads (λ u. GoesOn (reported machine [] u));
-    on = record { shelf = λ n. refl; has_faults = refl; spent = made.stands };
+    on = record { shelf = λ n. refl; source_count = same_count t.scan sources sources' t.failed later t.most; shelf_count = refl; has_faults = refl; spent = made.stands };
     source_later = later;
     source_rose = t.rose;
+    source_most = t.most;
     shelf_later = omega arith;
     shelf_rose = none_failed shelves;
+    shelf_most = omega arith;
   }
 
   -- memory was wanting in a publication
@@ -273,9 +295,11 @@ quits machine dirs limits s here start began order text same at = subst (λ o. W
   troubles = [];
   state = s;
   leads = λ line. refl;
-  on = record { shelf = λ n. refl; has_faults = refl; spent = at_most s began here.spent at.engine.spent };
+  on = record { shelf = λ n. refl; source_count = refl; shelf_count = refl; has_faults = refl; spent = at_most s began here.spent at.engine.spent };
   source_later = omega arith;
   source_rose = λ e. cc;
+  source_most = omega arith;
   shelf_later = omega arith;
   shelf_rose = none_failed here.shelf_count;
+  shelf_most = omega arith;
 })

@@ -1,7 +1,7 @@
 -- The session that a watcher played.
-use Rattle.std.specs.Prelude.{◌≡◌, ◌≤◌, ◌+◌, ◌⊎◌, ℕ, true, false, List, [], ◌∷◌, ◌++◌, Option, Some, Result, IfErr, option_map, length, map, if◌then◌else◌}
+use Rattle.std.specs.Prelude.{◌≡◌, ◌≤◌, ◌+◌, ◌⊎◌, ℕ, true, false, List, [], ◌∷◌, ◌++◌, Option, Some, Result, IfErr, OnOk, option_map, length, map}
 use Rattle.compiler.specs.Compiler.{Compiled}
-use Rattle.compiler.specs.Standing.{Here, has_failed}
+use Rattle.compiler.specs.Standing.{Here, failures}
 use Rattle.outside.specs.Causes.{Rose}
 use Rattle.outside.specs.Contents.{AppendsPart}
 use Rattle.outside.specs.Lines.{NextLine}
@@ -10,7 +10,7 @@ use Rattle.publication.specs.Published.{AtMost}
 use Rattle.session.specs.Machines.{Machine}
 use Rattle.session.specs.Orders.{order_of}
 use Rattle.session.specs.Sessions.{Round, next, reached}
-use Rattle.watch.specs.Steps.{Spot, At, Went, Cut, EndsAt, outcome}
+use Rattle.watch.specs.Steps.{Spot, At, Went, Cut, Worked, EndsAt, outcome}
 use Rattle.watch.specs.declared.step.Step.{Step}
 use Rattle.watch.specs.declared.step.Step.TheVariants as step
 use Rattle.watch.specs.declared.ends.End.{End}
@@ -23,7 +23,7 @@ line_of r = r.line
 -- how many scans failed, and how many calls of publications
 abbrev pub failed_scans : List Round → ℕ
 failed_scans [] = 0
-failed_scans (r ∷ rounds) = (if has_failed r.scan then 1 else 0) + failed_scans rounds
+failed_scans (r ∷ rounds) = failures r.scan + failed_scans rounds
 
 abbrev pub failed_calls : List Round → ℕ
 failed_calls [] = 0
@@ -48,8 +48,8 @@ reel lines_old lines_new held_old held_new = record {
 module _ {T : Type 0} (machine : Machine (Compiled T)) (dirs : List (List ℕ)) (limits : Limits)
     (s : Here T) where
   -- So many rounds were played from a session on. Their lines are those that were given up, their
-  -- text is what was written, and the shelf is what they lead to. No device has more failures in
-  -- them than its count rose.
+  -- text is what was written, and the shelf is what they lead to. The failures in them are exactly
+  -- those that the devices counted.
   pub record Played (r : Reel) (first here : Spot T) (many : ℕ) : Type 0 where
     pub rounds : List Round
     pub state : Here T
@@ -59,7 +59,9 @@ module _ {T : Type 0} (machine : Machine (Compiled T)) (dirs : List (List ℕ)) 
     pub text : r.held_new ≡ option_map (λ held. held ++ state.text) r.held_old
     pub at : At dirs limits state here first.cell first.spent
     pub scans : AtMost (failed_scans rounds) first.source_count here.source_count
+    pub scans_most : here.source_count ≤ first.source_count + failed_scans rounds
     pub calls : AtMost (failed_calls rounds) first.shelf_count here.shelf_count
+    pub calls_most : here.shelf_count ≤ first.shelf_count + failed_calls rounds
 
   -- the lines ended
   pub record LinesEnd (r : Reel) (first here : Spot T) : Type 0 where
@@ -95,7 +97,7 @@ module _ {T : Type 0} (machine : Machine (Compiled T)) (dirs : List (List ℕ)) 
         first.cell first.spent
     pub part : AppendsPart held text r.held_new
 
-  -- some first rounds were played; of the next one a part
+  -- some first rounds were played; of the next one, if its line was read, a part
   pub record Broken (r : Reel) (first here : Spot T) : Type 0 where
     pub many : ℕ
     pub lines : Option (List (List ℕ))
@@ -105,7 +107,9 @@ module _ {T : Type 0} (machine : Machine (Compiled T)) (dirs : List (List ℕ)) 
     pub text : List ℕ
     pub part : AppendsPart held text r.held_new
     pub line : List ℕ
+    pub read : (r.lines_new ≡ lines) ⊎ NextLine true line lines r.lines_new
     pub shelf : Cut machine (order_of line) played.state before here first.cell
+    pub work : Worked machine (order_of line) played.state first.spent here.spent
 
   -- the session came to its end
   abbrev pub Finished : Reel → Spot T → Spot T → Type 0
@@ -120,10 +124,12 @@ module _ {T : Type 0} (machine : Machine (Compiled T)) (dirs : List (List ℕ)) 
   Stopped ends.Out r first here = Unwritten r first here
   Stopped ends.Memory r first here = Broken r first here
 
--- the count didn't fall, and it rose where the call ended so
+-- the count rose where the call ended so, and is as before in every other case
 pub record Caused {T : Type 0} (end : End) (before now : ℕ) (result : Result T End) : Type 0 where
   pub later : before ≤ now
   pub rose : IfErr result (λ e. e ≡ end → Rose before now)
+  pub kept : IfErr result (λ e. (e ≡ end → ⊥) → now ≡ before)
+  pub done : OnOk result (now ≡ before)
 
 -- this end, or want of memory
 abbrev pub IsEndOf : End → End → Type 0

@@ -1,6 +1,6 @@
-ghost use Rattle.std.specs.Prelude.{◌≡◌, ◌≤◌, ℕ, List, IfOk, OnOk, OnErr, [], ◌++◌, Bool, codes, Option};
+ghost use Rattle.std.specs.Prelude.{◌≡◌, ◌≤◌, ℕ, List, IfOk, OnOk, OnErr, [], ◌++◌, Bool, codes, Option, Some};
 ghost use Rattle.compiler.specs.Compiler.{compiler, cause_text};
-ghost use Rattle.compiler.specs.Standing.{Here, Counts, counts, IsKept, compiled_in};
+ghost use Rattle.compiler.specs.Standing.{Here, Counts, counts, IsAt, IsKept, compiled_in};
 ghost use Rattle.engine_turns.specs.States.{pictured};
 ghost use Rattle.outside.specs.Cells.{Cell};
 ghost use Rattle.outside.specs.declared.source.MemFile.{MemFile};
@@ -13,7 +13,7 @@ ghost use Rattle.session.specs.Orders as orders;
 ghost use Rattle.session.specs.Orders.{order_of};
 ghost use Rattle.session.specs.Sessions.{answers_in, deps_of, profiles_of, shown_of};
 ghost use Rattle.session.specs.Texts.{about, outcome_text, deps_text};
-ghost use Rattle.watch.specs.Steps.{At, Went, Cut, Publishes, spot};
+ghost use Rattle.watch.specs.Steps.{At, Went, Worked, Cut, Publishes, spot};
 
 use crate::reading::{Order, read_order};
 use crate::texts::{push_deps, push_files, push_shown, push_turns};
@@ -56,10 +56,17 @@ fn scan_line<R: Runner, S: Source, L: Ledger>(
         (counts (R.runs_of runner.new) steps.new) (S.fault_count source.new) shelf_count cell in
         At dirs limits s before start began → Went (compiler (R.meaning dirs limits) dirs) dirs
         limits orders.Scan s step text.new.items before after start began) }
+    ensures work { OnErr result ((dirs : List (List ℕ)) (limits : Limits) (s : Here R.Rest)
+        (began : Counts) → IsAt dirs limits s engine.old.core began
+        (counts (R.runs_of runner.old) steps.old) → S.coming source.old ≡ Some s.coming
+        → Worked
+        (compiler (R.meaning dirs limits) dirs) orders.Scan s began
+        (counts (R.runs_of runner.new) steps.new)) }
     ensures files { R.files_of runner.new ≡ pictured engine.new.core.files.items }
     ensures dirs { R.dirs_of runner.new ≡ engine.new.core.dirs }
     ensures kept { IsKept engine.new.core }
     ensures later { S.fault_count source.old ≤ S.fault_count source.new }
+    ensures opened { S.opened source.new ≡ S.opened source.old }
 {
     match take_next(alloc, engine, runner, source, steps)? {
         Took::Failed => {
@@ -98,6 +105,11 @@ fn turn_line<R: Runner, L: Ledger>(
         (counts (R.runs_of runner.new) steps.new) source_count shelf_count cell in
         At dirs limits s before start began → Went (compiler (R.meaning dirs limits) dirs) dirs
         limits (orders.Turns number) s step text.new.items before after start began) }
+    ensures work { OnErr result ((dirs : List (List ℕ)) (limits : Limits) (s : Here R.Rest)
+        (began : Counts) → IsAt dirs limits s engine.old.core began
+        (counts (R.runs_of runner.old) steps.old) → Worked
+        (compiler (R.meaning dirs limits) dirs) (orders.Turns number) s began
+        (counts (R.runs_of runner.new) steps.new)) }
     ensures files { R.files_of runner.new ≡ pictured engine.new.core.files.items }
     ensures dirs { R.dirs_of runner.new ≡ engine.new.core.dirs }
     ensures kept { IsKept engine.new.core }
@@ -133,6 +145,7 @@ fn publish_built<R: Runner, H: Shelf>(
         (compiled_in engine.now.core)))) (H.fault_count shelf.old) (H.fault_count shelf.new)
         (H.cell shelf.old) (H.cell shelf.new)) }
     ensures later { H.fault_count shelf.old ≤ H.fault_count shelf.new }
+    ensures opened { H.opened shelf.new ≡ H.opened shelf.old }
 {
     let built = build(alloc, engine)?;
     let troubles = publisher.publish(alloc, shelf, &built.profiles)?;
@@ -216,12 +229,20 @@ fn build_line<R: Runner, S: Source, H: Shelf, L: Ledger>(
         (H.fault_count shelf.new) (H.cell shelf.new) in
         At dirs limits s before start began → Cut (compiler (R.meaning dirs limits) dirs)
         orders.Build s before after start) }
+    ensures work { OnErr result ((dirs : List (List ℕ)) (limits : Limits) (s : Here R.Rest)
+        (began : Counts) → IsAt dirs limits s engine.old.core began
+        (counts (R.runs_of runner.old) steps.old) → S.coming source.old ≡ Some s.coming
+        → Worked
+        (compiler (R.meaning dirs limits) dirs) orders.Build s began
+        (counts (R.runs_of runner.new) steps.new)) }
     ensures files { R.files_of runner.new ≡ pictured engine.new.core.files.items }
     ensures dirs { R.dirs_of runner.new ≡ engine.new.core.dirs }
     ensures kept { IsKept engine.new.core }
     ensures knows { OnOk result (Knows publisher.new (H.cell shelf.new)) }
     ensures source_later { S.fault_count source.old ≤ S.fault_count source.new }
     ensures shelf_later { H.fault_count shelf.old ≤ H.fault_count shelf.new }
+    ensures source_opened { S.opened source.new ≡ S.opened source.old }
+    ensures shelf_opened { H.opened shelf.new ≡ H.opened shelf.old }
 {
     match take_next(alloc, engine, runner, source, steps)? {
         Took::Failed => {
@@ -279,12 +300,20 @@ pub fn work_on<R: Runner, S: Source, H: Shelf, L: Ledger>(
         (H.fault_count shelf.new) (H.cell shelf.new) in
         At dirs limits s before start began → Cut (compiler (R.meaning dirs limits) dirs)
         (order_of line.now) s before after start) }
+    ensures work { OnErr result ((dirs : List (List ℕ)) (limits : Limits) (s : Here R.Rest)
+        (began : Counts) → IsAt dirs limits s engine.old.core began
+        (counts (R.runs_of runner.old) steps.old) → S.coming source.old ≡ Some s.coming
+        → Worked
+        (compiler (R.meaning dirs limits) dirs) (order_of line.now) s began
+        (counts (R.runs_of runner.new) steps.new)) }
     ensures files { R.files_of runner.new ≡ pictured engine.new.core.files.items }
     ensures dirs { R.dirs_of runner.new ≡ engine.new.core.dirs }
     ensures kept { IsKept engine.new.core }
     ensures knows { OnOk result (Knows publisher.new (H.cell shelf.new)) }
     ensures source_later { S.fault_count source.old ≤ S.fault_count source.new }
     ensures shelf_later { H.fault_count shelf.old ≤ H.fault_count shelf.new }
+    ensures source_opened { S.opened source.new ≡ S.opened source.old }
+    ensures shelf_opened { H.opened shelf.new ≡ H.opened shelf.old }
 {
     match read_order(line) {
         Order::Scan => return scan_line(alloc, engine, runner, source, text, steps),

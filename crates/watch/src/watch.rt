@@ -91,6 +91,8 @@ pub fn play<R: Runner, S: Source, H: Shelf, N: Lines, O: Sink, L: Ledger>(
         Stopped (compiler (R.meaning dirs limits) dirs) dirs limits (started e ps) end
         (reel (N.left lines.old) (N.left lines.new) (O.held out.old) (O.held out.new)) first
         here)) }
+    ensures source_opened { S.opened source.new ≡ S.opened source.old }
+    ensures shelf_opened { H.opened shelf.new ≡ H.opened shelf.old }
     ensures lines_cause { Caused End.Lines (N.fault_count lines.old) (N.fault_count lines.new)
         result }
     ensures out_cause { Caused End.Out (O.fault_count out.old) (O.fault_count out.new) result }

@@ -1,4 +1,4 @@
-use Rattle.std.proofs.Common.{rules}
+use Rattle.std.proofs.Common.{◌≡◌, rules}
 use Rattle.outside.specs.Causes.{Rose}
 use Rattle.scans.specs.Outcomes.{IsScan, IsPassed}
 use Rattle.std.specs.Prelude.{None}
@@ -13,7 +13,7 @@ returns-in-Ok-clause-took g c = if_ok_both c.take.result c.take.ensures.source c
     let old = c.args.engine.now.core in
     let mid = counts (g.R.Runner.runs_of c.args.runner.now) c.args.steps.now in
     let now = counts (g.R.Runner.runs_of c.take.new.runner) c.take.new.steps in
-    next_taken machine dirs limits s old c.take.new.engine.core start mid now (g.S.Source.coming c.args.source.now) (g.S.Source.coming c.scan.new.source) _ _ c.in-Ok.picture told c.in-Ok.ensures.ok c.in-Ok.ensures.taken how not_failed (took dirs limits _ start (at_passed machine dirs limits s old old start mid mid (g.S.Source.coming c.args.source.now) (g.S.Source.coming c.args.source.now) 0 0 at)))
+    next_taken machine dirs limits s old c.take.new.engine.core start mid now (g.S.Source.coming c.args.source.now) (g.S.Source.coming c.scan.new.source) _ _ c.in-Ok.picture told c.in-Ok.ensures.ok c.in-Ok.ensures.taken how not_failed c.in-Ok.ensures.cause.done (took dirs limits _ start (at_passed machine dirs limits s old old start mid mid (g.S.Source.coming c.args.source.now) (g.S.Source.coming c.args.source.now) 0 0 at)))
 
 pub returns-in-Ok-clause-cut : goal.returns-in-Ok-clause-cut
 returns-in-Ok-clause-cut g c = on_err_is c.take.result (λ dirs limits s start at told next rising.
@@ -28,7 +28,8 @@ returns-in-Err-TooMuch-clause-took g c = λ dirs limits s start at told.
     let now = counts (g.R.Runner.runs_of c.args.runner.now) c.args.steps.now in
     let scan : IsScan (g.S.Source.coming c.args.source.now) None = search rules in
     let passes : IsPassed (g.S.Source.coming c.args.source.now) (g.S.Source.coming c.scan.new.source) = search rules in
-    next_too_much machine dirs limits s core core start now now (g.S.Source.coming c.args.source.now) (g.S.Source.coming c.scan.new.source) _ _ told scan passes at
+    let same : g.S.Source.fault_count c.scan.new.source ≡ g.S.Source.fault_count c.args.source.now = search rules in
+    next_too_much machine dirs limits s core core start now now (g.S.Source.coming c.args.source.now) (g.S.Source.coming c.scan.new.source) (g.S.Source.fault_count c.args.source.now) (g.S.Source.fault_count c.scan.new.source) told scan passes same at
 
 pub returns-in-Err-Fault-clause-took : goal.returns-in-Err-Fault-clause-took
 returns-in-Err-Fault-clause-took g c = λ dirs limits s start at told.
@@ -36,7 +37,7 @@ returns-in-Err-Fault-clause-took g c = λ dirs limits s start at told.
     let core = c.args.engine.now.core in
     let now = counts (g.R.Runner.runs_of c.args.runner.now) c.args.steps.now in
     let rose : Rose (g.S.Source.fault_count c.args.source.now) (g.S.Source.fault_count c.scan.new.source) = search rules in
-    next_failed machine dirs limits s core core start now now (g.S.Source.coming c.args.source.now) (g.S.Source.coming c.scan.new.source) (g.S.Source.fault_count c.args.source.now) (g.S.Source.fault_count c.scan.new.source) told c.in-Err-Fault.ensures.err rose at
+    next_failed machine dirs limits s core core start now now (g.S.Source.coming c.args.source.now) (g.S.Source.coming c.scan.new.source) (g.S.Source.fault_count c.args.source.now) (g.S.Source.fault_count c.scan.new.source) told c.in-Err-Fault.ensures.err rose c.in-Err-Fault.ensures.cause.once at
 
 pub returns-in-Err-Memory-clause-cut : goal.returns-in-Err-Memory-clause-cut
 returns-in-Err-Memory-clause-cut g c = λ dirs limits s start at told next rising.

@@ -59,4 +59,4 @@ loop-i-preserved g c =
 pub returns-clause-ok : goal.returns-clause-ok
 returns-clause-ok g c =
     let none : 4 - c.loop-i._i ≡ 0 = omega (arith, c.loop-i-test.false, c.loop-i.auto._i-end) in
-    λ dirs limits e ps is told. rw c.ended.ensures (all_made (compiler (g.R.Runner.meaning dirs limits) dirs) dirs limits _ _ c.loop-i.has_faults _ _ _ _ _ _ none (c.loop-i.invariant.played dirs limits e ps is told))
+    λ dirs limits e ps is told. rw c.ended_by.ensures (all_made (compiler (g.R.Runner.meaning dirs limits) dirs) dirs limits _ _ c.loop-i.has_faults _ _ _ _ _ _ none (c.loop-i.invariant.played dirs limits e ps is told))

@@ -1,181 +1,57 @@
-use Rattle.std.proofs.Common.{Some, IfErr, IfSome, subst, rules}
-use Rattle.std.proofs.lemmas.Result.{IfOk-weaker}
-use Rattle.publication.proofs.Planning.{on_err}
-use Rattle.compiler.specs.Compiler.{nothing}
-use Rattle.compiler.specs.Standing.{counts, HasSpentAtMost, IsIn}
-use Rattle.pan_top.specs.Commands.{limits_of}
-use Rattle.pan_top.specs.Ends.{IsEndOf, OfSource, Stopped}
-use Rattle.pan_top.specs.Rounds.{Reaches, MadeOver, BegunOver, session_at}
-use Rattle.pan_top.specs.Session.{Finished, WritesEarly, session_for, state_for}
-use Rattle.pan_top.proofs.Ending.{source_stopped, uncaused_shelf, uncaused_out, uncaused_source, on_ok, if_err}
-use Rattle.pan_top.proofs.Finishing.{comes_to, comes_ok, comes_err, spent_ok, spent_err, cut_none}
-use Rattle.pan_top.proofs.Taking.{round_takes}
+use Rattle.std.proofs.Common.{inl, inr, refl}
+use Rattle.compiler.specs.Standing.{counts}
+use Rattle.site_build.specs.Session.{WritesEarly, session_for}
+use Rattle.site_build.proofs.Finishing.{some_map}
+use Rattle.pan_top.specs.Builds.{Wrote}
+use Rattle.pan_top.specs.Scenes.{scene}
+use Rattle.pan_top.proofs.Causing.{early_causes, out_rose, own_causes}
 use Rattle.pan_top.proofs.building.build.Goals as goal
 
-pub returns-in_err-engine-clause-cut : goal.returns-in_err-engine-clause-cut
-returns-in_err-engine-clause-cut g c = cut_none (state_for g.R.Runner.meaning (Some c.args.work.now)) (g.S.Source.coming c.args.source.now) c.from_residual.result (g.R.Runner.runs_of c.args.runner.now) (g.R.Runner.runs_of c.start.new.runner) c.args.steps.now c.start.ensures.runs
+pub returns-in-Ok-clause-call : goal.returns-in-Ok-clause-call
+returns-in-Ok-clause-call g c = λ lines count. record {
+  session = inl (record {
+    ended = c.in-Ok.ended;
+    is = c.after.ensures;
+    session = c.in-Ok.ensures.ok;
+    order = c.in-Ok.ensures.made;
+    spent = c.in-Ok.ensures.spent;
+    taken = c.in-Ok.ensures.taken;
+    source_opened = c.in-Ok.ensures.source_opened;
+    shelf_opened = c.in-Ok.ensures.shelf_opened;
+    source_count = c.in-Ok.ensures.source_cause.done;
+    shelf_count = c.in-Ok.ensures.shelf_cause.done;
+    out_count = c.in-Ok.ensures.out_cause.done;
+  });
+  lines = refl;
+  lines_count = refl;
+}
 
-pub returns-in_err-reached-clause-shelf : goal.returns-in_err-reached-clause-shelf
-returns-in_err-reached-clause-shelf g c =
-    let kind : IfErr c.from_residual-in_err-reached.result (IsEndOf OfSource) = search rules in
-    source_stopped c.from_residual-in_err-reached.result (g.S.Source.coming c.args.source.now) (session_for g.R.Runner.meaning (Some c.args.work.now)) (g.H.Shelf.cell c.args.shelf.now) kind
+pub returns-in-Ok-clause-causes : goal.returns-in-Ok-clause-causes
+returns-in-Ok-clause-causes g c = λ lines count. own_causes c.in-Ok.ended c.after.result _ _ c.after.ensures
 
-pub returns-in_err-reached-clause-shelf_cause : goal.returns-in_err-reached-clause-shelf_cause
-returns-in_err-reached-clause-shelf_cause g c =
-    let kind : IfErr c.from_residual-in_err-reached.result (IsEndOf OfSource) = search rules in
-    uncaused_shelf c.from_residual-in_err-reached.result (g.H.Shelf.fault_count c.args.shelf.now) kind
-
-pub returns-in_err-reached-clause-out_cause : goal.returns-in_err-reached-clause-out_cause
-returns-in_err-reached-clause-out_cause g c =
-    let kind : IfErr c.from_residual-in_err-reached.result (IsEndOf OfSource) = search rules in
-    uncaused_out c.from_residual-in_err-reached.result (g.O.Sink.fault_count c.args.out.now) kind
-
-pub returns-in_err-reached-clause-cut : goal.returns-in_err-reached-clause-cut
-returns-in_err-reached-clause-cut g c =
+pub returns-in-Err-clause-call : goal.returns-in-Err-clause-call
+returns-in-Err-clause-call g c =
     let M = g.R.Runner.meaning in
-    let work = c.args.work.now in
-    let core = c.in_ok-engine.engine.core in
-    let coming = g.S.Source.coming c.args.source.now in
-    let steps = c.args.steps.now in
-    let is : IsIn work.directories (limits_of work) core nothing = subst (λ l. IsIn work.directories l core nothing) c.limits.ensures (subst (λ d. IsIn d c.limits.result core nothing) c.as_slice.ensures c.in_ok-engine.ensures.at) in
-    let now = counts (g.R.Runner.runs_of c.settle.new.runner) c.settle.new.steps in
-    on_err c.from_residual-in_err-reached.result (subst (λ n. IfSome coming (λ ps. HasSpentAtMost (state_for M (Some work) ps) (counts n steps) now)) c.start.ensures.runs (c.in_err-reached.ensures.cut work is))
+    let w = c.args.work.now in
+    let e = c.in-Err.end in
+    let old = g.O.Sink.held c.args.out.now in
+    let mid = g.O.Sink.held c.build_site.new.out in
+    let new = g.O.Sink.held c.close_build.new.out in
+    λ lines count. record {
+      session = inr (record {
+        end = e;
+        is = c.close_build.ensures.status;
+        text = some_map (g.S.Source.coming c.args.source.now) (λ ps. WritesEarly (session_for M w ps).text e old mid) (λ ps. Wrote (session_for M w ps).text e c.close_build.result old new) (λ ps early. c.close_build.ensures.text (session_for M w ps).text old early) c.in-Err.ensures.text;
+        shelf = c.in-Err.ensures.shelf;
+        order = c.in-Err.ensures.begun;
+        spent = c.in-Err.ensures.cut;
+        taken = c.in-Err.ensures.pictures;
+        source_opened = c.in-Err.ensures.source_perhaps;
+        shelf_opened = c.in-Err.ensures.shelf_perhaps;
+      });
+      lines = refl;
+      lines_count = refl;
+    }
 
-pub returns-clause-ok : goal.returns-clause-ok
-returns-clause-ok g c =
-    let M = g.R.Runner.meaning in
-    let work = c.args.work.now in
-    let core = c.in_ok-engine.engine.core in
-    let coming = g.S.Source.coming c.args.source.now in
-    let steps = c.args.steps.now in
-    let is : IsIn work.directories (limits_of work) core nothing = subst (λ l. IsIn work.directories l core nothing) c.limits.ensures (subst (λ d. IsIn d c.limits.result core nothing) c.as_slice.ensures c.in_ok-engine.ensures.at) in
-    let now = counts (g.R.Runner.runs_of c.settle.new.runner) c.settle.new.steps in
-    let before = counts (g.R.Runner.runs_of c.args.runner.now) steps in
-    let how = c.in_ok-reached.reached in
-    let last = c.settle.new.engine.core in
-    let reaches : IfSome coming (λ ps. Reaches M work how ps last before now) = subst (λ n. IfSome coming (λ ps. Reaches M work how ps last (counts n steps) now)) c.start.ensures.runs (c.in_ok-reached.ensures.ok work is) in
-    let old = g.H.Shelf.cell c.args.shelf.now in
-    let new = g.H.Shelf.cell c.finish.new.shelf in
-    let held = g.O.Sink.held c.args.out.now in
-    let held' = g.O.Sink.held c.finish.new.out in
-    comes_ok M work how last before now (λ status s. Finished s status held held' old new) coming c.finish.result reaches c.finish.ensures.ok
-
-pub returns-clause-text : goal.returns-clause-text
-returns-clause-text g c =
-    let M = g.R.Runner.meaning in
-    let work = c.args.work.now in
-    let core = c.in_ok-engine.engine.core in
-    let coming = g.S.Source.coming c.args.source.now in
-    let steps = c.args.steps.now in
-    let is : IsIn work.directories (limits_of work) core nothing = subst (λ l. IsIn work.directories l core nothing) c.limits.ensures (subst (λ d. IsIn d c.limits.result core nothing) c.as_slice.ensures c.in_ok-engine.ensures.at) in
-    let now = counts (g.R.Runner.runs_of c.settle.new.runner) c.settle.new.steps in
-    let before = counts (g.R.Runner.runs_of c.args.runner.now) steps in
-    let how = c.in_ok-reached.reached in
-    let last = c.settle.new.engine.core in
-    let reaches : IfSome coming (λ ps. Reaches M work how ps last before now) = subst (λ n. IfSome coming (λ ps. Reaches M work how ps last (counts n steps) now)) c.start.ensures.runs (c.in_ok-reached.ensures.ok work is) in
-    let old = g.H.Shelf.cell c.args.shelf.now in
-    let new = g.H.Shelf.cell c.finish.new.shelf in
-    let held = g.O.Sink.held c.args.out.now in
-    let held' = g.O.Sink.held c.finish.new.out in
-    comes_err M work how last before now (λ e s. WritesEarly s.text e held held') coming c.finish.result reaches c.finish.ensures.text
-
-pub returns-clause-shelf : goal.returns-clause-shelf
-returns-clause-shelf g c =
-    let M = g.R.Runner.meaning in
-    let work = c.args.work.now in
-    let core = c.in_ok-engine.engine.core in
-    let coming = g.S.Source.coming c.args.source.now in
-    let steps = c.args.steps.now in
-    let is : IsIn work.directories (limits_of work) core nothing = subst (λ l. IsIn work.directories l core nothing) c.limits.ensures (subst (λ d. IsIn d c.limits.result core nothing) c.as_slice.ensures c.in_ok-engine.ensures.at) in
-    let now = counts (g.R.Runner.runs_of c.settle.new.runner) c.settle.new.steps in
-    let before = counts (g.R.Runner.runs_of c.args.runner.now) steps in
-    let how = c.in_ok-reached.reached in
-    let last = c.settle.new.engine.core in
-    let reaches : IfSome coming (λ ps. Reaches M work how ps last before now) = subst (λ n. IfSome coming (λ ps. Reaches M work how ps last (counts n steps) now)) c.start.ensures.runs (c.in_ok-reached.ensures.ok work is) in
-    let old = g.H.Shelf.cell c.args.shelf.now in
-    let new = g.H.Shelf.cell c.finish.new.shelf in
-    let held = g.O.Sink.held c.args.out.now in
-    let held' = g.O.Sink.held c.finish.new.out in
-    comes_err M work how last before now (λ e s. Stopped e s.shelf old new) coming c.finish.result reaches c.finish.ensures.shelf
-
-pub returns-clause-made : goal.returns-clause-made
-returns-clause-made g c =
-    let M = g.R.Runner.meaning in
-    let work = c.args.work.now in
-    let core = c.in_ok-engine.engine.core in
-    let coming = g.S.Source.coming c.args.source.now in
-    let steps = c.args.steps.now in
-    let is : IsIn work.directories (limits_of work) core nothing = subst (λ l. IsIn work.directories l core nothing) c.limits.ensures (subst (λ d. IsIn d c.limits.result core nothing) c.as_slice.ensures c.in_ok-engine.ensures.at) in
-    let now = counts (g.R.Runner.runs_of c.settle.new.runner) c.settle.new.steps in
-    let before = counts (g.R.Runner.runs_of c.args.runner.now) steps in
-    let how = c.in_ok-reached.reached in
-    let last = c.settle.new.engine.core in
-    let reaches : IfSome coming (λ ps. Reaches M work how ps last before now) = subst (λ n. IfSome coming (λ ps. Reaches M work how ps last (counts n steps) now)) c.start.ensures.runs (c.in_ok-reached.ensures.ok work is) in
-    let old = g.H.Shelf.cell c.args.shelf.now in
-    let new = g.H.Shelf.cell c.finish.new.shelf in
-    let held = g.O.Sink.held c.args.out.now in
-    let held' = g.O.Sink.held c.finish.new.out in
-    let changes = g.H.Shelf.changes c.args.shelf.now in
-    let changes' = g.H.Shelf.changes c.finish.new.shelf in
-    on_ok c.finish.result c.finish.ensures.made (λ made told. comes_to M work how last before now (λ s. MadeOver s.wants c.args.listed.now old new changes changes') coming reaches (made told))
-
-pub returns-clause-begun : goal.returns-clause-begun
-returns-clause-begun g c =
-    let M = g.R.Runner.meaning in
-    let work = c.args.work.now in
-    let core = c.in_ok-engine.engine.core in
-    let coming = g.S.Source.coming c.args.source.now in
-    let steps = c.args.steps.now in
-    let is : IsIn work.directories (limits_of work) core nothing = subst (λ l. IsIn work.directories l core nothing) c.limits.ensures (subst (λ d. IsIn d c.limits.result core nothing) c.as_slice.ensures c.in_ok-engine.ensures.at) in
-    let now = counts (g.R.Runner.runs_of c.settle.new.runner) c.settle.new.steps in
-    let before = counts (g.R.Runner.runs_of c.args.runner.now) steps in
-    let how = c.in_ok-reached.reached in
-    let last = c.settle.new.engine.core in
-    let reaches : IfSome coming (λ ps. Reaches M work how ps last before now) = subst (λ n. IfSome coming (λ ps. Reaches M work how ps last (counts n steps) now)) c.start.ensures.runs (c.in_ok-reached.ensures.ok work is) in
-    let old = g.H.Shelf.cell c.args.shelf.now in
-    let new = g.H.Shelf.cell c.finish.new.shelf in
-    let held = g.O.Sink.held c.args.out.now in
-    let held' = g.O.Sink.held c.finish.new.out in
-    let changes = g.H.Shelf.changes c.args.shelf.now in
-    let changes' = g.H.Shelf.changes c.finish.new.shelf in
-    if_err c.finish.result c.finish.ensures.begun (λ begun told. comes_to M work how last before now (λ s. BegunOver s.wants c.args.listed.now old new changes changes') coming reaches (begun told))
-
-pub returns-clause-spent : goal.returns-clause-spent
-returns-clause-spent g c =
-    let M = g.R.Runner.meaning in
-    let work = c.args.work.now in
-    let core = c.in_ok-engine.engine.core in
-    let coming = g.S.Source.coming c.args.source.now in
-    let steps = c.args.steps.now in
-    let is : IsIn work.directories (limits_of work) core nothing = subst (λ l. IsIn work.directories l core nothing) c.limits.ensures (subst (λ d. IsIn d c.limits.result core nothing) c.as_slice.ensures c.in_ok-engine.ensures.at) in
-    let now = counts (g.R.Runner.runs_of c.settle.new.runner) c.settle.new.steps in
-    let before = counts (g.R.Runner.runs_of c.args.runner.now) steps in
-    let how = c.in_ok-reached.reached in
-    let last = c.settle.new.engine.core in
-    let reaches : IfSome coming (λ ps. Reaches M work how ps last before now) = subst (λ n. IfSome coming (λ ps. Reaches M work how ps last (counts n steps) now)) c.start.ensures.runs (c.in_ok-reached.ensures.ok work is) in
-    let old = g.H.Shelf.cell c.args.shelf.now in
-    let new = g.H.Shelf.cell c.finish.new.shelf in
-    let held = g.O.Sink.held c.args.out.now in
-    let held' = g.O.Sink.held c.finish.new.out in
-    spent_ok M work how last before now coming reaches c.finish.result (IfOk-weaker _ _ _ (λ status. λ (f : Finished (session_at M how last) status held held' old new). f.status) c.finish.ensures.ok)
-
-pub returns-clause-cut : goal.returns-clause-cut
-returns-clause-cut g c =
-    let M = g.R.Runner.meaning in
-    let work = c.args.work.now in
-    let core = c.in_ok-engine.engine.core in
-    let coming = g.S.Source.coming c.args.source.now in
-    let steps = c.args.steps.now in
-    let is : IsIn work.directories (limits_of work) core nothing = subst (λ l. IsIn work.directories l core nothing) c.limits.ensures (subst (λ d. IsIn d c.limits.result core nothing) c.as_slice.ensures c.in_ok-engine.ensures.at) in
-    let now = counts (g.R.Runner.runs_of c.settle.new.runner) c.settle.new.steps in
-    let before = counts (g.R.Runner.runs_of c.args.runner.now) steps in
-    let how = c.in_ok-reached.reached in
-    let last = c.settle.new.engine.core in
-    let reaches : IfSome coming (λ ps. Reaches M work how ps last before now) = subst (λ n. IfSome coming (λ ps. Reaches M work how ps last (counts n steps) now)) c.start.ensures.runs (c.in_ok-reached.ensures.ok work is) in
-    spent_err M work how last before now coming reaches c.finish.result
-
-pub returns-clause-pictures : goal.returns-clause-pictures
-returns-clause-pictures g c = round_takes c.finish.result _ _ c.finish.ensures.kind c.in_ok-reached.ensures.taken
-
-pub returns-clause-source_cause : goal.returns-clause-source_cause
-returns-clause-source_cause g c = uncaused_source c.finish.result (g.S.Source.fault_count c.args.source.now) (g.S.Source.fault_count c.settle.new.source) c.in_ok-reached.ensures.cause.done c.finish.ensures.kind
+pub returns-in-Err-clause-causes : goal.returns-in-Err-clause-causes
+returns-in-Err-clause-causes g c = λ lines count. early_causes c.in-Err.end c.close_build.result _ _ c.close_build.ensures.status c.in-Err.ensures.source_cause.rose c.in-Err.ensures.shelf_cause.rose (λ is. out_rose (g.O.Sink.fault_count c.args.out.now) (g.O.Sink.fault_count c.build_site.new.out) (g.O.Sink.fault_count c.close_build.new.out) c.in-Err.ensures.out_cause.later c.close_build.ensures.later c.in-Err.ensures.out_cause.rose (c.close_build.ensures.cause is))

@@ -1,4 +1,4 @@
-use Rattle.std.proofs.Common.{◌≡◌, true, false, [], inl, inr, refl, arith}
+use Rattle.std.proofs.Common.{◌≡◌, ◌∙◌, true, false, [], inl, inr, refl, arith}
 use Rattle.compiler.specs.Compiler.{compiler}
 use Rattle.outside.specs.Contents.{Appends}
 use Rattle.outside.specs.Lines.{NextLine}
@@ -12,8 +12,10 @@ loop-i-init g c = record {
   dirs = c.requires.dirs;
   kept = c.requires.kept;
   knows = c.requires.knows;
-  lines = omega arith;
-  out = omega arith;
+  lines = refl;
+  out = refl;
+  source_opened = refl;
+  shelf_opened = refl;
   played = λ dirs limits e ps is told. none_yet (compiler (g.R.Runner.meaning dirs limits) dirs) dirs limits e ps (g.N.Lines.left c.args.lines.now) (g.O.Sink.held c.args.out.now) _ is told refl;
 }
 
@@ -44,8 +46,10 @@ returns-in-Ok-IsTooMuch-clause-err g c =
     (c.work_on.new.has_faults, exceeded (compiler (g.R.Runner.meaning dirs limits) dirs) dirs limits _ _ _ _ _ _ (g.O.Sink.held c.loop-i.out) _ _ _ _ c.next_line.new.into.items c.work_on.new.text.items played read (rw (c.deref.ensures.value, c.in-Ok-IsTooMuch.field-0-is) at (c.in-Ok-IsTooMuch.ensures.went dirs limits played.state _ _ played.at)))
 
 pub returns-in-Err-work_on-clause-err : goal.returns-in-Err-work_on-clause-err
-returns-in-Err-work_on-clause-err g c = λ dirs limits e ps is told. let played = c.loop-i.invariant.played dirs limits e ps is told in
-    (c.work_on.new.has_faults, broken (compiler (g.R.Runner.meaning dirs limits) dirs) dirs limits _ _ _ (g.N.Lines.left c.next_line.new.lines) _ _ _ _ _ _ _ c.next_line.new.into.items [] played (0, no_part (g.O.Sink.held c.loop-i.out)) (rw c.deref.ensures.value at (c.in-Err-work_on.ensures.cut dirs limits played.state _ _ played.at)))
+returns-in-Err-work_on-clause-err g c =
+    let read : NextLine true c.next_line.new.into.items (g.N.Lines.left c.loop-i.lines) (g.N.Lines.left c.next_line.new.lines) = rw c.in-Ok-true.field-0-test at c.in-Ok-true.ensures.ok in
+    λ dirs limits e ps is told. let played = c.loop-i.invariant.played dirs limits e ps is told in
+    (c.work_on.new.has_faults, broken (compiler (g.R.Runner.meaning dirs limits) dirs) dirs limits _ _ (g.N.Lines.left c.loop-i.lines) (g.N.Lines.left c.next_line.new.lines) _ _ _ _ _ _ _ c.next_line.new.into.items [] played (0, no_part (g.O.Sink.held c.loop-i.out)) (inr read) (rw c.deref.ensures.value at (c.in-Err-work_on.ensures.cut dirs limits played.state _ _ played.at)) (rw c.deref.ensures.value at (c.in-Err-work_on.ensures.work dirs limits played.state _ played.at.engine played.at.coming)))
 
 pub returns-in-Err-write-clause-err : goal.returns-in-Err-write-clause-err
 returns-in-Err-write-clause-err g c =
@@ -62,8 +66,10 @@ loop-i-preserved g c =
       dirs = c.work_on.ensures.dirs;
       kept = c.work_on.ensures.kept;
       knows = c.in-Ok-GoesOn.ensures.knows;
-      lines = omega (arith, c.loop-i.invariant.lines, c.next_line.ensures.cause.later);
-      out = omega (arith, c.loop-i.invariant.out, c.write.ensures.cause.later);
+      lines = c.in-Ok-true.ensures.cause.done ∙ c.loop-i.invariant.lines;
+      out = c.in-Ok.ensures.cause.done ∙ c.loop-i.invariant.out;
+      source_opened = c.work_on.ensures.source_opened ∙ c.loop-i.invariant.source_opened;
+      shelf_opened = c.work_on.ensures.shelf_opened ∙ c.loop-i.invariant.shelf_opened;
       played = λ dirs limits e ps is told. let played = c.loop-i.invariant.played dirs limits e ps is told in
           one_more (compiler (g.R.Runner.meaning dirs limits) dirs) dirs limits _ _ _ _ _ _ _ _ _ _ _ c.next_line.new.into.items c.work_on.new.text.items played read (rw (c.deref.ensures.value, c.in-Ok-GoesOn.field-0-is) at (c.in-Ok-GoesOn.ensures.went dirs limits played.state _ _ played.at)) whole;
     }

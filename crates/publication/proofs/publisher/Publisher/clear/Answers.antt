@@ -1,4 +1,4 @@
-use Rattle.std.proofs.Common.{◌≡◌, ◌+◌, ◌∷◌, ◌++◌, [], drop, take, arith, true, ◌&&◌}
+use Rattle.std.proofs.Common.{◌≡◌, ◌∙◌, ◌+◌, ◌∷◌, ◌++◌, [], drop, take, arith, true, ◌&&◌}
 use Rattle.std.specs.List.{list_all}
 use Rattle.std.proofs.lemmas.Grind.{common_steps}
 use Rattle.publication.specs.OwnNames.{is_own}
@@ -31,6 +31,7 @@ loop-name-preserved g c =
     let all : (goes ws c.name-item.result && list_all (goes ws) rest) ≡ true = rw e at c.loop-name.invariant.going in
     record {
       later = omega (arith, c.loop-name.invariant.later, c.sweep.ensures.later);
+      opened = c.sweep.ensures.opened ∙ c.loop-name.invariant.opened;
       knows = c.in_ok-sweep.ensures.knows;
       going = and_right (goes ws c.name-item.result) (list_all (goes ws) rest) all;
       log = rw so_far (removes_both _ _ _ _ _ _ _ _ c.loop-name.invariant.log c.in_ok-sweep.ensures.log);

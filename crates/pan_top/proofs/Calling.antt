@@ -1,0 +1,58 @@
+-- The call of a command, and want of memory before the words were read.
+use Rattle.std.proofs.Common.{◌≡◌, ℕ, List, [], Option, Some, None, inl, inr, refl, codes}
+use Rattle.command_words.specs.declared.commands.Command.{Command}
+use Rattle.command_words.specs.declared.commands.Command.TheVariants.{Build, Watch, Demo}
+use Rattle.rebuild.specs.Engines.{Meanings}
+use Rattle.session.specs.Sessions.{State, state_in}
+use Rattle.site_build.specs.Ends.{Stopped}
+use Rattle.site_build.specs.Session.{PublishesPart, session_for, state_for}
+use Rattle.site_build.specs.declared.ends.End.TheVariants as E
+use Rattle.site_build.proofs.Ending.{none_of}
+use Rattle.site_build.proofs.Publishing.{part_none}
+use Rattle.site_build.proofs.Settling.{if_told, spent_nothing}
+use Rattle.publication.specs.Stands.{Stand}
+use Rattle.outside.specs.Cells.{Cell}
+use Rattle.pan_top.specs.Builds.{Wrote}
+use Rattle.pan_top.specs.Calls.{CallOf}
+use Rattle.pan_top.specs.Demos.{shown_by, text_after}
+use Rattle.pan_top.specs.Scenes.{Scene, OnlyWrites, Causes}
+use Rattle.pan_top.specs.declared.status.Status.TheVariants as S
+use Rattle.pan_top.proofs.Watching.{memory_wrote}
+
+pub untouched : (s : Scene) → OnlyWrites s s
+untouched s = record { coming = refl; source_opened = refl; source_count = refl; cell = λ n. refl; changes = refl; shelf_opened = refl; shelf_count = refl; lines = refl; lines_count = refl }
+
+still : (shelf : List ℕ → Stand) (cell : List ℕ → Cell) → Stopped E.Memory shelf cell cell
+still shelf cell = ([], record { others = λ n other. refl; own = λ n closed. inl refl })
+
+pub nothing_done : {T : Type 0} (M : Meanings T) (command : Option Command) (s : Scene) → CallOf M command S.Memory s s
+nothing_done M None s = record { only = untouched s; spent = refl; line = inr (inr refl, none_of (codes "usage fault\n") s.held) }
+nothing_done M (Some (Build w)) s = record {
+  session = inr (record {
+    end = E.Memory;
+    is = inl refl;
+    text = if_told (λ ps. Wrote (session_for M w ps).text E.Memory S.Memory s.held s.held) s.coming (λ ps told. inl (refl, none_of (session_for M w ps).text s.held));
+    shelf = if_told (λ ps. Stopped E.Memory (session_for M w ps).shelf s.cell s.cell) s.coming (λ ps told. still (session_for M w ps).shelf s.cell);
+    order = λ tells. if_told (λ ps. PublishesPart (session_for M w ps).wants s.cell s.cell s.changes s.changes) s.coming (λ ps told. part_none (session_for M w ps).wants s.cell s.cell s.changes s.changes (λ n. refl) refl);
+    spent = if_told _ s.coming (λ ps told. spent_nothing (state_for M w ps) s.spent);
+    taken = inl refl;
+    source_opened = inl refl;
+    shelf_opened = inl refl;
+  });
+  lines = refl;
+  lines_count = refl;
+}
+nothing_done M (Some (Watch w)) s = inr (record {
+  end = E.Memory;
+  opening = tt;
+  text = memory_wrote s.held;
+  coming = refl;
+  lines = refl;
+  lines_count = refl;
+  shelf = λ n. refl;
+  changes = refl;
+  spent = refl;
+  source_opened = inl refl;
+  shelf_opened = inl refl;
+})
+nothing_done M (Some (Demo d)) s = record { only = untouched s; shows = inr (inr refl, none_of (text_after (shown_by M d)) s.held, spent_nothing (state_in (shown_by M d)) s.spent) }

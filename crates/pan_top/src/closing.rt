@@ -1,0 +1,73 @@
+ghost use Rattle.std.specs.Prelude.{◌≡◌, ◌≤◌, ◌⊎◌, ◌++◌, ℕ, List, IfOk, Option, Some, codes};
+ghost use Rattle.outside.specs.Causes.{Rose};
+ghost use Rattle.site_build.specs.Ends.{device_of};
+ghost use Rattle.site_build.specs.Session.{WritesEarly};
+ghost use Rattle.site_build.specs.declared.ends.Device.TheVariants as device;
+ghost use Rattle.pan_top.specs.Builds.{Wrote};
+ghost use Rattle.pan_top.specs.Scenes.{Says};
+ghost use Rattle.pan_top.specs.Statuses.{IsCut, status_of};
+ghost use Rattle.pan_top.specs.declared.status.Status.{Status};
+
+use crate::status::Status;
+use base::Text;
+use outside::Sink;
+use site_build::{End, write};
+use std::alloc::{AllocError, Global};
+
+/// Writes a line, and gives the status that goes with it, or that of the write that failed.
+pub fn say<O: Sink>(out: &mut O, line: &[u8], status: Status) -> Status
+    ensures line { Says status line.now result (O.held out.old) (O.held out.new)
+        (O.fault_count out.old) (O.fault_count out.new) }
+    ensures later { O.fault_count out.old ≤ O.fault_count out.new }
+    ensures cause { result ≡ Status.OutFault → (status ≡ Status.OutFault) ⊎ Rose
+        (O.fault_count out.old) (O.fault_count out.new) }
+{
+    match write(out, line) {
+        Ok(()) => status,
+        Err(refused) => Status::of_end(&refused),
+    }
+}
+
+/// The line of a call that failed on a file of an object.
+fn name_line(alloc: Global, object: &Text) -> Result<Vec<u8>, AllocError>
+    ensures { IfOk result
+        (λ line. line.items ≡ codes "shelf fault " ++ object.now ++ codes "\n") }
+{
+    let mut line = Vec::new(alloc);
+    line.extend_from_slice(b"shelf fault ")?;
+    line.extend_from_slice(object.as_str().as_bytes())?;
+    line.extend_from_slice(b"\n")?;
+    Ok(line)
+}
+
+/// Writes that line.
+fn say_name<O: Sink>(alloc: Global, object: &Text, out: &mut O) -> Status
+    ensures line { Says Status.ShelfFault (codes "shelf fault " ++ object.now ++ codes "\n") result
+        (O.held out.old) (O.held out.new) (O.fault_count out.old) (O.fault_count out.new) }
+    ensures later { O.fault_count out.old ≤ O.fault_count out.new }
+    ensures cause { result ≡ Status.OutFault → Rose (O.fault_count out.old)
+        (O.fault_count out.new) }
+{
+    let Ok(line) = name_line(alloc, object) else {
+        return Status::Memory;
+    };
+    say(out, &line, Status::ShelfFault)
+}
+
+/// Writes the line of a build's end that came early, and gives the status.
+pub fn close_build<O: Sink>(alloc: Global, end: &End, out: &mut O) -> Status
+    ensures status { (result ≡ status_of end.now) ⊎ IsCut result }
+    ensures text { (text : List ℕ) (old : Option (List ℕ)) → WritesEarly text end.now old
+        (O.held out.old) → Wrote text end.now result old (O.held out.new) }
+    ensures later { O.fault_count out.old ≤ O.fault_count out.new }
+    ensures cause { result ≡ Status.OutFault → (device_of end.now ≡ Some device.Out) ⊎ Rose
+        (O.fault_count out.old) (O.fault_count out.new) }
+{
+    match end {
+        End::Source => say(out, b"source fault\n", Status::SourceFault),
+        End::Shelf => say(out, b"shelf fault\n", Status::ShelfFault),
+        End::Publishing(object) => say_name(alloc, object, out),
+        End::Out => Status::OutFault,
+        End::Memory => Status::Memory,
+    }
+}

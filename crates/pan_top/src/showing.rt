@@ -1,0 +1,61 @@
+ghost use Rattle.std.specs.Prelude.{◌≡◌, ◌≤◌, ℕ, List, Option};
+ghost use Rattle.compiler.specs.Standing.{Counts, counts};
+ghost use Rattle.outside.specs.Causes.{Rose};
+ghost use Rattle.pan_top.specs.Demos.{Shows, limits_given, shown_by};
+ghost use Rattle.pan_top.specs.Scenes.{Scene};
+ghost use Rattle.pan_top.specs.declared.status.Status.{Status};
+
+use crate::closing::say;
+use crate::status::Status;
+use base::Steps;
+use command_words::Demonstration;
+use demo::{End, demo};
+use outside::Sink;
+use pan_ast::Limits;
+use runner::Runner;
+use session::Ended;
+use std::alloc::Global;
+use std::sync::ledger::Ledger;
+
+/// The limits of a demo's runs.
+fn limits_given(demonstration: &Demonstration) -> Limits
+    ensures { result ≡ limits_given demonstration.now }
+{
+    Limits {
+        max_iteration: demonstration.iterations,
+        max_recursion: demonstration.recursion,
+    }
+}
+
+/// A demo, as `demo::demo` says, with the line of its end behind it.
+pub fn show<R: Runner, O: Sink, L: Ledger>(
+    alloc: Global,
+    demonstration: &Demonstration,
+    runner: &mut R,
+    out: &mut O,
+    steps: &mut Steps<L>,
+) -> Status
+    ensures shows { Shows (shown_by R.meaning demonstration.now) result (O.held out.old)
+        (O.held out.new) (O.fault_count out.old) (O.fault_count out.new)
+        (counts (R.runs_of runner.old) steps.old) (counts (R.runs_of runner.new) steps.new) }
+    ensures cause { result ≡ Status.OutFault → Rose (O.fault_count out.old)
+        (O.fault_count out.new) }
+{
+    let limits = limits_given(demonstration);
+    match demo(
+        alloc,
+        demonstration.count,
+        demonstration.start,
+        limits,
+        runner,
+        out,
+        steps,
+    ) {
+        Ok(Ended::NumbersSpent) => say(out, b"numbers spent\n", Status::NumbersSpent),
+        Ok(Ended::TooMuch) => say(out, b"too much\n", Status::TooMuch),
+        Ok(Ended::Clean) => Status::Clean,
+        Ok(Ended::SomeFaults) => Status::SomeFaults,
+        Err(End::Out) => Status::OutFault,
+        Err(End::Memory) => Status::Memory,
+    }
+}

@@ -1,0 +1,5 @@
+pub mod Publishing
+pub mod Ending
+pub mod Taking
+pub mod Settling
+pub mod Finishing

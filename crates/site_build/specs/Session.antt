@@ -1,0 +1,111 @@
+-- The session of a build, by what a runner means, its work, and the pictures that the source has to
+-- give; and how a build ends.
+use Rattle.std.specs.Prelude.{◌≡◌, ℕ, List, [], Option, Some, None, option_map, ◌⊎◌}
+use Rattle.command_words.specs.declared.commands.Work.{Work}
+use Rattle.compiler.specs.Compiler.{Compiled, compiler, nothing}
+use Rattle.outside.specs.Cells.{Cell, AreSame}
+use Rattle.outside.specs.Contents.{Appends, AppendsPart}
+use Rattle.outside.specs.Pictures.{later_pictures}
+use Rattle.outside.specs.declared.shelf.Change.{Change}
+use Rattle.outside.specs.declared.source.MemFile.{MemFile}
+use Rattle.pan_ast.specs.declared.work.Limits.{Limits}
+use Rattle.publication.specs.Changing.{AreListed, Makes, Begins}
+use Rattle.publication.specs.Stands.{Stand, Stands, untouched}
+use Rattle.publication.specs.Wants.{wants_of}
+use Rattle.publication.specs.declared.want.Want.{Want}
+use Rattle.rebuild.specs.Engines.{Meanings}
+use Rattle.session.specs.Machines.{Machine}
+use Rattle.session.specs.Sessions.{State, Next, GoesOn, Quits, SpendsNumbers, IsTooMuch, build_round, next, state_in, started, answers, profiles_of, end_of, end_line}
+use Rattle.session.specs.declared.Ended.{Ended}
+use Rattle.site_build.specs.declared.ends.End.{End}
+use Rattle.site_build.specs.declared.ends.End.TheVariants as E
+
+-- what is written, how it ends, what stands under each name of the shelf, and what profiles want
+-- there, where there is a publication
+pub record Session : Type 0 where
+  pub text : List ℕ
+  pub ended : Ended
+  pub shelf : List ℕ → Stand
+  pub wants : Option (List Want)
+
+-- a session that ends with a line, and leaves the shelf as it is
+abbrev pub line_alone : Ended → Session
+line_alone how = record { text = end_line how; ended = how; shelf = untouched; wants = None }
+
+-- the session of what a round leads to
+abbrev pub session_after : {E : Type 0} → Machine E → Next E → Session
+session_after machine (GoesOn t) = record {
+  text = t.text;
+  ended = end_of (GoesOn t);
+  shelf = t.shelf;
+  wants = Some (wants_of (profiles_of (answers machine t)));
+}
+session_after machine (Quits t) = line_alone (end_of (Quits t))
+session_after machine (SpendsNumbers t) = line_alone (end_of (SpendsNumbers t))
+session_after machine (IsTooMuch t) = line_alone (end_of (IsTooMuch t))
+
+abbrev pub limits_of : Work → Limits
+limits_of w = record { max_iteration = w.iterations; max_recursion = w.recursion }
+
+module _ {T : Type 0} (means : Meanings T) where
+  -- the engine with the command's directories and limits
+  abbrev pub engine_for : Work → Machine (Compiled T)
+  engine_for w = compiler (means w.directories (limits_of w)) w.directories
+
+  -- what a build's round leads to, from an engine that has taken nothing
+  abbrev pub round_for : Work → List (List MemFile) → Next (Compiled T)
+  round_for w pictures = next (engine_for w) build_round (started nothing pictures)
+
+  abbrev pub session_for : Work → List (List MemFile) → Session
+  session_for w pictures = session_after (engine_for w) (round_for w pictures)
+
+  -- where the session then stands, with the runs and the steps that were made
+  abbrev pub state_for : Work → List (List MemFile) → State (Compiled T)
+  state_for w pictures = state_in (round_for w pictures)
+
+-- the session came to its end: its text is written, and the shelf is the session's
+pub record Finished (s : Session) (how : Ended) (held_old held_new : Option (List ℕ))
+    (old new : List ℕ → Cell) : Type 0 where
+  pub ended : s.ended ≡ how
+  pub text : Appends held_old s.text held_new
+  pub shelf : Stands s.shelf old new
+
+-- what is written where a run ends before its session, before the line of its end
+abbrev pub WritesEarly : List ℕ → End → Option (List ℕ) → Option (List ℕ) → Type 0
+WritesEarly text E.Out old new = AppendsPart old text new
+WritesEarly text E.Memory old new = AppendsPart old text new
+WritesEarly text E.Source old new = new ≡ old
+WritesEarly text E.Shelf old new = new ≡ old
+WritesEarly text (E.Publishing m) old new = new ≡ old
+
+-- the source's next picture was taken
+abbrev pub IsPassed : Option (List (List MemFile)) → Option (List (List MemFile)) → Type 0
+IsPassed old new = new ≡ option_map later_pictures old
+
+-- The pictures that are still to come, where a run ends early. Before the shelf was listed none was
+-- taken; a publication comes after a scan.
+abbrev pub TakesEarly : End → Option (List (List MemFile)) → Option (List (List MemFile)) → Type 0
+TakesEarly E.Shelf old new = new ≡ old
+TakesEarly (E.Publishing m) old new = IsPassed old new
+TakesEarly E.Source old new = (new ≡ old) ⊎ IsPassed old new
+TakesEarly E.Out old new = (new ≡ old) ⊎ IsPassed old new
+TakesEarly E.Memory old new = (new ≡ old) ⊎ IsPassed old new
+
+-- A session came to its end: all changes of its publication were made, over the names on the shelf
+-- in byte order, and no other; without a publication nothing was done.
+abbrev pub Publishes : Option (List Want) → (List ℕ → Cell) → (List ℕ → Cell) → Option (List Change)
+    → Option (List Change) → Type 0
+Publishes None old new before now = (now ≡ before) × AreSame old new
+Publishes (Some ws) old new before now =
+    (names : List (List ℕ)) × AreListed names old × Makes ws names old new before now
+
+-- It ended early: nothing was done, or a first part of those changes.
+abbrev pub PublishesPart : Option (List Want) → (List ℕ → Cell) → (List ℕ → Cell)
+    → Option (List Change) → Option (List Change) → Type 0
+PublishesPart None old new before now = (now ≡ before) × AreSame old new
+PublishesPart (Some ws) old new before now =
+    ((now ≡ before) × AreSame old new)
+    ⊎ ((names : List (List ℕ)) × AreListed names old × Begins ws names old new before now)
+
+abbrev pub IsPerhapsOpened : List ℕ → Option (List ℕ) → Option (List ℕ) → Type 0
+IsPerhapsOpened folder old new = (new ≡ old) ⊎ (new ≡ Some folder)
