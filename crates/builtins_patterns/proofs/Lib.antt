@@ -1,6 +1,7 @@
 pub mod Examples
 pub mod Alike
 pub mod Captured
+pub mod Cutting
 pub mod Compiled
 pub mod Given
 pub mod Templating

@@ -48,15 +48,17 @@ abbrev pub cuts : Option ℕ → List Match → List Match
 cuts None ms = ms
 cuts (Some n) ms = take (n - 1) ms
 
--- split(p, t), split(p, n, t): the pieces of t between the matches of the pattern p, with a limit
--- at most n, of which the last holds the rest
+-- the pieces of t between the matches of the pattern p, with a limit at most so many, of which the
+-- last holds the rest
+abbrev pub split_within : Option ℕ → List ℕ → List ℕ → Result Plain Refused
+split_within limit p t =
+    given BadPattern (pattern_of p)
+    (λ pattern. list_of (pieces_of t (cuts limit (find_all_str pattern.meaning t))))
+
+-- split(p, t), split(p, n, t): with a limit, and without one
 abbrev pub split_of : List Plain → Result Plain Refused
-split_of (text p ∷ text t ∷ []) =
-    given BadPattern (pattern_of p)
-    (λ pattern. list_of (pieces_of t (find_all_str pattern.meaning t)))
-split_of (text p ∷ long n ∷ text t ∷ []) =
-    given BadPattern (pattern_of p)
-    (λ pattern. list_of (pieces_of t (cuts (limit_of n) (find_all_str pattern.meaning t))))
+split_of (text p ∷ text t ∷ []) = split_within None p t
+split_of (text p ∷ long n ∷ text t ∷ []) = split_within (limit_of n) p t
 split_of _ = Err BadArgument
 
 -- t with each match of a pattern replaced by what the template r writes there

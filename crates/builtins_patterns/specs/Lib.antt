@@ -1,6 +1,6 @@
 -- What the public calls give.
 pub mod Pattern
 pub mod Calls
--- What is taken from the iterators of the crate regex.
+-- What is taken from the searches of the crate regex.
 pub mod Pieces
 pub mod Parts

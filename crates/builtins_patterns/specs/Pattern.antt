@@ -2,7 +2,8 @@
 use Rattle.std.specs.Prelude.{◌≡◌, ℕ, List, length, Option, Some, None, option_and_then, nat_lt, if◌then◌else◌}
 use Rattle.std.specs.Str.{chars}
 use Rattle.regex.specs.Patterns.{Re, SameCaptures, default_config}
-use Rattle.regex.specs.Strings.{regex_pattern, regex_names}
+use Rattle.regex.specs.Strings.{matcher_names, matcher_pattern, regex_names, regex_pattern}
+use Rattle.regex.specs.declared.string.matcher.Matcher.{Matcher}
 use Rattle.regex.specs.declared.string.regex.Regex.{Regex}
 use Rattle.regex_syntax.specs.Brackets.{Nested}
 use Rattle.regex_syntax.specs.Grammar.{read}
@@ -31,3 +32,9 @@ pub record IsCompiled (source : List ℕ) (r : Regex) : Type 0 where
   pub is : pattern_of source ≡ Some pattern
   pub alike : SameCaptures (regex_pattern r) pattern.meaning
   pub names : regex_names r ≡ pattern.names
+
+-- the matcher searches for the pattern of the text
+pub record Searches (source : List ℕ) (r : Regex) (m : Matcher) : Type 0 where
+  pub compiled : IsCompiled source r
+  pub pattern : matcher_pattern m ≡ regex_pattern r
+  pub names : matcher_names m ≡ regex_names r

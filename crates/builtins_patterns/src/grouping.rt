@@ -1,7 +1,7 @@
 ghost use Rattle.std.specs.Prelude.{◌≡◌, ◌∷◌, [], IfOk, length};
 ghost use Rattle.regex.specs.Patterns.{find_str};
 ghost use Rattle.regex.specs.Replace.{bytes_of};
-ghost use Rattle.regex.specs.Strings.{captures_haystack, captures_names, captures_span, regex_names, regex_pattern};
+ghost use Rattle.regex.specs.Strings.{captures_haystack, captures_names, captures_span, matcher_names, matcher_pattern};
 ghost use Rattle.base.specs.Answers.{Gives};
 ghost use Rattle.path_tree.specs.Plain as plain;
 ghost use Rattle.path_tree.specs.Refusals.{refusal};
@@ -10,9 +10,10 @@ ghost use Rattle.builtins_patterns.specs.Pieces.{captured};
 
 use crate::pattern::short_text;
 use crate::patterns::Patterns;
+use crate::searcher::Searcher;
 use call_values::{Arguments, by_count};
 use path_tree::{Refused, Tree};
-use regex::{Captures, Regex};
+use regex::{Captures, Matcher};
 use std::alloc::{AllocError, Global};
 
 /// `matches(t, p)`: the list of what each group of the first match of the pattern p in t matched,
@@ -40,18 +41,34 @@ fn groups_in(
     ensures { Gives (λ t. t) refusal result
         (matches_of (plain.text text.now ∷ plain.text source.now ∷ [])) }
 {
-    let pattern = patterns.pattern(source)?;
-    let groups = first_groups(alloc, pattern, text)?;
+    let Some(searcher) = patterns.kept(source)? else {
+        let mut searcher = patterns.once(alloc, source)?;
+        return groups(alloc, &mut searcher, text);
+    };
+    groups(alloc, searcher, text)
+}
+
+fn groups(alloc: Global, searcher: &mut Searcher<'_>, text: &str) -> Result<Tree, Refused>
+    ensures { Gives (λ t. t) refusal result
+        (matches_of (plain.text text.now ∷ plain.text searcher.old ∷ [])) }
+{
+    let groups = first_groups(alloc, &mut searcher.matcher, text)?;
     Tree::list(alloc, groups)
 }
 
 // What the groups of the first match matched.
 #[tactic(auto, using(crate::proofs::Captured::captured_is))]
-fn first_groups(alloc: Global, pattern: &Regex, text: &str) -> Result<Vec<Tree>, AllocError>
-    ensures { IfOk result (λ v. v.items ≡ groups_of text.now (length (regex_names pattern.now))
-        (find_str (regex_pattern pattern.now) text.now 0)) }
+fn first_groups(
+    alloc: Global,
+    matcher: &mut Matcher<'_>,
+    text: &str,
+) -> Result<Vec<Tree>, AllocError>
+    ensures ok { IfOk result (λ v. v.items
+        ≡ groups_of text.now (length (matcher_names matcher.old))
+        (find_str (matcher_pattern matcher.old) text.now 0)) }
+    ensures same { matcher_pattern matcher.new ≡ matcher_pattern matcher.old }
+    ensures names { matcher_names matcher.new ≡ matcher_names matcher.old }
 {
-    let mut matcher = pattern.matcher(alloc)?;
     match matcher.captures(text) {
         Some(captures) => texts(alloc, &captures),
         None => Ok(Vec::new(alloc)),

@@ -1,9 +1,9 @@
 //! The built-in functions on patterns (Pan Book, "Built-in Functions"): `match`, `matches`, `split`
 //! and `replace`. A pattern and a template of a replacement are what the crate `regex` reads.
 //!
-//! In reading order: `pattern` (a text as a pattern), `patterns` (those that were compiled before),
-//! `matching` (whether it matches), `grouping` (what its groups match), `splitting`, `template`
-//! (the parts of a replacement), `replacing`.
+//! In reading order: `pattern` (a text as a pattern), `searcher` (a pattern with a matcher),
+//! `patterns` (those that were compiled before), `matching` (whether it matches), `grouping` (what
+//! its groups match), `splitting`, `template` (the parts of a replacement), `replacing`.
 #![tactic(auto)]
 
 mod grouping;
@@ -11,6 +11,7 @@ mod matching;
 mod pattern;
 mod patterns;
 mod replacing;
+mod searcher;
 mod splitting;
 mod template;
 

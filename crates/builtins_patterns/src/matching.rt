@@ -1,10 +1,11 @@
-ghost use Rattle.std.specs.Prelude.{◌≡◌, ◌∷◌, []};
+ghost use Rattle.std.specs.Prelude.{◌≡◌, ◌∷◌, [], Ok};
 ghost use Rattle.base.specs.Answers.{Gives};
 ghost use Rattle.path_tree.specs.Plain as plain;
 ghost use Rattle.path_tree.specs.Refusals.{refusal};
 ghost use Rattle.builtins_patterns.specs.Calls.{match_of};
 
 use crate::patterns::Patterns;
+use crate::searcher::Searcher;
 use call_values::{Arguments, by_count};
 use path_tree::{Refused, Tree};
 use std::alloc::Global;
@@ -36,7 +37,17 @@ fn matches_somewhere(
     ensures { Gives (λ t. t) refusal result
         (match_of (plain.text text.now ∷ plain.text source.now ∷ [])) }
 {
-    let pattern = patterns.pattern(source)?;
-    let mut matcher = pattern.matcher(alloc)?;
-    Ok(Tree::boolean(matcher.is_match(text)))
+    let Some(searcher) = patterns.kept(source)? else {
+        let mut searcher = patterns.once(alloc, source)?;
+        return Ok(Tree::boolean(is_match(&mut searcher, text)));
+    };
+    Ok(Tree::boolean(is_match(searcher, text)))
+}
+
+// Whether its pattern matches somewhere.
+fn is_match(searcher: &mut Searcher<'_>, text: &str) -> bool
+    ensures { match_of (plain.text text.now ∷ plain.text searcher.old ∷ [])
+        ≡ Ok (plain.boolean result) }
+{
+    searcher.matcher.is_match(text)
 }

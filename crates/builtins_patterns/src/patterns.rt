@@ -1,22 +1,30 @@
-ghost use Rattle.std.specs.Prelude.{◌≡◌, ◌≢◌, IfErr, IfOk, IfSome, None};
+ghost use Rattle.std.specs.Prelude.{◌≡◌, ◌≢◌, IfErr, IfOk, IfSome, None, Some, slice_get};
 ghost use Rattle.path_tree.specs.declared.refused.Refused.TheVariants.{BadPattern, Memory};
 ghost use Rattle.builtins_patterns.specs.Pattern.{IsCompiled, pattern_of};
 
 use crate::pattern::compiled;
+use crate::searcher::{Searcher, leaked};
 use base::Text;
 use path_tree::Refused;
 use regex::Regex;
 use std::alloc::{AllocError, Global};
 use std::marker::Model;
 
-/// Patterns that are kept at one time.
+/// Patterns that have a matcher beside them for as long as the program runs. A matcher borrows its
+/// pattern, and a struct cannot keep both, so such a pattern is never freed: this bounds the memory
+/// that is not given back.
+const MAX_LEAKED: usize = 32;
+
+/// Patterns that are kept at one time beside those. A matcher is made for each call of one.
 const MAX_KEPT: usize = 64;
 
 /// Patterns that were compiled before, so that one that is asked for again is not compiled again.
-/// What a call answers does not depend on them, and contracts say nothing of what is kept.
+/// The first `MAX_LEAKED` keep a matcher too. What a call answers does not depend on them, and
+/// contracts say nothing of what is kept.
 #[derive(Drop)]
 pub struct Patterns {
     alloc: Global,
+    searchers: Vec<Searcher<'static>>,
     kept: Vec<Kept>,
 }
 
@@ -63,12 +71,54 @@ impl Patterns {
     pub fn new(alloc: Global) -> Patterns {
         Patterns {
             alloc,
+            searchers: Vec::new(alloc),
             kept: Vec::new(alloc),
         }
     }
 
-    /// The pattern of a text, kept for the next call. Errors as of `compiled`.
-    pub(crate) fn pattern(&mut self, source: &str) -> Result<&Regex, Refused>
+    /// The pattern of a text with its matcher, where both are kept: one that is new is kept so while
+    /// there is room. Errors as of `compiled`.
+    pub(crate) fn kept(&mut self, source: &str) -> Result<Option<&mut Searcher<'static>>, Refused>
+        ensures ok { IfOk result (λ o. IfSome o (λ s. s.now ≡ source.now)) }
+        ensures err { IfErr result
+            (λ e. e ≢ Memory → (e ≡ BadPattern) × (pattern_of source.now ≡ None)) }
+    {
+        let Some(place) = self.place(source)? else {
+            return Ok(None);
+        };
+        Ok(self.searchers.get_mut(place))
+    }
+
+    /// The pattern of a text with a matcher for one call. Errors as of `compiled`.
+    pub(crate) fn once(&mut self, alloc: Global, source: &str) -> Result<Searcher<'_>, Refused>
+        ensures ok { IfOk result (λ s. s ≡ source.now) }
+        ensures err { IfErr result
+            (λ e. e ≢ Memory → (e ≡ BadPattern) × (pattern_of source.now ≡ None)) }
+    {
+        let pattern = self.pattern(source)?;
+        Ok(Searcher::new(alloc, source, pattern)?)
+    }
+
+    // Its place among those with a matcher, where it is one of them.
+    fn place(&mut self, source: &str) -> Result<Option<usize>, Refused>
+        ensures ok { IfOk result (λ o. IfSome o
+            (λ i. slice_get self.new.searchers.items i ≡ Some source.now)) }
+        ensures err { IfErr result
+            (λ e. e ≢ Memory → (e ≡ BadPattern) × (pattern_of source.now ≡ None)) }
+    {
+        let found = place_in(&self.searchers, source);
+        if found.is_some() || self.searchers.len() >= MAX_LEAKED {
+            return Ok(found);
+        }
+        let pattern = compiled(self.alloc, source)?;
+        let searcher = leaked(self.alloc, source, pattern)?;
+        let place = self.searchers.len();
+        self.searchers.push(searcher)?;
+        Ok(Some(place))
+    }
+
+    // The pattern of a text, kept for the next call.
+    fn pattern(&mut self, source: &str) -> Result<&Regex, Refused>
         ensures ok { IfOk result (λ r. IsCompiled source.now r.now) }
         ensures err { IfErr result
             (λ e. e ≢ Memory → (e ≡ BadPattern) × (pattern_of source.now ≡ None)) }
@@ -105,4 +155,16 @@ impl Patterns {
         self.kept.push(kept)?;
         Ok(())
     }
+}
+
+// The place of the pattern of a text.
+fn place_in(searchers: &[Searcher<'static>], source: &str) -> Option<usize>
+    ensures { IfSome result (λ i. slice_get searchers.now i ≡ Some source.now) }
+{
+    for i in 0..searchers.len() {
+        if searchers[i].source() == source {
+            return Some(i);
+        }
+    }
+    None
 }

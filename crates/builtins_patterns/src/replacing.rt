@@ -1,7 +1,7 @@
 ghost use Rattle.std.specs.Prelude.{◌≡◌, ◌++◌, ◌∷◌, [], ℕ, List, IfOk, OnOk, slice_range, true};
 ghost use Rattle.regex.specs.Patterns.{find_str};
 ghost use Rattle.regex.specs.Search.{next_match};
-ghost use Rattle.regex.specs.Strings.{matcher_pattern, regex_names, regex_pattern};
+ghost use Rattle.regex.specs.Strings.{matcher_names, matcher_pattern, regex_names, regex_pattern};
 ghost use Rattle.base.specs.Answers.{Gives};
 ghost use Rattle.call_values.specs.Drafts.{drafted};
 ghost use Rattle.path_tree.specs.Plain as plain;
@@ -12,6 +12,7 @@ ghost use Rattle.builtins_patterns.specs.Parts.{WritesNext, captured_text, part_
 
 use crate::grouping::group;
 use crate::patterns::Patterns;
+use crate::searcher::Searcher;
 use crate::template::{Part, parts};
 use call_values::{Arguments, Draft, by_count};
 use path_tree::{Refused, Tree};
@@ -48,21 +49,50 @@ fn replaced(
     ensures { Gives (λ t. t) refusal result (replace_of
         (plain.text source.now ∷ plain.text template.now ∷ plain.text text.now ∷ [])) }
 {
-    let pattern = patterns.pattern(source)?;
-    rewritten(alloc, pattern, template, text)
+    let Some(searcher) = patterns.kept(source)? else {
+        let mut searcher = patterns.once(alloc, source)?;
+        return replaced_by(alloc, &mut searcher, template, text);
+    };
+    replaced_by(alloc, searcher, template, text)
+}
+
+fn replaced_by(
+    alloc: Global,
+    searcher: &mut Searcher<'_>,
+    template: &str,
+    text: &str,
+) -> Result<Tree, Refused>
+    ensures { Gives (λ t. t) refusal result (replace_of
+        (plain.text searcher.old ∷ plain.text template.now ∷ plain.text text.now ∷ [])) }
+{
+    rewritten(
+        alloc,
+        searcher.pattern,
+        &mut searcher.matcher,
+        template,
+        text,
+    )
 }
 
 // The text with what the template writes in the place of each match.
-fn rewritten(alloc: Global, pattern: &Regex, template: &str, text: &str) -> Result<Tree, Refused>
-    ensures { Gives (λ t. t) refusal result (text_value (rewritten
+fn rewritten(
+    alloc: Global,
+    pattern: &Regex,
+    matcher: &mut Matcher<'_>,
+    template: &str,
+    text: &str,
+) -> Result<Tree, Refused>
+    requires { matcher_pattern matcher.old ≡ regex_pattern pattern.now }
+    ensures value { Gives (λ t. t) refusal result (text_value (rewritten
         (record { meaning = regex_pattern pattern.now; names = regex_names pattern.now })
         template.now text.now)) }
+    ensures same { matcher_pattern matcher.new ≡ matcher_pattern matcher.old }
+    ensures names { matcher_names matcher.new ≡ matcher_names matcher.old }
 {
     let parts = parts(alloc, pattern, template)?;
-    let mut matcher = pattern.matcher(alloc)?;
     let mut draft = Draft::new(alloc);
     let mut after = 0;
-    while let Some(end) = write_next(&mut matcher, &mut draft, &parts, text, after)? {
+    while let Some(end) = write_next(matcher, &mut draft, &parts, text, after)? {
         after = end + 1;
     }
     write_between(&mut draft, text, after.saturating_sub(1), text.len())?;
@@ -80,6 +110,7 @@ fn write_next(
     ensures ok { IfOk result
         (WritesNext (matcher_pattern matcher.old) parts.now text.now after draft.old draft.new) }
     ensures same { matcher_pattern matcher.new ≡ matcher_pattern matcher.old }
+    ensures names { matcher_names matcher.new ≡ matcher_names matcher.old }
 {
     let start = next_start(matcher, text, after);
     let Some(captures) = matcher.captures_at(text, start) else {
@@ -96,6 +127,7 @@ fn next_start(matcher: &mut Matcher<'_>, text: &str, after: usize) -> usize
     ensures value { find_str (matcher_pattern matcher.old) text.now result
         ≡ next_match true (matcher_pattern matcher.old) text.now after }
     ensures same { matcher_pattern matcher.new ≡ matcher_pattern matcher.old }
+    ensures names { matcher_names matcher.new ≡ matcher_names matcher.old }
 {
     if after == 0 {
         return 0;

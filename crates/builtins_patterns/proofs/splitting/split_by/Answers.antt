@@ -1,0 +1,13 @@
+use Rattle.std.proofs.Common.{subst}
+use Rattle.base.specs.Answers.{Gives}
+use Rattle.path_tree.specs.Plain.{Plain}
+use Rattle.path_tree.specs.Refusals.{refusal}
+use Rattle.builtins_patterns.proofs.Given.{split_given}
+use Rattle.builtins_patterns.proofs.splitting.split_by.Goals as goal
+
+pub returns : goal.returns
+returns c =
+    let s = c.searcher.inside in
+    subst (Gives (λ (t : Plain). t) refusal c.list.result)
+    (split_given s.source c.args.text.now c.args.searcher.now s.pattern.now s.matcher c.searcher.invariant c.searcher.view_is (λ k. (c.type_inv.text k).fits) c.args.limit c.in_ok-pieces.pieces.items c.in_ok-pieces.ensures.ok)
+    c.list.ensures
