@@ -9,19 +9,31 @@ help() {
   cat <<'HELP'
 pan compiles templates of the Pan language into one JSON profile for each machine.
 
-  ./pan build SOURCE OUT [options]    compiles each object template below SOURCE into OUT
-  ./pan watch SOURCE OUT [options]    the same, asked by lines on standard input
-      --include LIST                  include directories below SOURCE, joined by `:` (`.` without it)
-      --max-iteration N               turns of a loop (10000)
-      --max-recursion N               nested calls of functions (50)
+  ./pan build SOURCE OUT [options]    compiles each object template below SOURCE into OUT, and tells faults
+  ./pan watch SOURCE OUT [options]    the same, asked by lines on standard input (scan, build, why NAME, ..)
+  ./pan demo COUNT START [options]    builds machines that are made up, in memory
+      --include LIST                  folders below SOURCE where templates are looked for, joined by `:` (.)
+      --max-iteration N               turns of one loop, 1 to 1,000,000 (10,000)
+      --max-recursion N               calls of functions that are open at once, 1 to 200 (50)
 
-pan manages every .json and .dep file below OUT: give it a folder of its own.
+pan manages every .json and .dep file below OUT: give it a folder of its own. Its status is 0 where each object
+has a profile, 1 where one has a fault, and more where something failed.
 
-  ./pan --try WORDS                   runs the program without any proof; it starts in a few minutes
+These are the script's own, and stand first:
+
+  ./pan --try WORDS                   compiles the program without any proof, in five to ten minutes each time, and
+                                      runs it (a watcher's lines then come from a file: < FILE)
   ./pan --build-only                  proves and builds the program, and runs nothing
-  ./pan --version, ./pan --help
+  ./pan --version                     the kit that it is proved with
+  ./pan --help                        this text
 
-docs/COMMANDS.md says the rest.
+Without them the program is proved and built where it is missing or old; the first time that takes long.
+
+  ./pan build examples/site profiles
+  ./pan --try build examples/site profiles
+  contrib/pan-watch site profiles     builds again whenever a file of site changes
+
+docs/COMMANDS.md (man -l docs/pan.1) says the rest, docs/FAULTS.md what a fault means and what to do.
 HELP
 }
 
@@ -97,11 +109,21 @@ try() {
   exec rt try pan --seconds 600 -- "${words[@]}"
 }
 
+# Words without a mode are told before anything is proved.
+has_mode() {
+  local word
+  for word in "$@"; do
+    case $word in build | watch | demo) return 0 ;; esac
+  done
+  return 1
+}
+
 case ${1:-} in
   --help) help; exit 0 ;;
   --version) need_rt; echo "pan, proved with $(rt version)"; exit 0 ;;
   --try) need_rt; shift; try "$@" ;;
 esac
+if [ "${1:-}" != "--build-only" ] && ! has_mode "$@"; then echo "usage fault"; help >&2; exit 2; fi
 if stale; then need_rt; build; fi
 if [ "${1:-}" = "--build-only" ]; then exit 0; fi
 exec "$program" "$@"

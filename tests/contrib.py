@@ -1,0 +1,201 @@
+#!/usr/bin/env python3
+"""Tries the scripts of contrib/ with the built program, and ends with `N passed, M failed`.
+
+    tests/contrib.py
+
+- contrib/pan-watch over a small site: a build at its start, one for each change, a fault, and its end by SIGTERM.
+- contrib/pre-commit in a git repository of its own: what is added is compiled, and not what lies in the folder.
+- contrib/pan-watch.service reads, where systemd is here.
+
+The program is the one that the variable PAN names, else crates/pan/out/pan.
+"""
+import os
+import re
+import shutil
+import signal
+import subprocess
+import sys
+import tempfile
+import threading
+from pathlib import Path
+
+TOP = Path(__file__).resolve().parent.parent
+CONTRIB = TOP / "contrib"
+PROGRAM = Path(os.environ.get("PAN", TOP / "crates" / "pan" / "out" / "pan")).resolve()
+SECONDS = 120
+
+
+def write(folder, name, text):
+    path = folder / name
+    path.parent.mkdir(parents=True, exist_ok=True)
+    path.write_text(text)
+
+
+class Watched:
+    """A run of contrib/pan-watch, which is ended where it takes too long."""
+
+    def __init__(self, *words):
+        self.process = subprocess.Popen(
+            [CONTRIB / "pan-watch", "--program", PROGRAM, *words],
+            stdout=subprocess.PIPE,
+            stderr=subprocess.STDOUT,
+            text=True,
+        )
+        self.clock = threading.Timer(SECONDS, self.process.kill)
+        self.clock.start()
+        self.stamps = []
+
+    def lines(self, last="objects "):
+        """The lines to the first that begins so, without their times."""
+        said = []
+        for line in self.process.stdout:
+            stamp, _, text = line.rstrip("\n").partition(" ")
+            self.stamps.append(stamp)
+            said.append(text)
+            if text.startswith(last):
+                break
+        return said
+
+    def end(self, number):
+        self.process.send_signal(number)
+        rest = self.lines("ended")
+        status = self.process.wait()
+        self.clock.cancel()
+        return status, rest
+
+
+def watching(folder):
+    source, out = folder / "source", folder / "out"
+    write(source, "web1.pan", "object template web1;\ninclude 'site/port';\n")
+    write(source, "web2.pan", "object template web2;\n'/port' = value('web1:/port') + 1;\n")
+    write(source, "site/port.pan", "template site/port;\n'/port' = 80;\n")
+    watched = Watched("--poll", "0.2", source, out)
+    yield "a build at the start", watched.lines() == ["run web1", "run web2", "objects 2 ok 2 faults 0 run 2"]
+    yield "its profile", (out / "web2.json").read_text() == '{"port":81}\n'
+    write(source, "site/port.pan", "template site/port;\n'/port' = 8080;\n")
+    said = ["run web1", "why web1: changed file site/port.pan", "run web2", "why web2: changed object web1"]
+    yield "a change", watched.lines() == [*said, "objects 2 ok 2 faults 0 run 2"]
+    write(source, ".hidden/web3.pan", "object template web3;\n")
+    write(source, "site/port.pan", "template site/port;\nbind '/port' = long(1..80);\n'/port' = 8080;\n")
+    said = watched.lines()
+    yield "a fault", "fault web1 F36 site/port.pan:2:1 /port" in said and said[-1].startswith("objects 2 ok 1 faults 1 ")
+    yield "its profile goes", not (out / "web1.json").exists() and (out / "web2.json").exists()
+    (source / "web2.pan").unlink()
+    yield "a file that goes", watched.lines() == ["fault web1 F36 site/port.pan:2:1 /port", "objects 1 ok 0 faults 1 run 0"]
+    status, rest = watched.end(signal.SIGTERM)
+    yield "its end", status == 0 and rest == ["ended, the watcher with status 1"]
+    stamp = r"\d{4}-\d\d-\d\dT\d\d:\d\d:\d\d"
+    yield "a time on each line", all(re.fullmatch(stamp, text) for text in watched.stamps)
+    watched = Watched("--poll", "60", source, folder / "out", "--max-iteration", "0")
+    yield "words that are none", watched.lines("the watcher ended") == ["usage fault", "the watcher ended with status 2"]
+    yield "their status", watched.process.wait(SECONDS) == 2
+    watched.clock.cancel()
+
+
+def every_few_seconds(folder):
+    path = folder / "source/web1.pan"
+    write(folder, "source/web1.pan", "object template web1;\n'/port' = 80;\n")
+    watched = Watched("--poll", "0.2", "--every", "0.5", folder / "source", folder / "out")
+    watched.lines()
+    times = (path.stat().st_atime_ns, path.stat().st_mtime_ns)
+    with path.open("r+") as file:
+        file.write("object template web1;\n'/port' = 81;\n")
+    os.utime(path, ns=times)
+    said = ["run web1", "why web1: changed file web1.pan", "objects 1 ok 1 faults 0 run 1"]
+    yield "a build each few seconds", watched.lines() == said
+    yield "its profile", (folder / "out/web1.json").read_text() == '{"port":81}\n'
+    yield "the end by SIGINT", watched.end(signal.SIGINT) == (0, ["ended, the watcher with status 0"])
+
+
+class Repository:
+    def __init__(self, folder):
+        self.folder = folder
+        for words in (["init", "-q", "."], ["config", "user.email", "a@example.org"], ["config", "user.name", "a"]):
+            self.git(*words)
+        self.git("config", "pan.program", str(PROGRAM))
+        self.git("config", "pan.source", "site")
+        self.git("config", "core.hooksPath", ".git/hooks")
+        (folder / ".git/hooks").mkdir(exist_ok=True)
+        (folder / ".git/hooks/pre-commit").symlink_to(CONTRIB / "pre-commit")
+
+    def git(self, *words):
+        """The status, and what was written to standard error."""
+        outer = {name: value for name, value in os.environ.items() if not name.startswith("GIT_")}
+        ended = subprocess.run(
+            ["git", *words], cwd=self.folder, env=outer, capture_output=True, text=True, timeout=SECONDS
+        )
+        return ended.returncode, [line for line in ended.stderr.splitlines() if not line.startswith("hint:")]
+
+    def commit(self, *words):
+        return self.git("commit", "-q", "-m", "a change", *words)
+
+
+REFUSED = "pan: the commit is refused; git commit --no-verify commits all the same"
+
+
+def committing(folder):
+    repository = Repository(folder)
+    write(folder, "site/web1.pan", "object template web1;\ninclude 'port';\n")
+    write(folder, "site/port.pan", "template port;\n'/port' = 80;\n")
+    write(folder, "notes.txt", "no part of the site\n")
+    repository.git("add", ".")
+    yield "a first commit", repository.commit() == (0, ["pan: profiles that change: 1", "  new     web1"])
+    write(folder, "site/port.pan", "template port;\n'/port' = 8080;\n")
+    write(folder, "site/web2.pan", "object template web2;\n'/a' = 1\n")
+    yield "a change that was added", repository.commit("site/port.pan") == (
+        0,
+        ["pan: profiles that change: 1", "  changed web1"],
+    )
+    repository.git("add", ".")
+    yield "a fault", repository.commit() == (1, ["fault web2 F06 site/web2.pan:3:1".replace("site/", ""), REFUSED])
+    yield "without the hook", repository.commit("--no-verify") == (0, [])
+    write(folder, "site/web2.pan", "object template web2;\n'/a' = 1;\n")
+    repository.git("rm", "-q", "site/web1.pan")
+    repository.git("add", ".")
+    shutil.rmtree(folder / ".git/pan")
+    yield "a fault mended, an object gone", repository.commit() == (
+        0,
+        ["pan: profiles that change: 2", "  gone    web1", "  new     web2"],
+    )
+    write(folder, "site/port.pan", "template port;\n'/port' = 81;\n")
+    yield "a file that nobody reads", repository.commit("-a") == (0, ["pan: no profile changes"])
+    write(folder, "notes.txt", "another note\n")
+    yield "a file beside the site", repository.commit("-a") == (0, [])
+    repository.git("config", "pan.options", "--max-iteration 0")
+    write(folder, "site/port.pan", "template port;\n")
+    yield "options that are none", repository.commit("-a") == (
+        1,
+        ["usage fault", "pan: the build ended with status 2", REFUSED],
+    )
+
+
+def unit(folder):
+    """The unit as it stands but for the program, which systemd wants to be there."""
+    if not shutil.which("systemd-analyze"):
+        return
+    text = (CONTRIB / "pan-watch.service").read_text().replace("/opt/pan/contrib/pan-watch", "/bin/true")
+    write(folder, "pan-watch.service", text)
+    ended = subprocess.run(
+        ["systemd-analyze", "verify", "--man=no", folder / "pan-watch.service"], capture_output=True, text=True
+    )
+    own = [line for line in ended.stderr.splitlines() if "pan-watch" in line]
+    yield "the unit", own == []
+
+
+def main():
+    if not PROGRAM.is_file():
+        print(f"no program at {PROGRAM}: build it, or name it in the variable PAN")
+        return 2
+    passed = failed = 0
+    for part in (watching, every_few_seconds, committing, unit):
+        with tempfile.TemporaryDirectory() as room:
+            for name, is_well in part(Path(room)):
+                passed, failed = passed + is_well, failed + (not is_well)
+                if not is_well:
+                    print(f"FAILED {name}")
+    print(f"{passed} passed, {failed} failed")
+    return 1 if failed else 0
+
+
+if __name__ == "__main__":
+    sys.exit(main())

@@ -1,0 +1,127 @@
+#!/usr/bin/env python3
+"""Compares the documents with the program and with each other, and ends with `N passed, M failed`.
+
+    tests/documents.py
+
+- docs/pan.1 is what docs/make_man.py makes of docs/COMMANDS.md, and groff shows it without a warning.
+- Each link of a document leads to a file that is there, and README.md names each document.
+- docs/FAULTS.md and docs/LANGUAGE.md have each fault code of the compiler once; ./pan --help names each option.
+- What README.md shows, the program does. The examples of the other documents are run by tests/run.
+- Each folder of examples/ is run by a row.
+
+The program is the one that the variable PAN names, else crates/pan/out/pan.
+"""
+import os
+import re
+import shutil
+import subprocess
+import sys
+import tempfile
+from pathlib import Path
+
+TOP = Path(__file__).resolve().parent.parent
+DOCS = TOP / "docs"
+PROGRAM = Path(os.environ.get("PAN", TOP / "crates" / "pan" / "out" / "pan")).resolve()
+# A code that no fault has any more.
+OLD_CODES = {"F99"}
+
+
+def man_page():
+    ended = subprocess.run([DOCS / "make_man.py", "--check"], capture_output=True, text=True)
+    yield "docs/pan.1 is made from docs/COMMANDS.md", ended.returncode == 0
+    if shutil.which("groff"):
+        ended = subprocess.run(["groff", "-man", "-Tutf8", "-ww", "-z", DOCS / "pan.1"], capture_output=True, text=True)
+        yield "groff shows docs/pan.1 without a warning", ended.returncode == 0 and not ended.stderr
+
+
+def pages():
+    return [TOP / "README.md", TOP / "tests" / "README.md", *sorted(DOCS.glob("*.md"))]
+
+
+def anchors_of(page):
+    """The headings of a page, as links name them."""
+    heads = re.findall(r"^#+ (.*)$", page.read_text(), re.M)
+    return {re.sub(r"[^\w\- ]", "", head.lower()).replace(" ", "-") for head in heads}
+
+
+def links():
+    for page in pages():
+        bad = []
+        for target in re.findall(r"\]\(([^)\s]+)\)", page.read_text()):
+            if "://" in target:
+                continue
+            file, _, anchor = target.partition("#")
+            path = page.parent / file if file else page
+            if not path.exists() or (anchor and anchor not in anchors_of(path)):
+                bad.append(target)
+        yield f"links of {page.relative_to(TOP)} {' '.join(bad)}".rstrip(), not bad
+    named = (TOP / "README.md").read_text()
+    missing = [page.name for page in DOCS.glob("*.md") if f"docs/{page.name}" not in named]
+    yield f"README.md names each document {' '.join(missing)}".rstrip(), not missing
+
+
+def codes():
+    source = (TOP / "crates/pan_ast/specs/Codes.antt").read_text()
+    wanted = sorted(set(re.findall(r'codes "(F\d\d)"', source)) - OLD_CODES)
+    yield "the compiler's codes", len(wanted) > 40
+    yield "docs/FAULTS.md has each", re.findall(r"^## (F\d\d)", (DOCS / "FAULTS.md").read_text(), re.M) == wanted
+    table = re.findall(r"\| (F\d\d) (?=\|)", (DOCS / "LANGUAGE.md").read_text())
+    yield "docs/LANGUAGE.md has each", sorted(table) == wanted
+
+
+def options():
+    told = subprocess.run([TOP / "pan", "--help"], capture_output=True, text=True).stdout
+    known = set(re.findall(r"^\| `(--[a-z-]+)", (DOCS / "COMMANDS.md").read_text(), re.M))
+    yield "./pan --help names each option", len(known) > 2 and all(option in told for option in known)
+
+
+def blocks_of(text):
+    """The indented blocks of a page, each a text."""
+    found = re.findall(r"(?:^    .*\n)+", text, re.M)
+    return ["".join(line[4:] for line in block.splitlines(keepends=True)) for block in found]
+
+
+def readme():
+    """The first two blocks are files, named by their first lines; then come the texts of two runs and what they leave."""
+    types, web1, report, profile, reads, fault, *_ = blocks_of((TOP / "README.md").read_text())
+    extra = re.search(r"With one more line, `([^`]+)`", (TOP / "README.md").read_text())[1]
+    with tempfile.TemporaryDirectory() as folder:
+        folder = Path(folder)
+
+        def build():
+            words = [PROGRAM, "build", "site", "profiles"]
+            return subprocess.run(words, cwd=folder, capture_output=True, text=True, timeout=120).stdout
+
+        for text in (types, web1):
+            path = folder / re.search(r"# (\S+)\n", text)[1]
+            path.parent.mkdir(exist_ok=True)
+            path.write_text(text)
+        yield "the report of README.md", build() == report
+        yield "its profile", (folder / "profiles/web1.json").read_text() == profile
+        yield "its dependencies", (folder / "profiles/web1.dep").read_text() == reads
+        path.write_text(web1 + extra + "\n")
+        yield "its fault", fault in build() and not (folder / "profiles/web1.json").exists()
+
+
+def examples():
+    rows = "".join(path.read_text() for path in (TOP / "tests/rows").glob("*.row"))
+    for folder in sorted((TOP / "examples").iterdir()):
+        yield f"a row runs examples/{folder.name}", f"example {folder.name} -> " in rows
+
+
+def main():
+    if not PROGRAM.is_file():
+        print(f"no program at {PROGRAM}: build it, or name it in the variable PAN")
+        return 2
+    passed = failed = 0
+    for part in (man_page, links, codes, options, readme, examples):
+        for name, is_well in part():
+            passed, failed = passed + is_well, failed + (not is_well)
+            if not is_well:
+                print(f"FAILED {name}")
+    print(f"{passed} passed, {failed} failed")
+    return 1 if failed else 0
+
+
+if __name__ == "__main__":
+    sys.exit(main())
