@@ -1,5 +1,5 @@
 -- The call of a command, and want of memory before the words were read.
-use Rattle.std.proofs.Common.{◌≡◌, ℕ, List, [], Option, Some, None, inl, inr, refl, codes}
+use Rattle.std.proofs.Common.{◌≡◌, ℕ, List, [], Option, Some, None, inl, inr, refl, subst, codes}
 use Rattle.command_words.specs.declared.commands.Command.{Command}
 use Rattle.command_words.specs.declared.commands.Command.TheVariants.{Build, Watch, Demo}
 use Rattle.rebuild.specs.Engines.{Meanings}
@@ -13,10 +13,13 @@ use Rattle.site_build.proofs.Settling.{if_told, spent_nothing}
 use Rattle.publication.specs.Stands.{Stand}
 use Rattle.outside.specs.Cells.{Cell}
 use Rattle.pan_top.specs.Builds.{Wrote}
-use Rattle.pan_top.specs.Calls.{CallOf}
+use Rattle.command_words.specs.Commands.{command_of}
+use Rattle.pan_top.specs.Calls.{CallOf, PanCall}
 use Rattle.pan_top.specs.Demos.{shown_by, text_after}
 use Rattle.pan_top.specs.Scenes.{Scene, OnlyWrites, Causes}
+use Rattle.pan_top.specs.declared.status.Status.{Status}
 use Rattle.pan_top.specs.declared.status.Status.TheVariants as S
+use Rattle.pan_top.proofs.Causing.{memory_causes}
 use Rattle.pan_top.proofs.Watching.{memory_wrote}
 
 pub untouched : (s : Scene) → OnlyWrites s s
@@ -56,3 +59,10 @@ nothing_done M (Some (Watch w)) s = inr (record {
   shelf_opened = inl refl;
 })
 nothing_done M (Some (Demo d)) s = record { only = untouched s; shows = inr (inr refl, none_of (text_after (shown_by M d)) s.held, spent_nothing (state_in (shown_by M d)) s.spent) }
+
+-- the call of the command that the words are
+pub called : {T : Type 0} (M : Meanings T) (words : List (List ℕ)) (command : Option Command) (status : Status) (before after : Scene) → command ≡ command_of words → CallOf M command status before after → Causes status before after → PanCall M words status before after
+called M words command status before after is call causes = record { call = subst (λ command. CallOf M command status before after) is call; causes = causes }
+
+pub given_up : {T : Type 0} (M : Meanings T) (words : List (List ℕ)) (s : Scene) → PanCall M words S.Memory s s
+given_up M words s = record { call = nothing_done M (command_of words) s; causes = memory_causes s s }

@@ -1,5 +1,5 @@
 -- The causes of statuses.
-use Rattle.std.proofs.Common.{◌≡◌, ◌≤◌, ◌⊎◌, ℕ, Some, inl, inr, refl, sym, ◌∙◌}
+use Rattle.std.proofs.Common.{◌≡◌, ◌≤◌, ◌⊎◌, ℕ, List, Option, Some, inl, inr, refl, sym, ◌∙◌}
 use Rattle.outside.specs.Causes.{Rose}
 use Rattle.session.specs.declared.Ended.{Ended}
 use Rattle.session.specs.declared.Ended.TheVariants as ended
@@ -7,7 +7,10 @@ use Rattle.site_build.specs.Ends.{device_of}
 use Rattle.site_build.specs.declared.ends.Device.TheVariants as D
 use Rattle.site_build.specs.declared.ends.End.{End}
 use Rattle.site_build.specs.declared.ends.End.TheVariants as E
-use Rattle.pan_top.specs.Scenes.{Scene, Causes}
+use Rattle.session.specs.Sessions.{Next, end_of}
+use Rattle.compiler.specs.Standing.{Counts}
+use Rattle.pan_top.specs.Demos.{Shows}
+use Rattle.pan_top.specs.Scenes.{Scene, Causes, Says}
 use Rattle.pan_top.specs.Statuses.{IsCut, status_after, status_of}
 use Rattle.pan_top.specs.declared.status.Status.{Status}
 use Rattle.pan_top.specs.declared.status.Status.TheVariants as S
@@ -76,3 +79,26 @@ early_causes e status before after how source shelf out = record {
   lines = λ is. absurd (by_lines e status how is);
   out = out;
 }
+
+-- a text that was cut: the sink failed, or memory was wanting
+cut_causes : (status : Status) (before after : Scene) → IsCut status → (status ≡ S.OutFault → Rose before.out_count after.out_count) → Causes status before after
+cut_causes status before after (inl is) out = record { source = λ e. cc; shelf = λ e. cc; lines = λ e. cc; out = out }
+cut_causes status before after (inr is) out = record { source = λ e. cc; shelf = λ e. cc; lines = λ e. cc; out = out }
+
+-- words that are no command
+pub usage_causes : (line : List ℕ) (status : Status) (old new : Option (List ℕ)) (count now : ℕ) (before after : Scene) → Says S.Usage line status old new count now → (status ≡ S.OutFault → Rose before.out_count after.out_count) → Causes status before after
+usage_causes line status old new count now before after (inl said) out = let is = said.0 in record { source = λ e. cc; shelf = λ e. cc; lines = λ e. cc; out = out }
+usage_causes line status old new count now before after (inr cut) out = cut_causes status before after cut.0 out
+
+-- a demo
+pub shown_causes : {E : Type 0} (x : Next E) (status : Status) (old new : Option (List ℕ)) (count now : ℕ) (spent spent' : Counts) (before after : Scene) → Shows x status old new count now spent spent' → (status ≡ S.OutFault → Rose before.out_count after.out_count) → Causes status before after
+shown_causes x status old new count now spent spent' before after (inl whole) out = own_causes (end_of x) status before after whole.0
+shown_causes x status old new count now spent spent' before after (inr cut) out = cut_causes status before after cut.0 out
+
+-- no line is written, and no device is called
+pub memory_causes : (before after : Scene) → Causes S.Memory before after
+memory_causes before after = record { source = λ e. cc; shelf = λ e. cc; lines = λ e. cc; out = λ e. cc }
+
+pub usage_rose : {P : Type 0} → (S.Usage ≡ S.OutFault) ⊎ P → P
+usage_rose (inl is) = cc
+usage_rose (inr rose) = rose

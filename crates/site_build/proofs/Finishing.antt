@@ -1,7 +1,7 @@
 -- What a build publishes, writes and spends, by how far it came.
-use Rattle.std.proofs.Common.{◌≡◌, ℕ, Bool, true, false, List, Option, Some, None, IfSome, Result, Ok, Err, IfOk, IfErr, OnErr, refl, sym, subst}
+use Rattle.std.proofs.Common.{◌≡◌, ℕ, Bool, true, false, List, Option, Some, None, IfSome, Result, Ok, Err, IfOk, IfErr, OnErr, sym, subst}
 use Rattle.command_words.specs.declared.commands.Work.{Work}
-use Rattle.compiler.specs.Standing.{Counts, counts, Gives, HasSpent, HasSpentAtMost, SpendsAs}
+use Rattle.compiler.specs.Standing.{Counts, counts, Gives, HasSpentAtMost, SpendsAs}
 use Rattle.compiler.specs.declared.building.Built.{Built}
 use Rattle.compiler.proofs.Counting.{at_most}
 use Rattle.engine_turns.specs.declared.core_data.Core.{Core}

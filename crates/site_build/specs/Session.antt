@@ -1,6 +1,6 @@
 -- The session of a build, by what a runner means, its work, and the pictures that the source has to
 -- give; and how a build ends.
-use Rattle.std.specs.Prelude.{◌≡◌, ℕ, List, [], Option, Some, None, option_map, ◌⊎◌}
+use Rattle.std.specs.Prelude.{◌≡◌, ℕ, List, Option, Some, None, option_map, ◌⊎◌}
 use Rattle.command_words.specs.declared.commands.Work.{Work}
 use Rattle.compiler.specs.Compiler.{Compiled, compiler, nothing}
 use Rattle.outside.specs.Cells.{Cell, AreSame}

@@ -27,6 +27,7 @@ use Rattle.session.specs.Machines.{Machine}
 use Rattle.session.specs.Orders.{Order, Scan, Turns, Build, Quit}
 use Rattle.session.specs.Sessions.{Next, GoesOn, Scanned, Done, writes, scanned, ordered, some_turns, with_turns, built, reported, answers_in, profiles_of}
 use Rattle.session.specs.Texts.{files_line, turns_line}
+use Rattle.watch.proofs.Working.{turns_lead}
 use Rattle.watch.specs.declared.step.Step.TheVariants as step
 use Rattle.watch.specs.Steps.{Spot, spot, At, Between, GoesBehind, Publishes, Went}
 
@@ -216,9 +217,6 @@ module _ {T : Type 0} (M : Meanings T) (dirs : List (List ℕ)) (limits : Limits
   abbrev Took_next : Type 0
   Took_next = TakesNext machine dirs limits s took.Taken mid began spent_mid told' sources sources'
 
-  pub turns_lead : (t : Took_next) → left ≡ turns_left_of mid → (troubles : List Trouble) → scanned machine t.scan s (built machine troubles) ≡ with_turns machine left t.state (λ u. GoesOn (reported machine troubles u))
-  turns_lead t is troubles = t.leads (built machine troubles) ∙ ap (λ k. with_turns machine k t.state (λ u. GoesOn (reported machine troubles u))) (ap machine.turns_left (sym t.stands.engine.is) ∙ sym is)
-
   abbrev Made : Took_next → Bool → Type 0
   Made t all = MakesTurns machine dirs limits left t.state all settled began spent'
 
@@ -233,7 +231,7 @@ module _ {T : Type 0} (M : Meanings T) (dirs : List (List ℕ)) (limits : Limits
         scan = t.scan;
         troubles = d.troubles;
         state = reported machine d.troubles made.state;
-        leads = λ line. turns_lead t is d.troubles ∙ made.leads (λ u. GoesOn (reported machine d.troubles u));
+        leads = λ line. turns_lead M dirs limits t is d.troubles ∙ made.leads (λ u. GoesOn (reported machine d.troubles u));
         on = record {
           at = record {
             engine = record { engine = forgot; spent = record { in_runs = made.stands.spent.in_runs; in_steps = made.stands.spent.in_steps } };
@@ -256,7 +254,7 @@ module _ {T : Type 0} (M : Meanings T) (dirs : List (List ℕ)) (limits : Limits
     scan = t.scan;
     troubles = [];
     state = made.state;
-    leads = λ line. turns_lead t is [] ∙ made.leads (λ u. GoesOn (reported machine [] u));
+    leads = λ line. turns_lead M dirs limits t is [] ∙ made.leads (λ u. GoesOn (reported machine [] u));
     on = record { shelf = λ n. refl; source_count = same_count t.scan sources sources' t.failed later t.most; shelf_count = refl; has_faults = refl; spent = made.stands };
     source_later = later;
     source_rose = t.rose;
@@ -275,7 +273,7 @@ module _ {T : Type 0} (M : Meanings T) (dirs : List (List ℕ)) (limits : Limits
         scan = t.scan;
         troubles = j.troubles;
         state = reported machine j.troubles made.state;
-        leads = λ line. turns_lead t is j.troubles ∙ made.leads (λ u. GoesOn (reported machine j.troubles u));
+        leads = λ line. turns_lead M dirs limits t is j.troubles ∙ made.leads (λ u. GoesOn (reported machine j.troubles u));
         open_name = j.open_name;
         stands = λ n closed. on_it ws j.troubles made.state.shelf (made.moved.shelf ∙ t.shelf) n (at.shelf n) (either ws j n (bytes_eq j.open_name n) (is_own n) refl refl closed);
       }

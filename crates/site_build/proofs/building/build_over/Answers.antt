@@ -1,4 +1,4 @@
-use Rattle.std.proofs.Common.{Some, IfErr, IfSome, subst, rules}
+use Rattle.std.proofs.Common.{IfErr, IfSome, subst, rules}
 use Rattle.std.proofs.lemmas.Result.{IfOk-weaker}
 use Rattle.publication.proofs.Planning.{on_err}
 use Rattle.compiler.specs.Compiler.{nothing}

@@ -1,4 +1,4 @@
-use Rattle.std.proofs.Common.{[], Some, subst}
+use Rattle.std.proofs.Common.{[], subst}
 use Rattle.publication.proofs.Planning.{on_err}
 use Rattle.session.specs.Sessions.{built}
 use Rattle.compiler.specs.Standing.{counts, HasSpentAtMost, MakesTurns, TakesNext}

@@ -7,10 +7,10 @@ use Rattle.site_build.proofs.Finishing.{cut_none}
 use Rattle.site_build.proofs.run.build_site.Goals as goal
 
 pub returns-in_err-open_source-clause-text : goal.returns-in_err-open_source-clause-text
-returns-in_err-open_source-clause-text g c = unwritten_at c.from_residual-in_err-open_source.result (g.S.Source.coming c.args.source.now) (session_for g.R.Runner.meaning c.args.work.now) (g.O.Sink.held c.args.out.now)
+returns-in_err-open_source-clause-text g c = unwritten_at c.from_residual.result (g.S.Source.coming c.args.source.now) (session_for g.R.Runner.meaning c.args.work.now) (g.O.Sink.held c.args.out.now)
 
 pub returns-in_err-open_source-clause-cut : goal.returns-in_err-open_source-clause-cut
-returns-in_err-open_source-clause-cut g c = cut_none (state_for g.R.Runner.meaning c.args.work.now) (g.S.Source.coming c.args.source.now) c.from_residual-in_err-open_source.result (g.R.Runner.runs_of c.args.runner.now) (g.R.Runner.runs_of c.args.runner.now) c.args.steps.now refl
+returns-in_err-open_source-clause-cut g c = cut_none (state_for g.R.Runner.meaning c.args.work.now) (g.S.Source.coming c.args.source.now) c.from_residual.result (g.R.Runner.runs_of c.args.runner.now) (g.R.Runner.runs_of c.args.runner.now) c.args.steps.now refl
 
 pub returns-in_err-open_shelf-clause-text : goal.returns-in_err-open_shelf-clause-text
 returns-in_err-open_shelf-clause-text g c = unwritten_at c.from_residual-in_err-open_shelf.result (g.S.Source.coming c.args.source.now) (session_for g.R.Runner.meaning c.args.work.now) (g.O.Sink.held c.args.out.now)

@@ -1,10 +1,12 @@
-use Rattle.std.proofs.Common.{◌≡◌, codes, inr, refl, subst, rules}
+use Rattle.std.proofs.Common.{◌≡◌, [], codes, inr, refl, subst, rules}
 use Rattle.compiler.specs.Compiler.{compiler}
 use Rattle.compiler.specs.Standing.{counts, MakesTurns, TakesNext}
 use Rattle.compiler.proofs.Moves.{forgotten_in}
 use Rattle.publication.proofs.Planning.{on_err}
 use Rattle.session.specs.Orders.{Build}
+use Rattle.session.specs.Sessions.{Done, built}
 use Rattle.watch.proofs.Going.{scan_failed, scan_spends, scan_exceeds, built_whole, build_spends, cut_off}
+use Rattle.watch.proofs.Working.{build_cut, build_untold, builds_rise, scan_worked}
 use Rattle.watch.proofs.step.build_line.Goals as goal
 
 pub returns-in-Failed-clause-went : goal.returns-in-Failed-clause-went
@@ -38,3 +40,21 @@ pub returns-in_err-publish_built-clause-cut : goal.returns-in_err-publish_built-
 returns-in_err-publish_built-clause-cut g c = on_err c.from_residual-in_err-publish_built.result (λ dirs limits s start began at.
     let t = (subst (λ how. TakesNext (compiler (g.R.Runner.meaning dirs limits) dirs) dirs limits s how c.take_next.new.engine.core began (counts (g.R.Runner.runs_of c.take_next.new.runner) c.take_next.new.steps) (g.S.Source.coming c.take_next.new.source) (g.S.Source.fault_count c.args.source.now) (g.S.Source.fault_count c.take_next.new.source)) c.in-Taken.is (c.in_ok-take_next.ensures.took dirs limits s began at.engine at.coming)) in
     inr (cut_off g.R.Runner.meaning dirs limits s c.args.engine.now.core c.take_next.new.engine.core c.make_turns.new.engine.core c.make_turns.new.engine.core _ _ c.args.has_faults.now c.args.has_faults.now _ _ _ _ _ (g.H.Shelf.fault_count c.args.shelf.now) (g.H.Shelf.fault_count c.publish_built.new.shelf) c.turns_left-left.result (g.H.Shelf.cell c.args.shelf.now) (g.H.Shelf.cell c.publish_built.new.shelf) start began at _ t c.turns_left-left.ensures (subst (λ all. MakesTurns (compiler (g.R.Runner.meaning dirs limits) dirs) dirs limits c.turns_left-left.result t.state all c.make_turns.new.engine.core began (counts (g.R.Runner.runs_of c.make_turns.new.runner) c.make_turns.new.steps)) c.if-not-branch.false (c.in_ok-make_turns.ensures.made dirs limits t.state began t.stands)) c.in_err-publish_built.ensures.left))
+
+pub returns-in_err-take_next-clause-work : goal.returns-in_err-take_next-clause-work
+returns-in_err-take_next-clause-work g c = on_err c.from_residual.result (λ dirs limits s began at coming.
+    record { scan = Done; troubles = []; spent = λ line. c.in_err-take_next.ensures.cut dirs limits s began at coming (built (compiler (g.R.Runner.meaning dirs limits) dirs) []) (builds_rise (compiler (g.R.Runner.meaning dirs limits) dirs)) })
+
+pub returns-in_err-extend_from_slice-in-Failed-clause-work : goal.returns-in_err-extend_from_slice-in-Failed-clause-work
+returns-in_err-extend_from_slice-in-Failed-clause-work g c = on_err c.from_residual-in_err-extend_from_slice-in-Failed.result (λ dirs limits s began at coming.
+    scan_worked g.R.Runner.meaning dirs limits s c.take_next.new.engine.core began (counts (g.R.Runner.runs_of c.take_next.new.runner) c.take_next.new.steps) (g.S.Source.coming c.take_next.new.source) (g.S.Source.fault_count c.args.source.now) (g.S.Source.fault_count c.take_next.new.source) Build (built (compiler (g.R.Runner.meaning dirs limits) dirs) []) (λ line scan. refl) (builds_rise (compiler (g.R.Runner.meaning dirs limits) dirs)) _ (c.in_ok-take_next.ensures.took dirs limits s began at coming))
+
+pub returns-in_err-make_turns-clause-work : goal.returns-in_err-make_turns-clause-work
+returns-in_err-make_turns-clause-work g c = on_err c.from_residual-in_err-make_turns.result (λ dirs limits s began at coming.
+    let t = (subst (λ how. TakesNext (compiler (g.R.Runner.meaning dirs limits) dirs) dirs limits s how c.take_next.new.engine.core began (counts (g.R.Runner.runs_of c.take_next.new.runner) c.take_next.new.steps) (g.S.Source.coming c.take_next.new.source) (g.S.Source.fault_count c.args.source.now) (g.S.Source.fault_count c.take_next.new.source)) c.in-Taken.is (c.in_ok-take_next.ensures.took dirs limits s began at coming)) in
+    build_cut g.R.Runner.meaning dirs limits (counts (g.R.Runner.runs_of c.make_turns.new.runner) c.make_turns.new.steps) t c.turns_left-left.ensures (c.in_err-make_turns.ensures.cut dirs limits t.state began t.stands))
+
+pub returns-in_err-publish_built-clause-work : goal.returns-in_err-publish_built-clause-work
+returns-in_err-publish_built-clause-work g c = on_err c.from_residual-in_err-publish_built.result (λ dirs limits s began at coming.
+    let t = (subst (λ how. TakesNext (compiler (g.R.Runner.meaning dirs limits) dirs) dirs limits s how c.take_next.new.engine.core began (counts (g.R.Runner.runs_of c.take_next.new.runner) c.take_next.new.steps) (g.S.Source.coming c.take_next.new.source) (g.S.Source.fault_count c.args.source.now) (g.S.Source.fault_count c.take_next.new.source)) c.in-Taken.is (c.in_ok-take_next.ensures.took dirs limits s began at coming)) in
+    build_untold g.R.Runner.meaning dirs limits (counts (g.R.Runner.runs_of c.make_turns.new.runner) c.make_turns.new.steps) t c.turns_left-left.ensures _ c.make_turns.new.engine.core (c.in_ok-make_turns.ensures.made dirs limits t.state began t.stands))

@@ -1,11 +1,14 @@
-use Rattle.std.proofs.Common.{◌≡◌, ◌++◌, ap₂, codes, length, rules, refl, subst, ◌∙◌}
+use Rattle.std.proofs.Common.{◌≡◌, [], ◌++◌, ap₂, codes, length, rules, refl, subst, ◌∙◌}
 use Rattle.compiler.specs.Compiler.{compiler}
 use Rattle.compiler.specs.Standing.{counts, TakesNext}
 use Rattle.engine_turns.specs.Places.{names}
 use Rattle.engine_turns.specs.States.{pictured}
+use Rattle.publication.proofs.Planning.{on_err}
 use Rattle.session.specs.Orders.{Scan}
+use Rattle.session.specs.Sessions.{Done, writes, answers_in}
 use Rattle.session.specs.Texts.{files_line}
 use Rattle.watch.proofs.Going.{files_are, scan_taken, scan_failed, scan_spends, scan_exceeds}
+use Rattle.watch.proofs.Working.{scan_worked, writes_rises}
 use Rattle.watch.proofs.step.scan_line.Goals as goal
 
 pub returns-in_ok-extend_from_slice-in-Failed-clause-went : goal.returns-in_ok-extend_from_slice-in-Failed-clause-went
@@ -30,3 +33,19 @@ returns-in-SpendsNumbers-clause-went g c = λ dirs limits s has_faults shelf_cou
 pub returns-in-IsTooMuch-clause-went : goal.returns-in-IsTooMuch-clause-went
 returns-in-IsTooMuch-clause-went g c = λ dirs limits s has_faults shelf_count cell start began at.
     scan_exceeds (compiler (g.R.Runner.meaning dirs limits) dirs) dirs limits s _ _ _ _ has_faults _ _ _ _ shelf_count cell start began Scan _ _ (λ line scan. refl) (subst (λ how. TakesNext (compiler (g.R.Runner.meaning dirs limits) dirs) dirs limits s how c.take_next.new.engine.core began (counts (g.R.Runner.runs_of c.take_next.new.runner) c.take_next.new.steps) (g.S.Source.coming c.take_next.new.source) (g.S.Source.fault_count c.args.source.now) (g.S.Source.fault_count c.take_next.new.source)) c.in-IsTooMuch.is (c.in_ok-take_next.ensures.took dirs limits s began at.engine at.coming)) c.take_next.ensures.later
+
+pub returns-in_err-take_next-clause-work : goal.returns-in_err-take_next-clause-work
+returns-in_err-take_next-clause-work g c = on_err c.from_residual.result (λ dirs limits s began at coming.
+    record { scan = Done; troubles = []; spent = λ line. c.in_err-take_next.ensures.cut dirs limits s began at coming (λ u. writes u (files_line (length ((compiler (g.R.Runner.meaning dirs limits) dirs).picture u.engine)) (length (answers_in (compiler (g.R.Runner.meaning dirs limits) dirs) u.engine)))) (writes_rises (λ u. files_line (length ((compiler (g.R.Runner.meaning dirs limits) dirs).picture u.engine)) (length (answers_in (compiler (g.R.Runner.meaning dirs limits) dirs) u.engine)))) })
+
+pub returns-in_err-extend_from_slice-in-Failed-clause-work : goal.returns-in_err-extend_from_slice-in-Failed-clause-work
+returns-in_err-extend_from_slice-in-Failed-clause-work g c = on_err c.from_residual-in_err-extend_from_slice-in-Failed.result (λ dirs limits s began at coming.
+    scan_worked g.R.Runner.meaning dirs limits s c.take_next.new.engine.core began (counts (g.R.Runner.runs_of c.take_next.new.runner) c.take_next.new.steps) (g.S.Source.coming c.take_next.new.source) (g.S.Source.fault_count c.args.source.now) (g.S.Source.fault_count c.take_next.new.source) Scan (λ u. writes u (files_line (length ((compiler (g.R.Runner.meaning dirs limits) dirs).picture u.engine)) (length (answers_in (compiler (g.R.Runner.meaning dirs limits) dirs) u.engine)))) (λ line scan. refl) (writes_rises (λ u. files_line (length ((compiler (g.R.Runner.meaning dirs limits) dirs).picture u.engine)) (length (answers_in (compiler (g.R.Runner.meaning dirs limits) dirs) u.engine)))) _ (c.in_ok-take_next.ensures.took dirs limits s began at coming))
+
+pub returns-in_err-objects-in-Taken-clause-work : goal.returns-in_err-objects-in-Taken-clause-work
+returns-in_err-objects-in-Taken-clause-work g c = on_err c.from_residual-in_err-objects-in-Taken.result (λ dirs limits s began at coming.
+    scan_worked g.R.Runner.meaning dirs limits s c.take_next.new.engine.core began (counts (g.R.Runner.runs_of c.take_next.new.runner) c.take_next.new.steps) (g.S.Source.coming c.take_next.new.source) (g.S.Source.fault_count c.args.source.now) (g.S.Source.fault_count c.take_next.new.source) Scan (λ u. writes u (files_line (length ((compiler (g.R.Runner.meaning dirs limits) dirs).picture u.engine)) (length (answers_in (compiler (g.R.Runner.meaning dirs limits) dirs) u.engine)))) (λ line scan. refl) (writes_rises (λ u. files_line (length ((compiler (g.R.Runner.meaning dirs limits) dirs).picture u.engine)) (length (answers_in (compiler (g.R.Runner.meaning dirs limits) dirs) u.engine)))) _ (c.in_ok-take_next.ensures.took dirs limits s began at coming))
+
+pub returns-in_err-push_files-in-Taken-clause-work : goal.returns-in_err-push_files-in-Taken-clause-work
+returns-in_err-push_files-in-Taken-clause-work g c = on_err c.from_residual-in_err-push_files-in-Taken.result (λ dirs limits s began at coming.
+    scan_worked g.R.Runner.meaning dirs limits s c.take_next.new.engine.core began (counts (g.R.Runner.runs_of c.take_next.new.runner) c.take_next.new.steps) (g.S.Source.coming c.take_next.new.source) (g.S.Source.fault_count c.args.source.now) (g.S.Source.fault_count c.take_next.new.source) Scan (λ u. writes u (files_line (length ((compiler (g.R.Runner.meaning dirs limits) dirs).picture u.engine)) (length (answers_in (compiler (g.R.Runner.meaning dirs limits) dirs) u.engine)))) (λ line scan. refl) (writes_rises (λ u. files_line (length ((compiler (g.R.Runner.meaning dirs limits) dirs).picture u.engine)) (length (answers_in (compiler (g.R.Runner.meaning dirs limits) dirs) u.engine)))) _ (c.in_ok-take_next.ensures.took dirs limits s began at coming))

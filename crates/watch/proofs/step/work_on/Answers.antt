@@ -1,12 +1,14 @@
-use Rattle.std.proofs.Common.{◌≡◌, rules, codes, refl, sym, ap, ◌∙◌}
+use Rattle.std.proofs.Common.{◌≡◌, arith, rules, codes, refl, sym, ap, ◌∙◌}
 use Rattle.compiler.specs.Compiler.{compiler, cause_text}
-use Rattle.compiler.specs.Standing.{compiled_in}
+use Rattle.compiler.specs.Standing.{compiled_in, counts}
 use Rattle.compiler.proofs.Moves.{along}
+use Rattle.publication.proofs.Planning.{on_err}
 use Rattle.rebuild.specs.Answers.{why_at}
 use Rattle.session.specs.Orders.{order_of, Show, Why, Deps, BadLine}
 use Rattle.session.specs.Sessions.{shown_of, deps_of, writes}
 use Rattle.session.specs.Texts.{about, outcome_text, deps_text}
 use Rattle.watch.proofs.Going.{tells_of, quits}
+use Rattle.watch.proofs.Working.{worked_nothing}
 use Rattle.watch.proofs.step.work_on.Goals as goal
 
 pub returns-in-Quit-clause-went : goal.returns-in-Quit-clause-went
@@ -40,3 +42,19 @@ pub returns-in_ok-bad_line-in-BadLine-clause-went : goal.returns-in_ok-bad_line-
 returns-in_ok-bad_line-in-BadLine-clause-went g c =
     let text : c.bad_line.new.text.items ≡ codes "bad line\n" = search rules in
     λ dirs limits s start began at. tells_of (compiler (g.R.Runner.meaning dirs limits) dirs) dirs limits s _ start began (order_of c.args.line.now) BadLine _ c.in-BadLine.ensures (λ line. ap (writes s) (sym text)) at
+
+pub returns-in_err-show_line-in-Show-clause-work : goal.returns-in_err-show_line-in-Show-clause-work
+returns-in_err-show_line-in-Show-clause-work g c = on_err c.from_residual.result (λ dirs limits s began at coming.
+    worked_nothing (compiler (g.R.Runner.meaning dirs limits) dirs) (order_of c.args.line.now) s began (counts (g.R.Runner.runs_of c.args.runner.now) c.args.steps.now) (Show c.in-Show.name.now) c.in-Show.ensures (λ line. record { in_runs = omega arith; in_steps = omega arith }) at.spent)
+
+pub returns-in_err-push_cause-in-Why-clause-work : goal.returns-in_err-push_cause-in-Why-clause-work
+returns-in_err-push_cause-in-Why-clause-work g c = on_err c.from_residual-in_err-push_cause-in-Why.result (λ dirs limits s began at coming.
+    worked_nothing (compiler (g.R.Runner.meaning dirs limits) dirs) (order_of c.args.line.now) s began (counts (g.R.Runner.runs_of c.args.runner.now) c.args.steps.now) (Why c.in-Why.name.now) c.in-Why.ensures (λ line. record { in_runs = omega arith; in_steps = omega arith }) at.spent)
+
+pub returns-in_err-deps_line-in-Deps-clause-work : goal.returns-in_err-deps_line-in-Deps-clause-work
+returns-in_err-deps_line-in-Deps-clause-work g c = on_err c.from_residual-in_err-deps_line-in-Deps.result (λ dirs limits s began at coming.
+    worked_nothing (compiler (g.R.Runner.meaning dirs limits) dirs) (order_of c.args.line.now) s began (counts (g.R.Runner.runs_of c.args.runner.now) c.args.steps.now) (Deps c.in-Deps.name.now) c.in-Deps.ensures (λ line. record { in_runs = omega arith; in_steps = omega arith }) at.spent)
+
+pub returns-in_err-bad_line-in-BadLine-clause-work : goal.returns-in_err-bad_line-in-BadLine-clause-work
+returns-in_err-bad_line-in-BadLine-clause-work g c = on_err c.from_residual-in_err-bad_line-in-BadLine.result (λ dirs limits s began at coming.
+    worked_nothing (compiler (g.R.Runner.meaning dirs limits) dirs) (order_of c.args.line.now) s began (counts (g.R.Runner.runs_of c.args.runner.now) c.args.steps.now) BadLine c.in-BadLine.ensures (λ line. record { in_runs = omega arith; in_steps = omega arith }) at.spent)
