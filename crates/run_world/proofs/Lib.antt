@@ -1,3 +1,3 @@
-pub mod Files
+pub mod Keys
 pub mod Numbered
 pub mod Texts

@@ -1,9 +1,9 @@
 -- Keys as a trace keeps them, with the numbers that words give them.
-use Rattle.std.specs.Prelude.{◌≡◌, ℕ, List, [], ◌∷◌, ◌++◌, bytes_eq, cond, map}
+use Rattle.std.specs.Prelude.{◌≡◌, ℕ, List, [], ◌∷◌, ◌++◌, cond, map}
 use Rattle.std.specs.HashSet.{HashSet, contains}
 use Rattle.asking.specs.Asked.{Word}
 use Rattle.questions.specs.declared.key.Key.{Key}
-use Rattle.questions.specs.declared.key.Key.TheVariants.{File}
+use Rattle.questions.specs.Keys.{key_eq}
 use Rattle.questions.specs.Contents.{Content, is_among}
 use Rattle.questions.specs.Told.{numbered}
 use Rattle.read_sets.specs.declared.trace.Item.{Item}
@@ -16,9 +16,9 @@ item_of k n = record { key = k; number = n }
 abbrev pub with_item : Key → ℕ → List Item → List Item
 with_item k n items = cond (is_among k (keys_in items)) items (items ++ item_of k n ∷ [])
 
--- a set has the names of the files among the keys
-abbrev pub AreFiles : {S : Type 0} → HashSet (List ℕ) S → List Item → Type 0
-AreFiles files items = (n : List ℕ) → contains bytes_eq files n ≡ is_among (File n) (keys_in items)
+-- a set has the keys, and no other
+abbrev pub HasKeys : {S : Type 0} → HashSet Key S → List Item → Type 0
+HasKeys set items = (k : Key) → contains key_eq set k ≡ is_among k (keys_in items)
 
 -- each key has its number
 abbrev pub AreNumbered : (Key → Word Content) → List Item → Type 0

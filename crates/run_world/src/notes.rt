@@ -1,4 +1,4 @@
-ghost use Rattle.std.specs.Prelude.{◌≡◌, [], OnOk, OnErr};
+ghost use Rattle.std.specs.Prelude.{◌≡◌, [], IfOk, OnOk, OnErr};
 ghost use Rattle.questions.specs.declared.key.Key.TheVariants.{File, Under};
 ghost use Rattle.run_world.specs.Noted.{with_item};
 
@@ -11,25 +11,24 @@ use std::alloc::{AllocError, Global};
 use std::collections::HashSet;
 use std::marker::Model;
 
-/// The keys that a run asked, in order, each once, with their numbers; and the names of the files
-/// among them, so that a file that was asked before is found at once. Contracts see the keys with
-/// their numbers.
+/// The keys that a run asked, in order, each once, with their numbers; and the set of them, so that
+/// a key that was asked before is found at once. Contracts see the keys with their numbers.
 #[derive(Drop)]
 pub struct Notes {
     trace: Trace,
-    files: HashSet<Text>,
+    keys: HashSet<Key>,
 }
 
 impl Model for Notes {
     ghost use Rattle.std.specs.Prelude.{List};
     ghost use Rattle.read_sets.specs.declared.trace.Item.{Item};
-    ghost use Rattle.run_world.specs.Noted.{AreFiles};
+    ghost use Rattle.run_world.specs.Noted.{HasKeys};
 
     ghost Value = { List Item };
 
     ghost view = { λ n. n.trace };
 
-    ghost invariant = { λ n. AreFiles n.files n.trace };
+    ghost invariant = { λ n. HasKeys n.keys n.trace };
 }
 
 impl Notes {
@@ -39,28 +38,25 @@ impl Notes {
     {
         Notes {
             trace: Trace::new(alloc),
-            files: HashSet::new(alloc),
+            keys: HashSet::new(alloc),
         }
     }
 
     /// Notes a file that was asked, where it is new.
-    #[tactic(auto, using(crate::proofs::Files::noted_files))]
-    pub(crate) fn note_file(&mut self, name: &Text, number: u64) -> Result<(), AllocError>
+    pub(crate) fn note_file(
+        &mut self,
+        alloc: Global,
+        name: &Text,
+        number: u64,
+    ) -> Result<(), AllocError>
         ensures ok { OnOk result (self.new ≡ with_item (File name.now) number self.old) }
         ensures err { OnErr result (self.new ≡ self.old) }
     {
-        if self.files.contains(name) {
-            return Ok(());
-        }
-        let (key, kept) = (Key::File(name.share()?), name.share()?);
-        self.files.reserve(1)?;
-        self.trace.push(Item { key, number })?;
-        self.files.insert(kept).unwrap();
-        Ok(())
+        let key = Key::File(name.share()?);
+        self.note(alloc, key, number)
     }
 
     /// Notes the terms of an object that were asked, where they are new.
-    #[tactic(auto, using(crate::proofs::Files::noted_objects))]
     pub(crate) fn note_object(
         &mut self,
         alloc: Global,
@@ -75,20 +71,43 @@ impl Notes {
             object: object.share()?,
             terms: share_terms(alloc, terms)?,
         };
-        if self.trace.has(&key) {
+        self.note(alloc, key, number)
+    }
+
+    // Notes a key that was asked, where it is new.
+    #[tactic(auto, using(crate::proofs::Keys::noted))]
+    fn note(&mut self, alloc: Global, key: Key, number: u64) -> Result<(), AllocError>
+        ensures ok { OnOk result (self.new ≡ with_item key number self.old) }
+        ensures err { OnErr result (self.new ≡ self.old) }
+    {
+        if self.keys.contains(&key) {
             return Ok(());
         }
-        self.trace.push(Item { key, number })
+        let kept = shared(alloc, &key)?;
+        self.keys.reserve(1)?;
+        self.trace.push(Item { key, number })?;
+        self.keys.insert(kept).unwrap();
+        Ok(())
     }
 
     /// The keys with their numbers.
     pub fn into_trace(self) -> Trace
         ensures { result ≡ self }
     {
-        let Notes {
-            trace,
-            files: _files,
-        } = self;
+        let Notes { trace, keys: _keys } = self;
         trace
+    }
+}
+
+// The same key, with its texts shared.
+fn shared(alloc: Global, key: &Key) -> Result<Key, AllocError>
+    ensures { IfOk result (λ k. k ≡ key.now) }
+{
+    match key {
+        Key::File(name) => Ok(Key::File(name.share()?)),
+        Key::Under { object, terms } => Ok(Key::Under {
+            object: object.share()?,
+            terms: share_terms(alloc, terms.as_slice())?,
+        }),
     }
 }

@@ -65,9 +65,9 @@ impl<'a, K: Known, T: Words> World for RunWorld<'a, K, T> {
 
     ghost call_of = { call_of };
 
-    fn file(&mut self, _alloc: Global, name: &Text) -> Result<Seen, AllocError> {
+    fn file(&mut self, alloc: Global, name: &Text) -> Result<Seen, AllocError> {
         let number = self.known.file_number(name.as_str());
-        self.notes.note_file(name, number)?;
+        self.notes.note_file(alloc, name, number)?;
         Ok(seen_in(self.picture, name))
     }
 
