@@ -20,7 +20,7 @@ use Rattle.pan_top.specs.Scenes.{Scene, OnlyWrites, Causes}
 use Rattle.pan_top.specs.declared.status.Status.{Status}
 use Rattle.pan_top.specs.declared.status.Status.TheVariants as S
 use Rattle.pan_top.proofs.Causing.{memory_causes}
-use Rattle.pan_top.proofs.Watching.{memory_wrote}
+use Rattle.pan_top.proofs.Watched.{memory_wrote}
 
 pub untouched : (s : Scene) → OnlyWrites s s
 untouched s = record { coming = refl; source_opened = refl; source_count = refl; cell = λ n. refl; changes = refl; shelf_opened = refl; shelf_count = refl; lines = refl; lines_count = refl }

@@ -14,7 +14,7 @@ use Rattle.pan_top.specs.Scenes.{Scene, Causes, Says}
 use Rattle.pan_top.specs.Statuses.{IsCut, status_after, status_of}
 use Rattle.pan_top.specs.declared.status.Status.{Status}
 use Rattle.pan_top.specs.declared.status.Status.TheVariants as S
-use Rattle.pan_top.proofs.Closing.{rose_later, rose_earlier}
+use Rattle.pan_top.proofs.Said.{rose_later, rose_earlier}
 
 not_own : (how : Ended) (status : Status) → status ≡ status_after how → (status ≡ S.SourceFault → ⊥) × (status ≡ S.ShelfFault → ⊥) × (status ≡ S.LinesFault → ⊥) × (status ≡ S.OutFault → ⊥)
 not_own ended.Clean status is = (λ e. cc, λ e. cc, λ e. cc, λ e. cc)

@@ -1,5 +1,5 @@
-pub mod Closing
+pub mod Said
 pub mod Causing
-pub mod Showing
-pub mod Watching
+pub mod Shown
+pub mod Watched
 pub mod Calling

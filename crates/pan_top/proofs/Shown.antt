@@ -1,5 +1,5 @@
 -- A demo, and the line of its end.
-use Rattle.std.proofs.Common.{◌≡◌, ◌≤◌, ℕ, List, [], ◌++◌, length, take, drop, Option, Some, None, inl, inr, refl, sym, ap, subst, ◌∙◌, append_assoc, append-nil}
+use Rattle.std.proofs.Common.{◌≡◌, ◌≤◌, ℕ, List, [], ◌++◌, length, take, drop, Option, Some, None, inl, inr, refl, sym, ap, subst, ◌∙◌, append_assoc, append-nil, ◌∷◌}
 use Rattle.std.specs.Prelude.{option_map}
 use Rattle.compiler.specs.Standing.{Counts, HasSpentAtMost, SpendsAs}
 use Rattle.compiler.proofs.Counting.{at_most}

@@ -7,7 +7,7 @@ use Rattle.site_build.specs.declared.ends.End.TheVariants as E
 use Rattle.pan_top.specs.Builds.{Wrote}
 use Rattle.pan_top.specs.Statuses.{IsCut, status_of}
 use Rattle.pan_top.specs.declared.status.Status.TheVariants as S
-use Rattle.pan_top.proofs.Closing.{said, own_or_cut}
+use Rattle.pan_top.proofs.Said.{said, own_or_cut}
 use Rattle.pan_top.proofs.closing.close_build.Goals as goal
 
 pub returns-in-Source-clause-status : goal.returns-in-Source-clause-status
@@ -26,7 +26,7 @@ pub returns-in-Publishing-clause-status : goal.returns-in-Publishing-clause-stat
 returns-in-Publishing-clause-status g c = subst (λ e. (c.say_name.result ≡ status_of e) ⊎ IsCut c.say_name.result) (sym c.in-Publishing.is) (own_or_cut S.ShelfFault c.say_name.result _ _ _ _ _ c.say_name.ensures.line)
 
 pub returns-in-Publishing-clause-text : goal.returns-in-Publishing-clause-text
-returns-in-Publishing-clause-text g c = subst (λ e. (text : _) (old : _) → WritesEarly text e old (g.O.Sink.held c.args.out.now) → Wrote text e c.say_name.result old (g.O.Sink.held c.say_name.new.out)) (sym c.in-Publishing.is) (λ text old early. said S.ShelfFault c.say_name.result (codes "shelf fault " ++ c.in-Publishing.object.now ++ codes "\n") old _ _ _ _ early c.say_name.ensures.line)
+returns-in-Publishing-clause-text g c = subst (λ e. (text : _) (old : _) → WritesEarly text e old (g.O.Sink.held c.args.out.now) → Wrote text e c.say_name.result old (g.O.Sink.held c.say_name.new.out)) (sym c.in-Publishing.is) (λ text old early. said S.ShelfFault c.say_name.result (codes "shelf fault " ++ c.in-Publishing.object ++ codes "\n") old _ _ _ _ early c.say_name.ensures.line)
 
 pub returns-in-Out-clause-status : goal.returns-in-Out-clause-status
 returns-in-Out-clause-status g c = inr (inl refl)

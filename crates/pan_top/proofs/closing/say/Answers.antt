@@ -1,6 +1,6 @@
 use Rattle.std.proofs.Common.{inl, inr, refl, sym, subst, ◌∙◌}
 use Rattle.pan_top.specs.Statuses.{IsCut}
-use Rattle.pan_top.proofs.Closing.{sink_cut, out_device}
+use Rattle.pan_top.proofs.Said.{sink_cut, out_device}
 use Rattle.pan_top.proofs.closing.say.Goals as goal
 
 pub returns-in-Ok-clause-line : goal.returns-in-Ok-clause-line

@@ -1,4 +1,5 @@
-use Rattle.std.proofs.Common.{◌++◌, codes, inr, refl, subst, ◌∙◌}
+use Rattle.std.proofs.Common.{◌++◌, codes, inl, inr, refl, subst, ◌∙◌}
+use Rattle.outside.specs.Causes.{Rose}
 use Rattle.pan_top.specs.Scenes.{Says}
 use Rattle.pan_top.specs.declared.status.Status.TheVariants as S
 use Rattle.site_build.proofs.Ending.{none_of}
@@ -11,4 +12,4 @@ pub returns-clause-line : goal.returns-clause-line
 returns-clause-line g c = subst (λ line. Says S.ShelfFault line c.say.result (g.O.Sink.held c.args.out.now) (g.O.Sink.held c.say.new.out) (g.O.Sink.fault_count c.args.out.now) (g.O.Sink.fault_count c.say.new.out)) (c.deref.ensures.value ∙ c.in-Ok.ensures) c.say.ensures.line
 
 pub returns-clause-cause : goal.returns-clause-cause
-returns-clause-cause g c = λ is. elim (c.say.ensures.cause is) as (λ _. Rattle.outside.specs.Causes.Rose (g.O.Sink.fault_count c.args.out.now) (g.O.Sink.fault_count c.say.new.out)) [ inl own ↦ cc | inr rose ↦ rose ]
+returns-clause-cause g c = λ is. elim (c.say.ensures.cause is) as (λ _. Rose (g.O.Sink.fault_count c.args.out.now) (g.O.Sink.fault_count c.say.new.out)) [ inl own ↦ cc | inr rose ↦ rose ]

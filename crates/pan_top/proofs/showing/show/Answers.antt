@@ -4,7 +4,7 @@ use Rattle.session.specs.declared.Ended.TheVariants as ended
 use Rattle.demo.specs.Demo.{Breaks, Ends, demo_session}
 use Rattle.pan_top.specs.Demos.{shown_by}
 use Rattle.pan_top.proofs.Causing.{out_rose}
-use Rattle.pan_top.proofs.Showing.{shown_plain, shown_said, shown_part}
+use Rattle.pan_top.proofs.Shown.{shown_plain, shown_said, shown_part}
 use Rattle.pan_top.proofs.showing.show.Goals as goal
 
 pub returns-in-Ok-NumbersSpent-clause-shows : goal.returns-in-Ok-NumbersSpent-clause-shows

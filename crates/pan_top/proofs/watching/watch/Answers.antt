@@ -9,7 +9,7 @@ use Rattle.pan_top.specs.Scenes.{scene}
 use Rattle.pan_top.specs.Statuses.{status_after}
 use Rattle.pan_top.specs.Watches.{Plays}
 use Rattle.pan_top.proofs.Causing.{early_causes, out_rose, own_causes}
-use Rattle.pan_top.proofs.Watching.{early_held, ended, halted, halted_causes, memory_wrote, opening_out, same_scene}
+use Rattle.pan_top.proofs.Watched.{early_held, ended, halted, halted_causes, memory_wrote, opening_out, same_scene}
 use Rattle.pan_top.proofs.watching.watch.Goals as goal
 
 -- the devices could not be opened
