@@ -3,7 +3,7 @@ use Rattle.std.proofs.Common.{◌≡◌, ℕ, List, [], Option, Some, None, inl,
 use Rattle.command_words.specs.declared.commands.Command.{Command}
 use Rattle.command_words.specs.declared.commands.Command.TheVariants.{Build, Watch, Demo}
 use Rattle.rebuild.specs.Engines.{Meanings}
-use Rattle.session.specs.Sessions.{State, state_in}
+use Rattle.session.specs.Sessions.{state_in}
 use Rattle.site_build.specs.Ends.{Stopped}
 use Rattle.site_build.specs.Session.{PublishesPart, session_for, state_for}
 use Rattle.site_build.specs.declared.ends.End.TheVariants as E

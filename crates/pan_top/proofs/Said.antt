@@ -1,5 +1,5 @@
 -- Lines of ends.
-use Rattle.std.proofs.Common.{◌≡◌, ◌≤◌, ◌⊎◌, ℕ, List, Option, Some, inl, inr, refl, sym, ap, subst, ◌∙◌, arith}
+use Rattle.std.proofs.Common.{◌≡◌, ◌≤◌, ◌⊎◌, ℕ, List, Option, Some, inl, inr, refl, subst, arith}
 use Rattle.outside.specs.Causes.{Rose}
 use Rattle.outside.specs.Contents.{Appends, AppendsPart}
 use Rattle.site_build.specs.Ends.{IsEndOf, OfSink, device_of}

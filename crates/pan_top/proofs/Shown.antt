@@ -1,5 +1,5 @@
 -- A demo, and the line of its end.
-use Rattle.std.proofs.Common.{◌≡◌, ◌≤◌, ℕ, List, [], ◌++◌, length, take, drop, Option, Some, None, inl, inr, refl, sym, ap, subst, ◌∙◌, append_assoc, append-nil, ◌∷◌}
+use Rattle.std.proofs.Common.{◌≡◌, ℕ, List, [], ◌++◌, length, take, drop, Option, inl, inr, refl, sym, ap, subst, ◌∙◌, append_assoc, append-nil, ◌∷◌}
 use Rattle.std.specs.Prelude.{option_map}
 use Rattle.compiler.specs.Standing.{Counts, HasSpentAtMost, SpendsAs}
 use Rattle.compiler.proofs.Counting.{at_most}
@@ -9,11 +9,10 @@ use Rattle.outside.specs.Contents.{Appends, AppendsPart}
 use Rattle.session.specs.Sessions.{Next, State, state_in, end_of, end_line}
 use Rattle.session.specs.declared.Ended.{Ended}
 use Rattle.session.specs.declared.Ended.TheVariants as ended
-use Rattle.pan_top.specs.Demos.{Shows, text_after}
+use Rattle.pan_top.specs.Demos.{Shows}
 use Rattle.pan_top.specs.Scenes.{Says}
 use Rattle.pan_top.specs.Statuses.{IsCut, status_after}
 use Rattle.pan_top.specs.declared.status.Status.{Status}
-use Rattle.pan_top.specs.declared.status.Status.TheVariants as S
 
 front : (a b : List ℕ) → take (length a) (a ++ b) ≡ a
 front [] b = refl

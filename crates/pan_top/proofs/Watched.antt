@@ -1,21 +1,20 @@
 -- A watcher's call, from what its session did.
-use Rattle.std.proofs.Common.{◌≡◌, ◌≤◌, ◌⊎◌, ℕ, Bool, true, false, List, [], Option, Some, None, IfSome, inl, inr, refl, sym, ap, subst, ◌∙◌}
-use Rattle.std.specs.Prelude.{Result, Ok, Err, IfErr, OnOk}
+use Rattle.std.proofs.Common.{◌≡◌, ◌⊎◌, ℕ, Bool, true, false, List, [], Option, Some, inl, inr, refl, sym, subst, ◌∙◌}
+use Rattle.std.specs.Prelude.{Result, Ok, Err, IfErr}
 use std.Path.{fun_ext}
 use Rattle.command_words.specs.declared.commands.Work.{Work}
 use Rattle.compiler.specs.Compiler.{Compiled, compiler, nothing}
-use Rattle.compiler.specs.Standing.{Counts, counts, IsIn}
+use Rattle.compiler.specs.Standing.{counts, IsIn}
 use Rattle.engine_turns.specs.declared.core_data.Core.{Core}
 use Rattle.outside.specs.Causes.{Rose}
 use Rattle.outside.specs.Cells.{Cell, AreSame}
-use Rattle.outside.specs.Contents.{Appends, AppendsPart}
 use Rattle.outside.specs.declared.shelf.Change.{Change}
 use Rattle.outside.specs.declared.source.MemFile.{MemFile}
 use Rattle.pan_ast.specs.declared.work.Limits.{Limits}
 use Rattle.rebuild.specs.Engines.{Meanings}
 use Rattle.session.specs.Sessions.{started, ended_by}
 use Rattle.site_build.specs.Ends.{IsEndOf, OfSource, OfShelf, device_of}
-use Rattle.site_build.specs.Session.{IsPerhapsOpened, WritesEarly, limits_of}
+use Rattle.site_build.specs.Session.{WritesEarly, limits_of}
 use Rattle.site_build.specs.declared.ends.Device.TheVariants as D
 use Rattle.site_build.specs.declared.ends.End as early
 use Rattle.site_build.specs.declared.ends.End.TheVariants as E
@@ -26,7 +25,7 @@ use Rattle.watch.specs.declared.ends.End.{End}
 use Rattle.watch.specs.declared.ends.End.TheVariants as ends
 use Rattle.pan_top.specs.Builds.{Wrote}
 use Rattle.pan_top.specs.Scenes.{Scene, Causes, Says, scene}
-use Rattle.pan_top.specs.Statuses.{IsCut, line_at, status_after, status_at, status_of}
+use Rattle.pan_top.specs.Statuses.{IsCut, line_at, status_after, status_at}
 use Rattle.pan_top.specs.Watches.{Closes, Ended, Halted, IsOpening, IsPlaying, Plays, SourceAt, spot_in}
 use Rattle.pan_top.specs.declared.status.Status.{Status}
 use Rattle.pan_top.specs.declared.status.Status.TheVariants as S

@@ -1,5 +1,5 @@
 -- What the devices tell before and after a call.
-use Rattle.std.specs.Prelude.{◌≡◌, ◌≤◌, ◌⊎◌, ℕ, List, Option}
+use Rattle.std.specs.Prelude.{◌≡◌, ◌⊎◌, ℕ, List, Option}
 use Rattle.compiler.specs.Standing.{Counts}
 use Rattle.outside.specs.Causes.{Rose}
 use Rattle.outside.specs.Cells.{Cell, AreSame}

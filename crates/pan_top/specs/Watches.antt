@@ -17,7 +17,7 @@ use Rattle.watch.specs.Steps.{Spot, spot}
 use Rattle.watch.specs.declared.ends.End.{End}
 use Rattle.pan_top.specs.Builds.{Wrote}
 use Rattle.pan_top.specs.Scenes.{Scene}
-use Rattle.pan_top.specs.Statuses.{status_after, status_at, line_at, status_of, IsCut}
+use Rattle.pan_top.specs.Statuses.{status_after, status_at, line_at, IsCut}
 use Rattle.pan_top.specs.declared.status.Status.{Status}
 use Rattle.pan_top.specs.declared.status.Status.TheVariants as S
 

@@ -91,21 +91,21 @@ pub fn watch<R: Runner, S: Source, H: Shelf, N: Lines, O: Sink, L: Ledger>(
 ) -> Status
     ensures call { let before = scene (S.coming source.old) (S.opened source.old)
         (S.fault_count source.old) (H.cell shelf.old) (H.changes shelf.old) (H.opened shelf.old)
-        (H.fault_count shelf.old) (N.left lines.old) (N.fault_count lines.old) (O.held out.old) (O.fault_count out.old)
-        (counts (R.runs_of runner.old) steps.old) in
+        (H.fault_count shelf.old) (N.left lines.old) (N.fault_count lines.old)
+        (O.held out.old) (O.fault_count out.old) (counts (R.runs_of runner.old) steps.old) in
         let after = scene (S.coming source.new) (S.opened source.new)
         (S.fault_count source.new) (H.cell shelf.new) (H.changes shelf.new) (H.opened shelf.new)
-        (H.fault_count shelf.new) (N.left lines.new) (N.fault_count lines.new) (O.held out.new) (O.fault_count out.new)
-        (counts (R.runs_of runner.new) steps.new) in
+        (H.fault_count shelf.new) (N.left lines.new) (N.fault_count lines.new)
+        (O.held out.new) (O.fault_count out.new) (counts (R.runs_of runner.new) steps.new) in
         WatchCall R.meaning work.now result before after }
     ensures causes { let before = scene (S.coming source.old) (S.opened source.old)
         (S.fault_count source.old) (H.cell shelf.old) (H.changes shelf.old) (H.opened shelf.old)
-        (H.fault_count shelf.old) (N.left lines.old) (N.fault_count lines.old) (O.held out.old) (O.fault_count out.old)
-        (counts (R.runs_of runner.old) steps.old) in
+        (H.fault_count shelf.old) (N.left lines.old) (N.fault_count lines.old)
+        (O.held out.old) (O.fault_count out.old) (counts (R.runs_of runner.old) steps.old) in
         let after = scene (S.coming source.new) (S.opened source.new)
         (S.fault_count source.new) (H.cell shelf.new) (H.changes shelf.new) (H.opened shelf.new)
-        (H.fault_count shelf.new) (N.left lines.new) (N.fault_count lines.new) (O.held out.new) (O.fault_count out.new)
-        (counts (R.runs_of runner.new) steps.new) in
+        (H.fault_count shelf.new) (N.left lines.new) (N.fault_count lines.new)
+        (O.held out.new) (O.fault_count out.new) (counts (R.runs_of runner.new) steps.new) in
         Causes result before after }
 {
     let mut publisher = match open(alloc, work, source, shelf) {

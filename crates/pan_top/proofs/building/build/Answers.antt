@@ -1,9 +1,7 @@
 use Rattle.std.proofs.Common.{inl, inr, refl}
-use Rattle.compiler.specs.Standing.{counts}
 use Rattle.site_build.specs.Session.{WritesEarly, session_for}
 use Rattle.site_build.proofs.Finishing.{some_map}
 use Rattle.pan_top.specs.Builds.{Wrote}
-use Rattle.pan_top.specs.Scenes.{scene}
 use Rattle.pan_top.proofs.Causing.{early_causes, out_rose, own_causes}
 use Rattle.pan_top.proofs.building.build.Goals as goal
 

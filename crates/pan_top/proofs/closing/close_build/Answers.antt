@@ -3,7 +3,6 @@ use Rattle.outside.specs.Causes.{Rose}
 use Rattle.site_build.specs.Ends.{device_of}
 use Rattle.site_build.specs.Session.{WritesEarly}
 use Rattle.site_build.specs.declared.ends.Device.TheVariants as D
-use Rattle.site_build.specs.declared.ends.End.TheVariants as E
 use Rattle.pan_top.specs.Builds.{Wrote}
 use Rattle.pan_top.specs.Statuses.{IsCut, status_of}
 use Rattle.pan_top.specs.declared.status.Status.TheVariants as S

@@ -1,9 +1,8 @@
-use Rattle.std.proofs.Common.{inl, inr, refl, sym, subst, ◌∙◌}
+use Rattle.std.proofs.Common.{inl, inr, refl}
 use Rattle.compiler.specs.Standing.{counts}
 use Rattle.session.specs.declared.Ended.TheVariants as ended
-use Rattle.demo.specs.Demo.{Breaks, Ends, demo_session}
+use Rattle.demo.specs.Demo.{Breaks, Ends}
 use Rattle.pan_top.specs.Demos.{shown_by}
-use Rattle.pan_top.proofs.Causing.{out_rose}
 use Rattle.pan_top.proofs.Shown.{shown_plain, shown_said, shown_part}
 use Rattle.pan_top.proofs.showing.show.Goals as goal
 

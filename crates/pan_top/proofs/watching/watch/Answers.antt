@@ -1,8 +1,6 @@
 use Rattle.std.proofs.Common.{[], ◌∙◌, ap, inl, inr, refl, subst}
 use Rattle.compiler.specs.Compiler.{nothing}
 use Rattle.compiler.specs.Standing.{counts, IsIn}
-use Rattle.session.specs.Sessions.{ended_by}
-use Rattle.session.specs.declared.Ended.{Ended}
 use Rattle.site_build.specs.Session.{limits_of}
 use Rattle.site_build.specs.declared.ends.End.TheVariants as E
 use Rattle.pan_top.specs.Scenes.{scene}
