@@ -26,9 +26,12 @@ SECONDS = 120
 
 
 def write(folder, name, text):
+    """The file is there whole at once, as a watcher looks at any time."""
     path = folder / name
     path.parent.mkdir(parents=True, exist_ok=True)
-    path.write_text(text)
+    draft = path.parent / f".{path.name}.draft"
+    draft.write_text(text)
+    draft.replace(path)
 
 
 class Watched:

@@ -246,7 +246,7 @@ def wrong_in_vim(files):
                     wanted.append((number, token, f"pan{name}" if name else ""))
         (folder / "script").write_text(VIM_SCRIPT)
         words = ["vim", "-es", "-u", "NONE", "-N", "--cmd", f"set runtimepath^={TOP / 'editors/vim'}", "-S", "script"]
-        subprocess.run(words, cwd=folder, stdin=subprocess.DEVNULL, capture_output=True, timeout=120)
+        subprocess.run(words, cwd=folder, stdin=subprocess.DEVNULL, capture_output=True, timeout=600)
         said = (folder / "said").read_text().split("\n")[:-1]
         if len(said) != len(wanted):
             return [f"vim told {len(said)} of {len(wanted)} tokens"]
