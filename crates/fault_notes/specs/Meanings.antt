@@ -1,7 +1,7 @@
 -- What the code of a fault means, in the words of docs/FAULTS.md.
 use Rattle.std.specs.Prelude.{ℕ, List, codes}
 use Rattle.pan_ast.specs.declared.fault.Code.{Code}
-use Rattle.pan_ast.specs.declared.fault.Code.TheVariants.{BadCharacter, NotUtf8, OpenText, Double, IntegerTooLarge, BadSyntax, TooDeep, TypeClash, Overflow, ZeroDivisor, BadArgument, BadPattern, BadIndex, TooLarge, Final, BadPath, GlobalChange, NoVariable, NoFunction, Iterations, CallDepth, WorkSpent, UserError, NotBoolean, SelfChange, NoPath, NoObject, ForeignFailed, Circular, NoType, Redefined, BadRange, WrongType, OutOfRange, MissingField, ExtraField, FalseTest, FalseValid, UndefLeft, NoBoundPath, NoTemplate, WrongKind, WrongStatement, WrongTemplate, IncludeDepth, FileTooLong, NotSupported}
+use Rattle.pan_ast.specs.declared.fault.Code.TheVariants.{BadCharacter, NotUtf8, OpenText, Double, IntegerTooLarge, BadSyntax, TooDeep, TypeClash, Overflow, ZeroDivisor, BadArgument, BadPattern, BadIndex, TooLarge, Final, BadPath, GlobalChange, NoVariable, NoFunction, Iterations, CallDepth, WorkSpent, UserError, NotBoolean, SelfChange, NoPath, NoObject, ForeignFailed, Circular, NoType, Redefined, BadRange, WrongType, OutOfRange, MissingField, ExtraField, FalseTest, FalseValid, UndefLeft, NoBoundPath, NoTemplate, WrongKind, WrongStatement, WrongTemplate, IncludeDepth, FileTooLong}
 
 abbrev pub meaning_of : Code → List ℕ
 meaning_of BadCharacter = codes "bad character"
@@ -50,4 +50,3 @@ meaning_of WrongStatement = codes "statement in the wrong template"
 meaning_of WrongTemplate = codes "template of another name"
 meaning_of IncludeDepth = codes "includes too deep"
 meaning_of FileTooLong = codes "file too long"
-meaning_of NotSupported = codes "not supported"

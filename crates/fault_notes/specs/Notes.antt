@@ -1,6 +1,6 @@
 -- The text for one fault.
 use Rattle.std.specs.Prelude.{ℕ, zero, suc, List, [], ◌∷◌, ◌++◌, map, length, Option, Some, None, bytes_eq, codes, decimal}
-use Rattle.std.specs.List.{concat, find, repeat}
+use Rattle.std.specs.List.{find, repeat}
 use Rattle.pan_ast.specs.Codes.{code_text}
 use Rattle.pan_ast.specs.declared.fault.Code.{Code}
 use Rattle.fault_notes.specs.Lines.{code_in, file_in, line_in, column_in, detail_in}
@@ -24,6 +24,12 @@ abbrev pub plain : Colours → List ℕ
 plain On = 27 ∷ codes "[0m"
 plain Off = []
 
+abbrev pub in_red : Colours → List ℕ → List ℕ
+in_red colours text = red colours ++ text ++ plain colours
+
+abbrev pub in_blue : Colours → List ℕ → List ℕ
+in_blue colours text = blue colours ++ text ++ plain colours
+
 -- behind a colon, what the code means and the detail, where there are such
 abbrev pub meaning_part : Option Code → List ℕ
 meaning_part None = []
@@ -36,7 +42,7 @@ detail_part (c ∷ cs) = codes ": " ++ (c ∷ cs)
 -- `error CODE: MEANING: DETAIL`
 abbrev pub headline : Colours → List ℕ → List ℕ
 headline colours fault =
-    concat (red colours ∷ codes "error " ∷ code_in fault ∷ plain colours ∷ [])
+    in_red colours (codes "error " ++ code_in fault)
     ++ meaning_part (find (λ code. bytes_eq (code_text code) (code_in fault)) CODES)
     ++ detail_part (detail_in fault) ++ codes "\n"
 
@@ -55,22 +61,24 @@ objects_part (object ∷ objects) =
 abbrev pub margin : List ℕ → List ℕ
 margin fault = repeat (length (line_in fault)) (32 ∷ [])
 
+abbrev pub place : List ℕ → List ℕ
+place fault = file_in fault ++ codes ":" ++ line_in fault ++ codes ":" ++ column_in fault
+
 -- ` --> FILE:LINE:COLUMN  (object NAME, and N others)`
 abbrev pub place_line : Colours → List ℕ → List (List ℕ) → List ℕ
 place_line colours fault objects =
-    margin fault ++ concat (blue colours ∷ codes "-->" ∷ plain colours ∷ codes " " ∷ [])
-    ++ concat (file_in fault ∷ codes ":" ∷ line_in fault ∷ codes ":" ∷ column_in fault ∷ [])
+    margin fault ++ in_blue colours (codes "-->") ++ codes " " ++ place fault
     ++ objects_part objects ++ codes "\n"
 
 -- the bar in front of a line, behind its number
 abbrev pub bar : Colours → List ℕ → List ℕ
-bar colours number = concat (blue colours ∷ number ∷ codes " |" ∷ plain colours ∷ [])
+bar colours number = in_blue colours (number ++ codes " |")
 
 -- a mark below the column
 abbrev pub mark : Colours → List ℕ → ℕ → List ℕ → List ℕ
 mark colours fault column text =
     margin fault ++ bar colours [] ++ codes " " ++ indent_to column text
-    ++ concat (red colours ∷ codes "^" ∷ plain colours ∷ codes "\n" ∷ [])
+    ++ in_red colours (codes "^") ++ codes "\n"
 
 -- the line of the file, with a mark below it
 abbrev pub excerpt : Colours → List ℕ → ℕ → List ℕ → List ℕ

@@ -6,7 +6,7 @@ ghost use Rattle.fault_notes.specs.Meanings.{meaning_of};
 use pan_ast::Code;
 
 /// Every code that a report may have.
-const CODES: [Code; 47] = [
+const CODES: [Code; 46] = [
     Code::BadCharacter,
     Code::NotUtf8,
     Code::OpenText,
@@ -53,7 +53,6 @@ const CODES: [Code; 47] = [
     Code::WrongTemplate,
     Code::IncludeDepth,
     Code::FileTooLong,
-    Code::NotSupported,
 ];
 
 /// The code that is printed so.
@@ -117,6 +116,5 @@ pub fn meaning(code: Code) -> &'static str
         Code::WrongTemplate => "template of another name",
         Code::IncludeDepth => "includes too deep",
         Code::FileTooLong => "file too long",
-        Code::NotSupported => "not supported",
     }
 }

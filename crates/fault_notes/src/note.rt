@@ -1,6 +1,5 @@
-ghost use Rattle.std.specs.Prelude.{◌≡◌, ◌++◌, IfOk, OnOk, map, option_map, bytes_eq, string_bytes};
-ghost use Rattle.std.specs.List.{concat};
-ghost use Rattle.fault_notes.specs.Notes.{red, blue, plain, meaning_part, detail_part, headline, others, objects_part, margin, place_line, bar, mark, excerpt, excerpt_in, note_of, rest_of};
+ghost use Rattle.std.specs.Prelude.{◌≡◌, ◌++◌, IfOk, OnOk, map, option_map, codes};
+ghost use Rattle.fault_notes.specs.Notes.{red, blue, plain, in_red, in_blue, meaning_part, detail_part, headline, others, objects_part, margin, place, place_line, bar, mark, excerpt, excerpt_in, note_of, rest_of};
 
 use crate::excerpt::{line_at, place_number, push_blanks, push_indent, push_shown, shown_line};
 use crate::fault::{code_in, column_in, detail_in, file_in, line_in};
@@ -45,14 +44,22 @@ fn plain(colours: Colours) -> &'static [u8]
     }
 }
 
-fn push_all(into: &mut Vec<u8>, parts: &[&[u8]]) -> Result<(), AllocError>
-    ensures { OnOk result (into.new.items ≡ into.old.items
-        ++ concat (map (λ p. p.now) parts.now)) }
+fn push_red(into: &mut Vec<u8>, colours: Colours, text: &[u8]) -> Result<(), AllocError>
+    ensures { OnOk result (into.new.items ≡ into.old.items ++ in_red colours text.now) }
 {
-    for part in parts {
-        into.extend_from_slice(part)?;
-    }
-    Ok(())
+    into.extend_from_slice(red(colours))?;
+    into.extend_from_slice(text)?;
+    into.extend_from_slice(plain(colours))
+}
+
+fn push_error(into: &mut Vec<u8>, colours: Colours, code: &[u8]) -> Result<(), AllocError>
+    ensures { OnOk result (into.new.items ≡ into.old.items
+        ++ in_red colours (codes "error " ++ code.now)) }
+{
+    into.extend_from_slice(red(colours))?;
+    into.extend_from_slice(b"error ")?;
+    into.extend_from_slice(code)?;
+    into.extend_from_slice(plain(colours))
 }
 
 fn push_meaning(into: &mut Vec<u8>, code: Option<Code>) -> Result<(), AllocError>
@@ -79,7 +86,7 @@ fn push_headline(into: &mut Vec<u8>, colours: Colours, fault: &[u8]) -> Result<(
     ensures { OnOk result (into.new.items ≡ into.old.items ++ headline colours fault.now) }
 {
     let code = code_in(fault);
-    push_all(into, &[red(colours), b"error ", code, plain(colours)])?;
+    push_error(into, colours, code)?;
     push_meaning(into, code_of(code))?;
     push_detail(into, detail_in(fault))?;
     into.extend_from_slice(b"\n")
@@ -118,7 +125,25 @@ fn push_margin(into: &mut Vec<u8>, fault: &[u8]) -> Result<(), AllocError>
     push_blanks(into, line_in(fault).len())
 }
 
-fn push_place(
+fn push_arrow(into: &mut Vec<u8>, colours: Colours) -> Result<(), AllocError>
+    ensures { OnOk result (into.new.items ≡ into.old.items ++ in_blue colours (codes "-->")) }
+{
+    into.extend_from_slice(blue(colours))?;
+    into.extend_from_slice(b"-->")?;
+    into.extend_from_slice(plain(colours))
+}
+
+fn push_place(into: &mut Vec<u8>, fault: &[u8]) -> Result<(), AllocError>
+    ensures { OnOk result (into.new.items ≡ into.old.items ++ place fault.now) }
+{
+    into.extend_from_slice(file_in(fault))?;
+    into.extend_from_slice(b":")?;
+    into.extend_from_slice(line_in(fault))?;
+    into.extend_from_slice(b":")?;
+    into.extend_from_slice(column_in(fault))
+}
+
+fn push_place_line(
     into: &mut Vec<u8>,
     colours: Colours,
     fault: &[u8],
@@ -128,20 +153,21 @@ fn push_place(
         ++ place_line colours fault.now objects.now) }
 {
     push_margin(into, fault)?;
-    push_all(into, &[blue(colours), b"-->", plain(colours), b" "])?;
-    push_all(
-        into,
-        &[file_in(fault), b":", line_in(fault), b":", column_in(fault)],
-    )?;
+    push_arrow(into, colours)?;
+    into.extend_from_slice(b" ")?;
+    push_place(into, fault)?;
     push_objects(into, objects)?;
     into.extend_from_slice(b"\n")
 }
 
-/// Appends the bar in front of a line of the file, behind the line's number or a margin.
+/// Appends the bar in front of a line of the file, behind the line's number or nothing.
 fn push_bar(into: &mut Vec<u8>, colours: Colours, number: &[u8]) -> Result<(), AllocError>
     ensures { OnOk result (into.new.items ≡ into.old.items ++ bar colours number.now) }
 {
-    push_all(into, &[blue(colours), number, b" |", plain(colours)])
+    into.extend_from_slice(blue(colours))?;
+    into.extend_from_slice(number)?;
+    into.extend_from_slice(b" |")?;
+    into.extend_from_slice(plain(colours))
 }
 
 fn push_excerpt(
@@ -180,7 +206,8 @@ fn push_mark(
     push_bar(into, colours, b"")?;
     into.extend_from_slice(b" ")?;
     push_indent(alloc, into, column, text)?;
-    push_all(into, &[red(colours), b"^", plain(colours), b"\n"])
+    push_red(into, colours, b"^")?;
+    into.extend_from_slice(b"\n")
 }
 
 fn push_source(
@@ -219,7 +246,7 @@ pub fn note_of(
     let mut text = Vec::new(alloc);
     let fault = told.fault.as_slice();
     push_headline(&mut text, colours, fault)?;
-    push_place(&mut text, colours, fault, told.objects.as_slice())?;
+    push_place_line(&mut text, colours, fault, told.objects.as_slice())?;
     if let Some(source) = source {
         push_source(alloc, &mut text, colours, fault, source)?;
     }
