@@ -25,6 +25,7 @@ pub(crate) fn place_number(digits: &[u8]) -> Option<u64>
     None
 }
 
+#[tactic(auto, using(crate::proofs::Steps::line_on))]
 fn behind_lines(count: u64, text: &[u8]) -> &[u8]
     ensures { result.now ≡ behind_lines count text.now }
 {
@@ -75,6 +76,7 @@ pub(crate) fn push_shown(into: &mut Vec<u8>, text: &[u8]) -> Result<(), AllocErr
 }
 
 /// Appends so many blanks.
+#[tactic(auto, using(crate::proofs::Steps::blank_more))]
 pub(crate) fn push_blanks(into: &mut Vec<u8>, count: usize) -> Result<(), AllocError>
     ensures { OnOk result (into.new.items ≡ into.old.items ++ repeat count (32 ∷ [])) }
 {
