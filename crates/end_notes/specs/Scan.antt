@@ -30,7 +30,7 @@ wrong_option [] = None
 wrong_option (word ∷ words) =
     if is_end word then None
     else (if is_dashed word && not (stands_alone (word ∷ words))
-        && not (takes_next (word ∷ words)) then Some word
+    && not (takes_next (word ∷ words)) then Some word
     else wrong_option words)
 
 -- behind an option: its value, or a word of its own

@@ -9,21 +9,22 @@ abbrev pub is_mode : List ℕ → Bool
 is_mode word = bytes_eq word (codes "build") || bytes_eq word (codes "watch")
     || bytes_eq word (codes "demo")
 
--- MODE is none; SOURCE or OUT is empty
-abbrev pub wrong_named : List ℕ → List ℕ → List ℕ → Wrong
-wrong_named mode source out =
-    if is_mode mode then
-      (if nat_eq (length source) 0 then Empty Source
-      else (if nat_eq (length out) 0 then Empty Out else Otherwise))
-    else BadMode mode
+-- SOURCE or OUT is empty
+abbrev pub wrong_pair : List ℕ → List ℕ → Wrong
+wrong_pair source out =
+    if nat_eq (length source) 0 then Empty Source
+    else (if nat_eq (length out) 0 then Empty Out else Otherwise)
 
--- the places are too few, or one too many
+-- behind MODE the places are too few, or one too many
+abbrev pub wrong_behind : List (List ℕ) → Wrong
+wrong_behind [] = Missing Source
+wrong_behind (source ∷ []) = Missing Out
+wrong_behind (source ∷ out ∷ []) = wrong_pair source out
+wrong_behind (source ∷ out ∷ extra ∷ words) = Extra extra
+
 abbrev pub wrong_places : List (List ℕ) → Wrong
 wrong_places [] = Missing Mode
-wrong_places (mode ∷ []) = Missing Source
-wrong_places (mode ∷ source ∷ []) = Missing Out
-wrong_places (mode ∷ source ∷ out ∷ []) = wrong_named mode source out
-wrong_places (mode ∷ source ∷ out ∷ extra ∷ words) = Extra extra
+wrong_places (mode ∷ places) = if is_mode mode then wrong_behind places else BadMode mode
 
 abbrev pub wrong_by : Option (List ℕ) → List (List ℕ) → Wrong
 wrong_by (Some word) words = BadOption word

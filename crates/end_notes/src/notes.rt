@@ -5,7 +5,8 @@ use crate::wrong::{Place, Wrong};
 use std::alloc::{AllocError, Global};
 
 /// How the program is called.
-pub const USAGE: &str = "\nusage: pan build SOURCE OUT [OPTION..]    compiles the templates below SOURCE into OUT\n       pan watch SOURCE OUT [OPTION..]    the same, asked by lines on standard input\n       pan demo COUNT START [OPTION..]    four builds of a made-up site\n\noptions: --include LIST       include directories below SOURCE, joined by `:`\n         --max-iteration N    turns of a loop, 1 to 1000000\n         --max-recursion N    open calls of functions, 1 to 200\n";
+pub const USAGE: &str =
+    "\nusage: pan build SOURCE OUT [OPTION..]    compiles the templates below SOURCE into OUT\n       pan watch SOURCE OUT [OPTION..]    the same, asked by lines on standard input\n       pan demo COUNT START [OPTION..]    four builds of a made-up site\n\noptions: --include LIST       include directories below SOURCE, joined by `:`\n         --max-iteration N    turns of a loop, 1 to 1000000\n         --max-recursion N    open calls of functions, 1 to 200\n";
 
 fn place_name(place: Place) -> &'static str
     ensures { result.now ≡ place_name place }

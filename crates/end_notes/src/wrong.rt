@@ -1,5 +1,5 @@
 ghost use Rattle.std.specs.Prelude.{◌≡◌, IfOk};
-ghost use Rattle.end_notes.specs.Wrongs.{is_mode, wrong_named, wrong_places, wrong_of};
+ghost use Rattle.end_notes.specs.Wrongs.{is_mode, wrong_pair, wrong_behind, wrong_places, wrong_of};
 
 use crate::scan::{places_in, wrong_option};
 use base::Text;
@@ -36,35 +36,43 @@ fn is_mode(word: &str) -> bool
     word == "build" || word == "watch" || word == "demo"
 }
 
-fn wrong_named(mode: &Text, source: &str, out: &str) -> Result<Wrong, AllocError>
-    ensures { IfOk result (λ wrong. wrong ≡ wrong_named mode.now source.now out.now) }
+fn wrong_pair(source: &str, out: &str) -> Wrong
+    ensures { result ≡ wrong_pair source.now out.now }
 {
-    if !is_mode(mode.as_str()) {
-        return Ok(Wrong::BadMode(mode.share()?));
-    }
     if source.is_empty() {
-        return Ok(Wrong::Empty(Place::Source));
+        return Wrong::Empty(Place::Source);
     }
     if out.is_empty() {
-        return Ok(Wrong::Empty(Place::Out));
+        return Wrong::Empty(Place::Out);
     }
-    Ok(Wrong::Otherwise)
+    Wrong::Otherwise
+}
+
+fn wrong_behind(places: &[Text]) -> Result<Wrong, AllocError>
+    ensures { IfOk result (λ wrong. wrong ≡ wrong_behind places.now) }
+{
+    match places {
+        [] => Ok(Wrong::Missing(Place::Source)),
+        [_] => Ok(Wrong::Missing(Place::Out)),
+        [source, out] => Ok(wrong_pair(source.as_str(), out.as_str())),
+        [_, _, extra, ..] => Ok(Wrong::Extra(extra.share()?)),
+    }
 }
 
 fn wrong_places(places: &[Text]) -> Result<Wrong, AllocError>
     ensures { IfOk result (λ wrong. wrong ≡ wrong_places places.now) }
 {
-    match places {
-        [] => Ok(Wrong::Missing(Place::Mode)),
-        [_] => Ok(Wrong::Missing(Place::Source)),
-        [_, _] => Ok(Wrong::Missing(Place::Out)),
-        [mode, source, out] => wrong_named(mode, source.as_str(), out.as_str()),
-        [_, _, _, extra, ..] => Ok(Wrong::Extra(extra.share()?)),
+    let [mode, places @ ..] = places else {
+        return Ok(Wrong::Missing(Place::Mode));
+    };
+    if !is_mode(mode.as_str()) {
+        return Ok(Wrong::BadMode(mode.share()?));
     }
+    wrong_behind(places)
 }
 
 /// What is wrong with words that are no command: the first word that looks like an option and is none, by itself or with
-/// the next word; else a place that is missing, too many, no mode or empty.
+/// the next word; else a place that is missing, no mode, too many or empty.
 pub fn wrong_of(alloc: Global, words: &[Text]) -> Result<Wrong, AllocError>
     ensures { IfOk result (λ wrong. wrong ≡ wrong_of words.now) }
 {

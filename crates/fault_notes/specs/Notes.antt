@@ -1,5 +1,5 @@
 -- The text for one fault.
-use Rattle.std.specs.Prelude.{ℕ, zero, suc, List, [], ◌∷◌, ◌++◌, map, length, Option, Some, None, bytes_eq, codes, decimal}
+use Rattle.std.specs.Prelude.{ℕ, ◌==◌, if◌then◌else◌, List, [], ◌∷◌, ◌++◌, map, length, Option, Some, None, bytes_eq, codes, decimal}
 use Rattle.std.specs.List.{find, repeat}
 use Rattle.pan_ast.specs.Codes.{code_text}
 use Rattle.pan_ast.specs.declared.fault.Code.{Code}
@@ -48,9 +48,10 @@ headline colours fault =
 
 -- the first object, and how many others have the fault
 abbrev pub others : ℕ → List ℕ
-others zero = []
-others (suc zero) = codes ", and 1 other"
-others (suc (suc n)) = codes ", and " ++ decimal (suc (suc n)) ++ codes " others"
+others n =
+    if n == 0 then []
+    else (if n == 1 then codes ", and 1 other"
+    else codes ", and " ++ decimal n ++ codes " others")
 
 abbrev pub objects_part : List (List ℕ) → List ℕ
 objects_part [] = []
@@ -114,6 +115,7 @@ note_of colours told source =
 
 -- how many different faults are not told
 abbrev pub rest_of : ℕ → List ℕ
-rest_of zero = []
-rest_of (suc zero) = codes "and 1 different fault more\n"
-rest_of (suc (suc n)) = codes "and " ++ decimal (suc (suc n)) ++ codes " different faults more\n"
+rest_of n =
+    if n == 0 then []
+    else (if n == 1 then codes "and 1 different fault more\n"
+    else codes "and " ++ decimal n ++ codes " different faults more\n")

@@ -55,14 +55,23 @@ const CODES: [Code; 46] = [
     Code::FileTooLong,
 ];
 
+/// The first of these codes that is printed so.
+fn first_of(among: &[Code], text: &[u8]) -> Option<Code>
+    ensures { result ≡ find (λ code. bytes_eq (code_text code) text.now) among.now }
+{
+    for code in among {
+        if code.text().as_bytes() == text {
+            return Some(*code);
+        }
+    }
+    None
+}
+
 /// The code that is printed so.
 pub(crate) fn code_of(text: &[u8]) -> Option<Code>
     ensures { result ≡ find (λ code. bytes_eq (code_text code) text.now) CODES }
 {
-    CODES
-        .iter()
-        .find(|code| code.text().as_bytes() == text)
-        .copied()
+    first_of(&CODES, text)
 }
 
 /// What a code means, in the words of docs/FAULTS.md.

@@ -95,16 +95,16 @@ fn push_headline(into: &mut Vec<u8>, colours: Colours, fault: &[u8]) -> Result<(
 fn push_others(into: &mut Vec<u8>, count: usize) -> Result<(), AllocError>
     ensures { OnOk result (into.new.items ≡ into.old.items ++ others count) }
 {
-    match count {
-        0 => Ok(()),
-        1 => into.extend_from_slice(b", and 1 other"),
-        _ => {
-            let mut buffer = Buffer::new();
-            into.extend_from_slice(b", and ")?;
-            into.extend_from_slice(buffer.format(count).as_bytes())?;
-            into.extend_from_slice(b" others")
-        }
+    if count == 0 {
+        return Ok(());
     }
+    if count == 1 {
+        return into.extend_from_slice(b", and 1 other");
+    }
+    let mut buffer = Buffer::new();
+    into.extend_from_slice(b", and ")?;
+    into.extend_from_slice(buffer.format(count).as_bytes())?;
+    into.extend_from_slice(b" others")
 }
 
 fn push_objects(into: &mut Vec<u8>, objects: &[Bytes]) -> Result<(), AllocError>
@@ -220,8 +220,10 @@ fn push_source(
     ensures { OnOk result (into.new.items ≡ into.old.items
         ++ excerpt_in colours fault.now source.now) }
 {
-    let (Some(line), Some(column)) = (place_number(line_in(fault)), place_number(column_in(fault)))
-    else {
+    let Some(line) = place_number(line_in(fault)) else {
+        return Ok(());
+    };
+    let Some(column) = place_number(column_in(fault)) else {
         return Ok(());
     };
     match shown_line(alloc, line_at(line, source))? {
@@ -258,16 +260,15 @@ pub fn note_of(
 pub fn rest_of(alloc: Global, left: usize) -> Result<Vec<u8>, AllocError>
     ensures { IfOk result (λ text. text.items ≡ rest_of left) }
 {
-    let mut text = Vec::new(alloc);
-    match left {
-        0 => {}
-        1 => text.extend_from_slice(b"and 1 different fault more\n")?,
-        _ => {
-            let mut buffer = Buffer::new();
-            text.extend_from_slice(b"and ")?;
-            text.extend_from_slice(buffer.format(left).as_bytes())?;
-            text.extend_from_slice(b" different faults more\n")?;
-        }
+    if left == 0 {
+        return Ok(Vec::new(alloc));
     }
+    if left == 1 {
+        return Vec::from_slice(alloc, b"and 1 different fault more\n");
+    }
+    let mut buffer = Buffer::new();
+    let mut text = Vec::from_slice(alloc, b"and ")?;
+    text.extend_from_slice(buffer.format(left).as_bytes())?;
+    text.extend_from_slice(b" different faults more\n")?;
     Ok(text)
 }
