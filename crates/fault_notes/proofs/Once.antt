@@ -11,7 +11,7 @@ use Rattle.fault_notes.specs.Lines.{object_in, fault_in}
 use Rattle.fault_notes.specs.Reports.{different, faults_of, objects_with}
 
 -- the texts other than one
-others : List ℕ → List (List ℕ) → List (List ℕ)
+abbrev others : List ℕ → List (List ℕ) → List (List ℕ)
 others x xs = filter (λ other. not (bytes_eq x other)) xs
 
 symmetric : (x y : List ℕ) → bytes_eq x y ≡ bytes_eq y x
