@@ -1,4 +1,4 @@
-ghost use Rattle.std.specs.Prelude.{◌≡◌, ◌++◌, IfOk, OnOk, map, option_map, codes};
+ghost use Rattle.std.specs.Prelude.{◌≡◌, ◌++◌, IfOk, OnOk, map, option_map, codes, decimal};
 ghost use Rattle.fault_notes.specs.Notes.{red, blue, plain, in_red, in_blue, meaning_part, detail_part, headline, others, objects_part, margin, place, place_line, bar, mark, excerpt, excerpt_in, note_of, rest_of};
 
 use crate::excerpt::{line_at, place_number, push_blanks, push_indent, push_shown, shown_line};
@@ -92,6 +92,16 @@ fn push_headline(into: &mut Vec<u8>, colours: Colours, fault: &[u8]) -> Result<(
     into.extend_from_slice(b"\n")
 }
 
+fn push_many(into: &mut Vec<u8>, count: usize) -> Result<(), AllocError>
+    ensures { OnOk result (into.new.items ≡ into.old.items
+        ++ (codes ", and " ++ decimal count ++ codes " others")) }
+{
+    let mut buffer = Buffer::new();
+    into.extend_from_slice(b", and ")?;
+    into.extend_from_slice(buffer.format(count).as_bytes())?;
+    into.extend_from_slice(b" others")
+}
+
 fn push_others(into: &mut Vec<u8>, count: usize) -> Result<(), AllocError>
     ensures { OnOk result (into.new.items ≡ into.old.items ++ others count) }
 {
@@ -101,10 +111,7 @@ fn push_others(into: &mut Vec<u8>, count: usize) -> Result<(), AllocError>
     if count == 1 {
         return into.extend_from_slice(b", and 1 other");
     }
-    let mut buffer = Buffer::new();
-    into.extend_from_slice(b", and ")?;
-    into.extend_from_slice(buffer.format(count).as_bytes())?;
-    into.extend_from_slice(b" others")
+    push_many(into, count)
 }
 
 fn push_objects(into: &mut Vec<u8>, objects: &[Bytes]) -> Result<(), AllocError>

@@ -1,4 +1,4 @@
-ghost use Rattle.std.specs.Prelude.{◌≡◌, IfOk, map, bytes_eq, take};
+ghost use Rattle.std.specs.Prelude.{◌≡◌, ◌++◌, ◌∷◌, [], IfOk, OnOk, if◌then◌else◌, map, bytes_eq, take};
 ghost use Rattle.std.specs.List.{list_any};
 ghost use Rattle.fault_notes.specs.Reports.{different, faults_of, objects_with, with_objects, report_of};
 ghost use Rattle.fault_notes.specs.Lines.{fault_in};
@@ -34,6 +34,18 @@ fn is_among(fault: &[u8], faults: &[Bytes]) -> bool
     faults.iter().any(|each| fault == each.as_slice())
 }
 
+/// Adds a fault, where it is new.
+fn add_fault(alloc: Global, faults: &mut Vec<Bytes>, fault: &[u8]) -> Result<(), AllocError>
+    ensures { OnOk result (faults.new.items ≡ (if list_any (bytes_eq fault.now) faults.old.items
+        then faults.old.items else faults.old.items ++ fault.now ∷ [])) }
+{
+    if is_among(fault, faults) {
+        return Ok(());
+    }
+    faults.push(Bytes::from_slice(alloc, fault)?)?;
+    Ok(())
+}
+
 /// The different faults of lines, in the order in which they come first.
 #[tactic(auto, using(crate::proofs::Once::faults_more))]
 fn faults_of(alloc: Global, lines: &[Bytes]) -> Result<Vec<Bytes>, AllocError>
@@ -41,10 +53,7 @@ fn faults_of(alloc: Global, lines: &[Bytes]) -> Result<Vec<Bytes>, AllocError>
 {
     let mut faults = Vec::new(alloc);
     for line in lines {
-        let fault = fault_in(line.as_slice());
-        if !is_among(fault, &faults) {
-            faults.push(Bytes::from_slice(alloc, fault)?)?;
-        }
+        add_fault(alloc, &mut faults, fault_in(line.as_slice()))?;
     }
     Ok(faults)
 }
