@@ -1,12 +1,16 @@
-//! The compiler as a program. It makes a runner of objects and the host's devices, calls `pan_top::pan`, and ends with
-//! the call's status.
+//! The compiler as a program. It makes a runner of objects and the host's devices, calls `pan_top::pan`, writes notes for
+//! a reader to standard error (`notes`), and ends with the call's status.
 #![tactic(auto)]
 
 ghost use Rattle.std.specs.Prelude.{◌≡◌, ◌<◌};
 
+mod notes;
+
+use crate::notes::{Told, write_notes};
 use base::{Steps, Text};
+use end_notes::asked_of;
 use object_run::Library;
-use outside::{HostLines, HostShelf, HostSink, HostSource};
+use outside::{HostLines, HostShelf, HostSink, HostSource, KeepingSink};
 use pan_top::{Status, pan};
 use std::alloc::AllocError;
 use std::marker::Brand;
@@ -36,11 +40,11 @@ fn run<L: Ledger>(rt: &HostRuntime, blank: Blank) -> Result<Status, AllocError>
     };
     let mut runner = Library::new(rt.alloc());
     let mut source = HostSource::new(rt.clone()?);
-    let mut shelf = HostShelf::new(rt.clone()?, None);
+    let mut shelf = HostShelf::new(rt.clone()?, asked_of(rt.alloc(), &words)?);
     let mut lines = HostLines::new(rt.reader());
-    let mut out = HostSink::new(rt.stdout());
+    let mut out = KeepingSink::new(rt.alloc(), HostSink::new(rt.stdout()));
     let mut steps = Steps::<L>::new(blank);
-    Ok(pan(
+    let status = pan(
         rt.alloc(),
         &words,
         &mut runner,
@@ -49,7 +53,14 @@ fn run<L: Ledger>(rt: &HostRuntime, blank: Blank) -> Result<Status, AllocError>
         &mut lines,
         &mut out,
         &mut steps,
-    ))
+    );
+    let told = Told {
+        source: source.trouble(),
+        shelf: shelf.trouble(),
+        faults: out.fault_lines(),
+    };
+    write_notes(rt, &words, status, &told);
+    Ok(status)
 }
 
 fn main(rt: HostRuntime) -> ExitCode {

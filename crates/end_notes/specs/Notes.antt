@@ -1,0 +1,28 @@
+-- The texts of ends that came early.
+use Rattle.std.specs.Prelude.{ℕ, List, ◌++◌, codes}
+use Rattle.end_notes.specs.declared.notes.TheConstants.{USAGE}
+use Rattle.end_notes.specs.declared.wrong.Place.{Place}
+use Rattle.end_notes.specs.declared.wrong.Place.TheVariants.{Mode, Source, Out}
+use Rattle.end_notes.specs.declared.wrong.Wrong.{Wrong}
+use Rattle.end_notes.specs.declared.wrong.Wrong.TheVariants.{BadOption, Missing, Extra, BadMode, Empty, Otherwise}
+
+abbrev pub place_name : Place → List ℕ
+place_name Mode = codes "MODE"
+place_name Source = codes "SOURCE"
+place_name Out = codes "OUT"
+
+abbrev pub wrong_text : Wrong → List ℕ
+wrong_text (BadOption word) = codes "no such option, or not with this value: " ++ word
+wrong_text (Missing place) = place_name place ++ codes " is missing"
+wrong_text (Extra word) = codes "one word too many: " ++ word
+wrong_text (BadMode word) = codes "no such MODE: " ++ word
+wrong_text (Empty place) = place_name place ++ codes " is empty"
+wrong_text Otherwise = codes "the words are no command"
+
+-- the word that is wrong, and the usage
+abbrev pub usage_of : Wrong → List ℕ
+usage_of wrong = codes "error: " ++ wrong_text wrong ++ codes "\n" ++ USAGE.now
+
+-- `error: PATH: REASON`
+abbrev pub trouble_of : List ℕ → List ℕ → List ℕ
+trouble_of path reason = codes "error: " ++ path ++ codes ": " ++ reason ++ codes "\n"

@@ -1,0 +1,118 @@
+ghost use Rattle.std.specs.Prelude.{◌≡◌, ◌++◌, IfOk, OnOk};
+ghost use Rattle.end_notes.specs.Scan.{is_end, is_dashed, fits, stands_alone, takes_next, wrong_option, behind_option, places_in};
+
+use base::Text;
+use command_words::read_command;
+use std::alloc::{AllocError, Global};
+
+fn is_end(word: &str) -> bool
+    ensures { result ≡ is_end word.now }
+{
+    word == "--"
+}
+
+fn is_dashed(word: &[u8]) -> bool
+    ensures { result ≡ is_dashed word.now }
+{
+    match word {
+        [first, _, ..] => *first == b'-',
+        _ => false,
+    }
+}
+
+/// Whether `build s o` with these words behind it is a command.
+fn fits(alloc: Global, words: &[Text]) -> Result<bool, AllocError>
+    ensures { IfOk result (λ it. it ≡ fits words.now) }
+{
+    let mut all = Vec::new(alloc);
+    all.push(Text::new(alloc, "build")?)?;
+    all.push(Text::new(alloc, "s")?)?;
+    all.push(Text::new(alloc, "o")?)?;
+    for word in words {
+        all.push(word.share()?)?;
+    }
+    Ok(read_command(alloc, &all)?.is_some())
+}
+
+fn stands_alone(alloc: Global, words: &[Text]) -> Result<bool, AllocError>
+    ensures { IfOk result (λ it. it ≡ stands_alone words.now) }
+{
+    fits(alloc, &words[..words.len().min(1)])
+}
+
+fn takes_next(alloc: Global, words: &[Text]) -> Result<bool, AllocError>
+    ensures { IfOk result (λ it. it ≡ takes_next words.now) }
+{
+    fits(alloc, &words[..words.len().min(2)])
+}
+
+/// The first word that looks like an option and is none, by itself or with the next word.
+pub(crate) fn wrong_option(alloc: Global, words: &[Text]) -> Result<Option<Text>, AllocError>
+    ensures { IfOk result (λ wrong. wrong ≡ wrong_option words.now) }
+{
+    for i in 0..words.len() {
+        let word = words[i].as_str();
+        if is_end(word) {
+            return Ok(None);
+        }
+        if is_dashed(word.as_bytes())
+            && !stands_alone(alloc, &words[i..])?
+            && !takes_next(alloc, &words[i..])?
+        {
+            return Ok(Some(words[i].share()?));
+        }
+    }
+    Ok(None)
+}
+
+/// What the next word is.
+#[derive(Clone, Copy)]
+enum Next {
+    /// A word of its own.
+    Free,
+    /// The value of the option before it.
+    Value,
+}
+
+fn behind_option(alloc: Global, words: &[Text]) -> Result<Next, AllocError>
+    ensures { IfOk result (λ next. next ≡ behind_option words.now) }
+{
+    if stands_alone(alloc, words)? {
+        return Ok(Next::Free);
+    }
+    Ok(Next::Value)
+}
+
+fn push_words(into: &mut Vec<Text>, words: &[Text]) -> Result<(), AllocError>
+    ensures { OnOk result (into.new.items ≡ into.old.items ++ words.now) }
+{
+    for word in words {
+        into.push(word.share()?)?;
+    }
+    Ok(())
+}
+
+/// The words that are places.
+pub(crate) fn places_in(alloc: Global, words: &[Text]) -> Result<Vec<Text>, AllocError>
+    ensures { IfOk result (λ places. places.items ≡ places_in words.now) }
+{
+    let mut places = Vec::new(alloc);
+    let mut next = Next::Free;
+    for i in 0..words.len() {
+        if let Next::Value = next {
+            next = Next::Free;
+            continue;
+        }
+        let word = words[i].as_str();
+        if is_end(word) {
+            push_words(&mut places, &words[i + 1..])?;
+            return Ok(places);
+        }
+        if is_dashed(word.as_bytes()) {
+            next = behind_option(alloc, &words[i..])?;
+            continue;
+        }
+        places.push(words[i].share()?)?;
+    }
+    Ok(places)
+}

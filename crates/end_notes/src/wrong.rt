@@ -1,0 +1,84 @@
+ghost use Rattle.std.specs.Prelude.{◌≡◌, IfOk};
+ghost use Rattle.end_notes.specs.Wrongs.{is_mode, wrong_pair, wrong_behind, wrong_places, wrong_of};
+
+use crate::scan::{places_in, wrong_option};
+use base::Text;
+use std::alloc::{AllocError, Global};
+
+/// A place of a command.
+#[derive(Clone, Copy, Debug, PartialEq, Eq)]
+pub enum Place {
+    Mode,
+    Source,
+    Out,
+}
+
+/// What is wrong with words that are no command.
+#[derive(Debug, Drop)]
+pub enum Wrong {
+    /// A word that looks like an option and is none, or one whose value is missing or not of its form.
+    BadOption(Text),
+    /// There are too few places.
+    Missing(Place),
+    /// The first place too many.
+    Extra(Text),
+    /// MODE is no mode.
+    BadMode(Text),
+    /// SOURCE or OUT is the empty word.
+    Empty(Place),
+    /// Something else, as an option that is given twice, or a demo of no machines.
+    Otherwise,
+}
+
+fn is_mode(word: &str) -> bool
+    ensures { result ≡ is_mode word.now }
+{
+    word == "build" || word == "watch" || word == "demo"
+}
+
+fn wrong_pair(source: &str, out: &str) -> Wrong
+    ensures { result ≡ wrong_pair source.now out.now }
+{
+    if source.is_empty() {
+        return Wrong::Empty(Place::Source);
+    }
+    if out.is_empty() {
+        return Wrong::Empty(Place::Out);
+    }
+    Wrong::Otherwise
+}
+
+fn wrong_behind(places: &[Text]) -> Result<Wrong, AllocError>
+    ensures { IfOk result (λ wrong. wrong ≡ wrong_behind places.now) }
+{
+    match places {
+        [] => Ok(Wrong::Missing(Place::Source)),
+        [_] => Ok(Wrong::Missing(Place::Out)),
+        [source, out] => Ok(wrong_pair(source.as_str(), out.as_str())),
+        [_, _, extra, ..] => Ok(Wrong::Extra(extra.share()?)),
+    }
+}
+
+fn wrong_places(places: &[Text]) -> Result<Wrong, AllocError>
+    ensures { IfOk result (λ wrong. wrong ≡ wrong_places places.now) }
+{
+    let [mode, places @ ..] = places else {
+        return Ok(Wrong::Missing(Place::Mode));
+    };
+    if !is_mode(mode.as_str()) {
+        return Ok(Wrong::BadMode(mode.share()?));
+    }
+    wrong_behind(places)
+}
+
+/// What is wrong with words that are no command: the first word that looks like an option and is none, by itself or with
+/// the next word; else a place that is missing, no mode, too many or empty.
+pub fn wrong_of(alloc: Global, words: &[Text]) -> Result<Wrong, AllocError>
+    ensures { IfOk result (λ wrong. wrong ≡ wrong_of words.now) }
+{
+    if let Some(word) = wrong_option(alloc, words)? {
+        return Ok(Wrong::BadOption(word));
+    }
+    let places = places_in(alloc, words)?;
+    wrong_places(&places)
+}

@@ -1,0 +1,281 @@
+ghost use Rattle.std.specs.Prelude.{◌≡◌, ◌++◌, IfOk, OnOk, map, option_map, codes, decimal};
+ghost use Rattle.fault_notes.specs.Notes.{red, blue, plain, in_red, in_blue, meaning_part, detail_part, headline, others, objects_part, margin, place, place_line, bar, mark, excerpt, excerpt_in, note_of, rest_of};
+
+use crate::excerpt::{line_at, place_number, push_blanks, push_indent, push_shown, shown_line};
+use crate::fault::{code_in, column_in, detail_in, file_in, line_in};
+use crate::meanings::{code_of, meaning};
+use crate::report::Repeated;
+use base::Bytes;
+use itoa::Buffer;
+use pan_ast::Code;
+use std::alloc::{AllocError, Global};
+
+/// Whether a note has the colours of a terminal.
+#[derive(Clone, Copy, Debug, PartialEq, Eq)]
+pub enum Colours {
+    On,
+    Off,
+}
+
+fn red(colours: Colours) -> &'static [u8]
+    ensures { result.now ≡ red colours }
+{
+    match colours {
+        Colours::On => b"\x1b[1;31m",
+        Colours::Off => b"",
+    }
+}
+
+fn blue(colours: Colours) -> &'static [u8]
+    ensures { result.now ≡ blue colours }
+{
+    match colours {
+        Colours::On => b"\x1b[1;34m",
+        Colours::Off => b"",
+    }
+}
+
+fn plain(colours: Colours) -> &'static [u8]
+    ensures { result.now ≡ plain colours }
+{
+    match colours {
+        Colours::On => b"\x1b[0m",
+        Colours::Off => b"",
+    }
+}
+
+fn push_red(into: &mut Vec<u8>, colours: Colours, text: &[u8]) -> Result<(), AllocError>
+    ensures { OnOk result (into.new.items ≡ into.old.items ++ in_red colours text.now) }
+{
+    into.extend_from_slice(red(colours))?;
+    into.extend_from_slice(text)?;
+    into.extend_from_slice(plain(colours))
+}
+
+fn push_error(into: &mut Vec<u8>, colours: Colours, code: &[u8]) -> Result<(), AllocError>
+    ensures { OnOk result (into.new.items ≡ into.old.items
+        ++ in_red colours (codes "error " ++ code.now)) }
+{
+    into.extend_from_slice(red(colours))?;
+    into.extend_from_slice(b"error ")?;
+    into.extend_from_slice(code)?;
+    into.extend_from_slice(plain(colours))
+}
+
+fn push_meaning(into: &mut Vec<u8>, code: Option<Code>) -> Result<(), AllocError>
+    ensures { OnOk result (into.new.items ≡ into.old.items ++ meaning_part code) }
+{
+    let Some(code) = code else {
+        return Ok(());
+    };
+    into.extend_from_slice(b": ")?;
+    into.extend_from_slice(meaning(code).as_bytes())
+}
+
+fn push_detail(into: &mut Vec<u8>, detail: &[u8]) -> Result<(), AllocError>
+    ensures { OnOk result (into.new.items ≡ into.old.items ++ detail_part detail.now) }
+{
+    if detail.is_empty() {
+        return Ok(());
+    }
+    into.extend_from_slice(b": ")?;
+    into.extend_from_slice(detail)
+}
+
+fn push_headline(into: &mut Vec<u8>, colours: Colours, fault: &[u8]) -> Result<(), AllocError>
+    ensures { OnOk result (into.new.items ≡ into.old.items ++ headline colours fault.now) }
+{
+    let code = code_in(fault);
+    push_error(into, colours, code)?;
+    push_meaning(into, code_of(code))?;
+    push_detail(into, detail_in(fault))?;
+    into.extend_from_slice(b"\n")
+}
+
+fn push_many(into: &mut Vec<u8>, count: usize) -> Result<(), AllocError>
+    ensures { OnOk result (into.new.items ≡ into.old.items
+        ++ (codes ", and " ++ decimal count ++ codes " others")) }
+{
+    let mut buffer = Buffer::new();
+    into.extend_from_slice(b", and ")?;
+    into.extend_from_slice(buffer.format(count).as_bytes())?;
+    into.extend_from_slice(b" others")
+}
+
+fn push_others(into: &mut Vec<u8>, count: usize) -> Result<(), AllocError>
+    ensures { OnOk result (into.new.items ≡ into.old.items ++ others count) }
+{
+    if count == 0 {
+        return Ok(());
+    }
+    if count == 1 {
+        return into.extend_from_slice(b", and 1 other");
+    }
+    push_many(into, count)
+}
+
+fn push_objects(into: &mut Vec<u8>, objects: &[Bytes]) -> Result<(), AllocError>
+    ensures { OnOk result (into.new.items ≡ into.old.items ++ objects_part objects.now) }
+{
+    let [first, others @ ..] = objects else {
+        return Ok(());
+    };
+    into.extend_from_slice(b"  (object ")?;
+    into.extend_from_slice(first.as_slice())?;
+    push_others(into, others.len())?;
+    into.extend_from_slice(b")")
+}
+
+fn push_margin(into: &mut Vec<u8>, fault: &[u8]) -> Result<(), AllocError>
+    ensures { OnOk result (into.new.items ≡ into.old.items ++ margin fault.now) }
+{
+    push_blanks(into, line_in(fault).len())
+}
+
+fn push_arrow(into: &mut Vec<u8>, colours: Colours) -> Result<(), AllocError>
+    ensures { OnOk result (into.new.items ≡ into.old.items ++ in_blue colours (codes "-->")) }
+{
+    into.extend_from_slice(blue(colours))?;
+    into.extend_from_slice(b"-->")?;
+    into.extend_from_slice(plain(colours))
+}
+
+fn push_place(into: &mut Vec<u8>, fault: &[u8]) -> Result<(), AllocError>
+    ensures { OnOk result (into.new.items ≡ into.old.items ++ place fault.now) }
+{
+    into.extend_from_slice(file_in(fault))?;
+    into.extend_from_slice(b":")?;
+    into.extend_from_slice(line_in(fault))?;
+    into.extend_from_slice(b":")?;
+    into.extend_from_slice(column_in(fault))
+}
+
+fn push_place_line(
+    into: &mut Vec<u8>,
+    colours: Colours,
+    fault: &[u8],
+    objects: &[Bytes],
+) -> Result<(), AllocError>
+    ensures { OnOk result (into.new.items ≡ into.old.items
+        ++ place_line colours fault.now objects.now) }
+{
+    push_margin(into, fault)?;
+    push_arrow(into, colours)?;
+    into.extend_from_slice(b" ")?;
+    push_place(into, fault)?;
+    push_objects(into, objects)?;
+    into.extend_from_slice(b"\n")
+}
+
+/// Appends the bar in front of a line of the file, behind the line's number or nothing.
+fn push_bar(into: &mut Vec<u8>, colours: Colours, number: &[u8]) -> Result<(), AllocError>
+    ensures { OnOk result (into.new.items ≡ into.old.items ++ bar colours number.now) }
+{
+    into.extend_from_slice(blue(colours))?;
+    into.extend_from_slice(number)?;
+    into.extend_from_slice(b" |")?;
+    into.extend_from_slice(plain(colours))
+}
+
+fn push_excerpt(
+    alloc: Global,
+    into: &mut Vec<u8>,
+    colours: Colours,
+    fault: &[u8],
+    column: u64,
+    text: &str,
+) -> Result<(), AllocError>
+    ensures { OnOk result (into.new.items ≡ into.old.items
+        ++ excerpt colours fault.now column text.now) }
+{
+    push_margin(into, fault)?;
+    push_bar(into, colours, b"")?;
+    into.extend_from_slice(b"\n")?;
+    push_bar(into, colours, line_in(fault))?;
+    into.extend_from_slice(b" ")?;
+    push_shown(into, text.as_bytes())?;
+    into.extend_from_slice(b"\n")?;
+    push_mark(alloc, into, colours, fault, column, text)
+}
+
+fn push_mark(
+    alloc: Global,
+    into: &mut Vec<u8>,
+    colours: Colours,
+    fault: &[u8],
+    column: u64,
+    text: &str,
+) -> Result<(), AllocError>
+    ensures { OnOk result (into.new.items ≡ into.old.items
+        ++ mark colours fault.now column text.now) }
+{
+    push_margin(into, fault)?;
+    push_bar(into, colours, b"")?;
+    into.extend_from_slice(b" ")?;
+    push_indent(alloc, into, column, text)?;
+    push_red(into, colours, b"^")?;
+    into.extend_from_slice(b"\n")
+}
+
+fn push_source(
+    alloc: Global,
+    into: &mut Vec<u8>,
+    colours: Colours,
+    fault: &[u8],
+    source: &[u8],
+) -> Result<(), AllocError>
+    ensures { OnOk result (into.new.items ≡ into.old.items
+        ++ excerpt_in colours fault.now source.now) }
+{
+    let Some(line) = place_number(line_in(fault)) else {
+        return Ok(());
+    };
+    let Some(column) = place_number(column_in(fault)) else {
+        return Ok(());
+    };
+    match shown_line(alloc, line_at(line, source))? {
+        Some(text) => push_excerpt(alloc, into, colours, fault, column, text.as_str()),
+        None => Ok(()),
+    }
+}
+
+/// The text for a fault, with a blank line at its end: its code, what that means and the detail; the place and the
+/// objects; and the line of the file with a mark below the column, where `source` has the bytes of the file.
+///
+/// A line of over `MAX_SHOWN_BYTES` bytes is not shown. In a line control characters are shown as blanks, but for tabs.
+pub fn note_of(
+    alloc: Global,
+    colours: Colours,
+    told: &Repeated,
+    source: Option<&[u8]>,
+) -> Result<Vec<u8>, AllocError>
+    ensures { IfOk result (λ text. text.items
+        ≡ note_of colours told.now (option_map (λ s. s.now) source.entry)) }
+{
+    let mut text = Vec::new(alloc);
+    let fault = told.fault.as_slice();
+    push_headline(&mut text, colours, fault)?;
+    push_place_line(&mut text, colours, fault, told.objects.as_slice())?;
+    if let Some(source) = source {
+        push_source(alloc, &mut text, colours, fault, source)?;
+    }
+    text.extend_from_slice(b"\n")?;
+    Ok(text)
+}
+
+/// The text for the different faults of which no note is given; none where there are no such.
+pub fn rest_of(alloc: Global, left: usize) -> Result<Vec<u8>, AllocError>
+    ensures { IfOk result (λ text. text.items ≡ rest_of left) }
+{
+    if left == 0 {
+        return Ok(Vec::new(alloc));
+    }
+    if left == 1 {
+        return Vec::from_slice(alloc, b"and 1 different fault more\n");
+    }
+    let mut buffer = Buffer::new();
+    let mut text = Vec::from_slice(alloc, b"and ")?;
+    text.extend_from_slice(buffer.format(left).as_bytes())?;
+    text.extend_from_slice(b" different faults more\n")?;
+    Ok(text)
+}

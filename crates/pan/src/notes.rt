@@ -1,0 +1,115 @@
+use base::limits::MAX_FILE_BYTES;
+use base::{Bytes, Text};
+use command_words::{Command, read_command};
+use end_notes::{trouble_note, usage_note, wrong_of};
+use fault_notes::{Colours, Repeated, file_in, note_of, report_of, rest_of};
+use outside::Trouble;
+use pan_top::Status;
+use std::alloc::AllocError;
+use std::env::VarError;
+use std::fs::File;
+use std::io::{IsTerminal, Read, Write};
+use std::{env, io};
+
+/// What the devices tell of a call that ended.
+#[derive(Drop)]
+pub struct Told<'a> {
+    /// Why the source failed last.
+    pub source: Option<&'a Trouble>,
+    /// Why the shelf failed last.
+    pub shelf: Option<&'a Trouble>,
+    /// The lines of the report that tell a fault.
+    pub faults: &'a [Bytes],
+}
+
+/// The value of a variable of the environment; nothing where it is not set.
+fn variable(rt: &HostRuntime, name: &str) -> Result<String, AllocError> {
+    match env::var(rt, name) {
+        Ok(value) => Ok(value),
+        Err(VarError::OutOfMemory) => Err(AllocError),
+        Err(_) => Ok(String::new(rt.alloc())),
+    }
+}
+
+/// Colours where standard error is a terminal and NO_COLOR is not set.
+fn colours(rt: &HostRuntime) -> Result<Colours, AllocError> {
+    if rt.stderr().is_terminal() && variable(rt, "NO_COLOR")?.is_empty() {
+        return Ok(Colours::On);
+    }
+    Ok(Colours::Off)
+}
+
+/// The bytes of a file below a folder.
+fn read_below(rt: &HostRuntime, folder: &str, name: &[u8]) -> io::Result<Vec<u8>> {
+    let mut path = String::from_str(rt.alloc(), folder)?;
+    path.push('/')?;
+    path.push_str(str::from_utf8(name).unwrap_or(""))?;
+    let mut bytes = Vec::new(rt.alloc());
+    File::open(rt, path.as_str())?
+        .take(MAX_FILE_BYTES as u64)
+        .read_to_end(&mut bytes)?;
+    Ok(bytes)
+}
+
+/// The note on a fault of files below a folder. Where the file cannot be read, its line is left out.
+fn fault_note(
+    rt: &HostRuntime,
+    folder: &str,
+    colours: Colours,
+    told: &Repeated,
+) -> Result<Vec<u8>, AllocError> {
+    match read_below(rt, folder, file_in(told.fault.as_slice())) {
+        Ok(bytes) => note_of(rt.alloc(), colours, told, Some(&bytes)),
+        Err(_) => note_of(rt.alloc(), colours, told, None),
+    }
+}
+
+/// The notes on the faults of a build of this folder.
+fn fault_notes(rt: &HostRuntime, folder: &str, lines: &[Bytes]) -> Result<Vec<u8>, AllocError> {
+    let colours = colours(rt)?;
+    let report = report_of(rt.alloc(), lines)?;
+    let mut notes = Vec::new(rt.alloc());
+    for told in report.faults.as_slice() {
+        notes.extend_from_slice(&fault_note(rt, folder, colours, told)?)?;
+    }
+    notes.extend_from_slice(&rest_of(rt.alloc(), report.left)?)?;
+    Ok(notes)
+}
+
+fn trouble_notes(rt: &HostRuntime, trouble: Option<&Trouble>) -> Result<Vec<u8>, AllocError> {
+    let Some(trouble) = trouble else {
+        return Ok(Vec::new(rt.alloc()));
+    };
+    trouble_note(rt.alloc(), trouble.path.as_str(), trouble.reason.as_str())
+}
+
+fn notes_on(
+    rt: &HostRuntime,
+    words: &[Text],
+    status: Status,
+    told: &Told<'_>,
+) -> Result<Vec<u8>, AllocError> {
+    match status {
+        Status::Usage => usage_note(rt.alloc(), &wrong_of(rt.alloc(), words)?),
+        Status::SourceFault => trouble_notes(rt, told.source),
+        Status::ShelfFault => trouble_notes(rt, told.shelf),
+        Status::SomeFaults => match read_command(rt.alloc(), words)? {
+            Some(Command::Build(work)) => fault_notes(rt, work.source.as_str(), told.faults),
+            _ => Ok(Vec::new(rt.alloc())),
+        },
+        _ => Ok(Vec::new(rt.alloc())),
+    }
+}
+
+/// Writes to standard error what a reader wants to know of a call that ended: of a build the meaning and the place of
+/// each fault, of a failed device the path and the reason, of wrong words the word and the usage. Nothing where the
+/// variable PAN_NOTES is `off`, and where memory is wanting; the status stays as it is.
+pub fn write_notes(rt: &HostRuntime, words: &[Text], status: Status, told: &Told<'_>) {
+    match variable(rt, "PAN_NOTES") {
+        Ok(value) if value.as_str() != "off" => {}
+        _ => return,
+    }
+    if let Ok(notes) = notes_on(rt, words, status, told) {
+        let _ = rt.stderr().write_all(&notes);
+    }
+}
