@@ -1,5 +1,5 @@
 -- One more line: the different faults, and the objects of a fault.
-use Rattle.std.proofs.Common.{◌≡◌, ℕ, Bool, true, false, List, [], ◌∷◌, ◌++◌, map, ◌||◌, ◌&&◌, if◌then◌else◌, refl, sym, ap, ◌∙◌}
+use Rattle.std.proofs.Common.{◌≡◌, ℕ, Bool, true, false, List, [], ◌∷◌, ◌++◌, map, ◌||◌, ◌&&◌, if◌then◌else◌, refl, sym, ap, ap₂, ◌∙◌}
 use Rattle.std.specs.Prelude.{not, bytes_eq}
 use Rattle.std.specs.List.{filter, list_any}
 use Rattle.std.proofs.lemmas.Slice.Eq.{bytes_eq-Decides}
@@ -40,8 +40,13 @@ different_more x (y ∷ ys) =
     more_at x y (different ys) (different (ys ++ (x ∷ []))) (bytes_eq y x) (list_any (bytes_eq x) (different ys)) refl (different_more x ys)
     ∙ ap (λ b. if b then different (y ∷ ys) else different (y ∷ ys) ++ (x ∷ [])) (sym tests)
 
-pub faults_more : (lines : List (List ℕ)) (line : List ℕ) → faults_of (lines ++ line ∷ []) ≡ (if list_any (bytes_eq (fault_in line)) (faults_of lines) then faults_of lines else faults_of lines ++ (fault_in line ∷ []))
+faults_more : (lines : List (List ℕ)) (line : List ℕ) → faults_of (lines ++ line ∷ []) ≡ (if list_any (bytes_eq (fault_in line)) (faults_of lines) then faults_of lines else faults_of lines ++ (fault_in line ∷ []))
 faults_more lines line = ap different (map-append fault_in lines (line ∷ [])) ∙ different_more (fault_in line) (map fault_in lines)
+
+-- the faults of one line more, where its fault was added
+pub added : (lines more : List (List ℕ)) (line fault : List ℕ) (old new : List (List ℕ)) → more ≡ lines ++ (line ∷ []) → fault ≡ fault_in line → old ≡ faults_of lines → new ≡ (if list_any (bytes_eq fault) old then old else old ++ (fault ∷ [])) → new ≡ faults_of more
+added lines more line fault old new one found before is =
+    is ∙ ap₂ (λ f os. if list_any (bytes_eq f) os then os else os ++ (f ∷ [])) found before ∙ sym (faults_more lines line) ∙ ap faults_of (sym one)
 
 with_by : (lines : List (List ℕ)) (line fault : List ℕ) (b : Bool) → map object_in (filter (λ l. bytes_eq (fault_in l) fault) lines ++ (if b then line ∷ [] else [])) ≡ (if b then objects_with lines fault ++ (object_in line ∷ []) else objects_with lines fault)
 with_by lines line fault true = map-append object_in (filter (λ l. bytes_eq (fault_in l) fault) lines) (line ∷ [])

@@ -1,5 +1,5 @@
 -- A line of a file as it is shown, and what leads to a mark below it.
-use Rattle.std.specs.Prelude.{ℕ, zero, suc, ◌+◌, ◌-◌, ◌==◌, ◌&&◌, ◌||◌, false, List, [], ◌∷◌, ◌++◌, take, map, length, nat_le, nat_lt, Option, Some, None, if◌then◌else◌, encode_utf8_all}
+use Rattle.std.specs.Prelude.{ℕ, zero, suc, ◌+◌, ◌-◌, ◌==◌, ◌&&◌, ◌||◌, false, List, [], ◌∷◌, ◌++◌, take, length, nat_le, nat_lt, Option, Some, None, if◌then◌else◌, encode_utf8_all}
 use Rattle.std.specs.List.{before_first, after_first, slice_split, flat_map, repeat}
 use Rattle.std.specs.Str.{chars}
 use Rattle.std.specs.Str.Lossy.{utf8_lossy}

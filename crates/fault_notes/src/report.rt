@@ -47,7 +47,6 @@ fn add_fault(alloc: Global, faults: &mut Vec<Bytes>, fault: &[u8]) -> Result<(),
 }
 
 /// The different faults of lines, in the order in which they come first.
-#[tactic(auto, using(crate::proofs::Once::faults_more))]
 fn faults_of(alloc: Global, lines: &[Bytes]) -> Result<Vec<Bytes>, AllocError>
     ensures { IfOk result (λ faults. faults.items ≡ faults_of lines.now) }
 {
