@@ -1,5 +1,5 @@
 -- The words of a command, one by one. Behind the word `--` each word is a place.
-use Rattle.std.specs.Prelude.{ℕ, ◌==◌, Bool, true, false, ◌&&◌, not, is_some, List, [], ◌∷◌, take, Option, Some, None, if◌then◌else◌, bytes_eq, codes}
+use Rattle.std.specs.Prelude.{ℕ, ◌==◌, Bool, false, ◌&&◌, not, is_some, List, [], ◌∷◌, take, Option, Some, None, if◌then◌else◌, bytes_eq, codes}
 use Rattle.command_words.specs.Commands.{command_of}
 use Rattle.end_notes.specs.declared.scan.Next.{Next}
 use Rattle.end_notes.specs.declared.scan.Next.TheVariants.{Free, Value}
