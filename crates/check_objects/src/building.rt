@@ -166,8 +166,8 @@ fn one_directory(alloc: Global) -> Result<Seq<Text>, AllocError>
     Ok(Seq::from_vec(dirs))
 }
 
-/// The sites of the input, by one engine.
-pub fn run<L: Ledger>(rt: &HostRuntime, blank: Blank) -> Result<()>
+/// The sites of the input, by one engine over this runner.
+fn play<R: Runner, L: Ledger>(rt: &HostRuntime, runner: &mut R, blank: Blank) -> Result<()>
     requires name { blank.name ≡ L.name }
     requires parts { blank.parts ≡ L.parts }
     requires some { 0 < blank.parts }
@@ -178,8 +178,16 @@ pub fn run<L: Ledger>(rt: &HostRuntime, blank: Blank) -> Result<()>
         max_recursion: 50,
     };
     let mut steps: Steps<L> = Steps::new(blank);
-    let mut engine: Engine<Library> = Engine::new(alloc, limits, one_directory(alloc)?);
-    let mut runner = Library::new(alloc);
+    let mut engine: Engine<R> = Engine::new(alloc, limits, one_directory(alloc)?);
     runner.set_picture(Picture::new(alloc), one_directory(alloc)?);
-    obey(rt, &mut engine, &mut runner, &mut steps)
+    obey(rt, &mut engine, runner, &mut steps)
+}
+
+/// The sites of the input, by the product's runner.
+pub fn run<L: Ledger>(rt: &HostRuntime, blank: Blank) -> Result<()>
+    requires name { blank.name ≡ L.name }
+    requires parts { blank.parts ≡ L.parts }
+    requires some { 0 < blank.parts }
+{
+    play::<Library, L>(rt, &mut Library::new(rt.alloc()), blank)
 }
