@@ -42,6 +42,7 @@ class Watched:
             [CONTRIB / "pan-watch", "--program", PROGRAM, *words],
             stdout=subprocess.PIPE,
             stderr=subprocess.STDOUT,
+            env={**os.environ, "PAN_NOTES": "off"},
             text=True,
         )
         self.clock = threading.Timer(SECONDS, self.process.kill)
