@@ -69,8 +69,8 @@ fn run_values<W: World, L: Ledger>(
     steps: &mut Steps<L>,
 ) -> Result<Tree, Exit>
     ensures gives { Follows (λ t. t) result W.answers live.old (W.asked world.old) live.new
-        (W.asked world.new) (values_run (eval room) (around_of around.now W.reading W.calls) place.now
-        (W.call_of call) (items_seen arguments.now)) }
+        (W.asked world.new) (values_run (eval room) (around_of around.now W.reading W.calls)
+        place.now (W.call_of call) (items_seen arguments.now)) }
     ensures counted { steps.new + live.new.work.left ≡ steps.old + live.old.work.left }
 {
     let values = open_values(alloc, arguments, room, around, live, world, steps)?;
@@ -95,8 +95,8 @@ fn run_function<W: World, L: Ledger>(
     steps: &mut Steps<L>,
 ) -> Result<Tree, Exit>
     ensures gives { Follows (λ t. t) result W.answers live.old (W.asked world.old) live.new
-        (W.asked world.new) (function_run (eval room) (around_of around.now W.reading W.calls) place.now
-        name.now (items_seen arguments.now) (found_function
+        (W.asked world.new) (function_run (eval room) (around_of around.now W.reading W.calls)
+        place.now name.now (items_seen arguments.now) (found_function
         (functions_of around.now.frame.now.functions.now) name.now)) }
     ensures counted { steps.new + live.new.work.left ≡ steps.old + live.old.work.left }
 {
@@ -123,8 +123,8 @@ fn run_called<W: World, L: Ledger>(
 ) -> Result<Tree, Exit>
     requires open { 0 < around.now.calls_left }
     ensures gives { Follows (λ t. t) result W.answers live.old (W.asked world.old) live.new
-        (W.asked world.new) (body_run (eval room) (in_call (around_of around.now W.reading W.calls) name.now
-        list) (item_seen body.now)) }
+        (W.asked world.new) (body_run (eval room) (in_call (around_of around.now W.reading W.calls)
+        name.now list) (item_seen body.now)) }
     ensures counted { steps.new + live.new.work.left ≡ steps.old + live.old.work.left }
 {
     let called = Called {

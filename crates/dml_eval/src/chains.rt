@@ -79,7 +79,8 @@ pub(crate) fn run_chain<W: World, L: Ledger>(
     steps: &mut Steps<L>,
 ) -> Result<Tree, Exit>
     ensures gives { Follows (λ t. t) result W.answers live.old (W.asked world.old) live.new
-        (W.asked world.new) (chain_run (eval room) (around_of around.now W.reading W.calls) chain.entry) }
+        (W.asked world.new) (chain_run (eval room) (around_of around.now W.reading W.calls)
+        chain.entry) }
     ensures counted { steps.new + live.new.work.left ≡ steps.old + live.old.work.left }
 {
     let mut waiting = Vec::new(alloc);
@@ -115,8 +116,8 @@ fn start<'a, W: World, L: Ledger>(
     world: &mut W,
     steps: &mut Steps<L>,
 ) -> Result<Turn<'a>, Exit>
-    ensures gives { Leads (turn_run (eval room) (around_of around.now W.reading W.calls)) result W.answers
-        live.old (W.asked world.old) live.new (W.asked world.new)
+    ensures gives { Leads (turn_run (eval room) (around_of around.now W.reading W.calls)) result
+        W.answers live.old (W.asked world.old) live.new (W.asked world.new)
         (chain_run (eval room) (around_of around.now W.reading W.calls) chain.entry) }
     ensures counted { steps.new + live.new.work.left ≡ steps.old + live.old.work.left }
     ensures lighter { IfOk result (λ t. turn_weight t < chain_weight chain.entry) }
@@ -154,8 +155,8 @@ fn take_up<'a, W: World, L: Ledger>(
     world: &mut W,
     steps: &mut Steps<L>,
 ) -> Result<Turn<'a>, Exit>
-    ensures gives { Leads (turn_run (eval room) (around_of around.now W.reading W.calls)) result W.answers
-        live.old (W.asked world.old) live.new (W.asked world.new)
+    ensures gives { Leads (turn_run (eval room) (around_of around.now W.reading W.calls)) result
+        W.answers live.old (W.asked world.old) live.new (W.asked world.new)
         (resume (eval room) (around_of around.now W.reading W.calls) waiting.entry value) }
     ensures counted { steps.new + live.new.work.left ≡ steps.old + live.old.work.left }
     ensures lighter { IfOk result (λ t. turn_weight t < waiting_weight waiting.entry) }
@@ -191,11 +192,11 @@ fn run_step<'a, W: World, L: Ledger>(
     world: &mut W,
     steps: &mut Steps<L>,
 ) -> Result<Turn<'a>, Exit>
-    ensures gives { Leads (turn_run (eval room) (around_of around.now W.reading W.calls)) result W.answers
-        live.old (W.asked world.old) live.new (W.asked world.new)
-        (with_steps (eval room) (around_of around.now W.reading W.calls) place.now (map step_seen rest.now)
-        (step_run (eval room) (around_of around.now W.reading W.calls) place.now left
-        (step_seen step.now))) }
+    ensures gives { Leads (turn_run (eval room) (around_of around.now W.reading W.calls)) result
+        W.answers live.old (W.asked world.old) live.new (W.asked world.new)
+        (with_steps (eval room) (around_of around.now W.reading W.calls) place.now
+        (map step_seen rest.now) (step_run (eval room) (around_of around.now W.reading W.calls)
+        place.now left (step_seen step.now))) }
     ensures counted { steps.new + live.new.work.left ≡ steps.old + live.old.work.left }
     ensures lighter { IfOk result (λ t. turn_weight t < step_weight (step_seen step.now)
         + steps_weight (map step_seen rest.now)) }
@@ -231,11 +232,11 @@ fn run_index<'a, W: World, L: Ledger>(
     world: &mut W,
     steps: &mut Steps<L>,
 ) -> Result<Turn<'a>, Exit>
-    ensures gives { Leads (turn_run (eval room) (around_of around.now W.reading W.calls)) result W.answers
-        live.old (W.asked world.old) live.new (W.asked world.new)
-        (with_steps (eval room) (around_of around.now W.reading W.calls) place.now (map step_seen rest.now)
-        (step_run (eval room) (around_of around.now W.reading W.calls) place.now left
-        (AtIndex (item_seen item.now)))) }
+    ensures gives { Leads (turn_run (eval room) (around_of around.now W.reading W.calls)) result
+        W.answers live.old (W.asked world.old) live.new (W.asked world.new)
+        (with_steps (eval room) (around_of around.now W.reading W.calls) place.now
+        (map step_seen rest.now) (step_run (eval room) (around_of around.now W.reading W.calls)
+        place.now left (AtIndex (item_seen item.now)))) }
     ensures counted { steps.new + live.new.work.left ≡ steps.old + live.old.work.left }
     ensures lighter { IfOk result (λ t. turn_weight t < 1 + steps_weight (map step_seen rest.now)) }
 {
@@ -260,11 +261,11 @@ fn run_binary<'a, W: World, L: Ledger>(
     world: &mut W,
     steps: &mut Steps<L>,
 ) -> Result<Turn<'a>, Exit>
-    ensures gives { Leads (turn_run (eval room) (around_of around.now W.reading W.calls)) result W.answers
-        live.old (W.asked world.old) live.new (W.asked world.new)
-        (with_steps (eval room) (around_of around.now W.reading W.calls) place.now (map step_seen rest.now)
-        (step_run (eval room) (around_of around.now W.reading W.calls) place.now left
-        (AtBinary op (node_seen right.now)))) }
+    ensures gives { Leads (turn_run (eval room) (around_of around.now W.reading W.calls)) result
+        W.answers live.old (W.asked world.old) live.new (W.asked world.new)
+        (with_steps (eval room) (around_of around.now W.reading W.calls) place.now
+        (map step_seen rest.now) (step_run (eval room) (around_of around.now W.reading W.calls)
+        place.now left (AtBinary op (node_seen right.now)))) }
     ensures counted { steps.new + live.new.work.left ≡ steps.old + live.old.work.left }
     ensures lighter { IfOk result (λ t. turn_weight t < (2 + node_weight (node_seen right.now))
         + steps_weight (map step_seen rest.now)) }
@@ -302,11 +303,11 @@ fn run_both<'a, W: World, L: Ledger>(
     world: &mut W,
     steps: &mut Steps<L>,
 ) -> Result<Turn<'a>, Exit>
-    ensures gives { Leads (turn_run (eval room) (around_of around.now W.reading W.calls)) result W.answers
-        live.old (W.asked world.old) live.new (W.asked world.new)
-        (with_steps (eval room) (around_of around.now W.reading W.calls) place.now (map step_seen rest.now)
-        (step_run (eval room) (around_of around.now W.reading W.calls) place.now left
-        (AtAnd (node_seen right.now)))) }
+    ensures gives { Leads (turn_run (eval room) (around_of around.now W.reading W.calls)) result
+        W.answers live.old (W.asked world.old) live.new (W.asked world.new)
+        (with_steps (eval room) (around_of around.now W.reading W.calls) place.now
+        (map step_seen rest.now) (step_run (eval room) (around_of around.now W.reading W.calls)
+        place.now left (AtAnd (node_seen right.now)))) }
     ensures counted { steps.new + live.new.work.left ≡ steps.old + live.old.work.left }
     ensures lighter { IfOk result (λ t. turn_weight t < (2 + node_weight (node_seen right.now))
         + steps_weight (map step_seen rest.now)) }
@@ -335,11 +336,11 @@ fn run_either<'a, W: World, L: Ledger>(
     world: &mut W,
     steps: &mut Steps<L>,
 ) -> Result<Turn<'a>, Exit>
-    ensures gives { Leads (turn_run (eval room) (around_of around.now W.reading W.calls)) result W.answers
-        live.old (W.asked world.old) live.new (W.asked world.new)
-        (with_steps (eval room) (around_of around.now W.reading W.calls) place.now (map step_seen rest.now)
-        (step_run (eval room) (around_of around.now W.reading W.calls) place.now left
-        (AtOr (node_seen right.now)))) }
+    ensures gives { Leads (turn_run (eval room) (around_of around.now W.reading W.calls)) result
+        W.answers live.old (W.asked world.old) live.new (W.asked world.new)
+        (with_steps (eval room) (around_of around.now W.reading W.calls) place.now
+        (map step_seen rest.now) (step_run (eval room) (around_of around.now W.reading W.calls)
+        place.now left (AtOr (node_seen right.now)))) }
     ensures counted { steps.new + live.new.work.left ≡ steps.old + live.old.work.left }
     ensures lighter { IfOk result (λ t. turn_weight t < (2 + node_weight (node_seen right.now))
         + steps_weight (map step_seen rest.now)) }
@@ -367,10 +368,11 @@ fn run_second<'a, W: World, L: Ledger>(
     world: &mut W,
     steps: &mut Steps<L>,
 ) -> Result<Turn<'a>, Exit>
-    ensures gives { Leads (turn_run (eval room) (around_of around.now W.reading W.calls)) result W.answers
-        live.old (W.asked world.old) live.new (W.asked world.new)
-        (with_steps (eval room) (around_of around.now W.reading W.calls) place.now (map step_seen rest.now)
-        (second_run (eval room) (around_of around.now W.reading W.calls) place.now (node_seen right.now))) }
+    ensures gives { Leads (turn_run (eval room) (around_of around.now W.reading W.calls)) result
+        W.answers live.old (W.asked world.old) live.new (W.asked world.new)
+        (with_steps (eval room) (around_of around.now W.reading W.calls) place.now
+        (map step_seen rest.now) (second_run (eval room) (around_of around.now W.reading W.calls)
+        place.now (node_seen right.now))) }
     ensures counted { steps.new + live.new.work.left ≡ steps.old + live.old.work.left }
     ensures lighter { IfOk result (λ t. turn_weight t < (2 + node_weight (node_seen right.now))
         + steps_weight (map step_seen rest.now)) }

@@ -170,8 +170,8 @@ fn run_statement<W: World, L: Ledger>(
     steps: &mut Steps<L>,
 ) -> Result<Tree, Exit>
     ensures gives { Follows (λ t. t) result W.answers live.old (W.asked world.old) live.new
-        (W.asked world.new) (begin_statement (included around.now.includes_left (eval room)) (eval room)
-        (around_of around.now W.reading W.calls) (statement_seen statement.now) made) }
+        (W.asked world.new) (begin_statement (included around.now.includes_left (eval room))
+        (eval room) (around_of around.now W.reading W.calls) (statement_seen statement.now) made) }
     ensures counted { steps.new + live.new.work.left ≡ steps.old + live.old.work.left }
 {
     let place = &statement.place;

@@ -299,8 +299,8 @@ fn run_set<W: World, L: Ledger>(
     steps: &mut Steps<L>,
 ) -> Result<Tree, Exit>
     ensures gives { Follows (λ t. t) result W.answers live.old (W.asked world.old) live.new
-        (W.asked world.new) (set_run (eval room) (around_of around.now W.reading W.calls) place.now name.now
-        (items_seen indexes.now) (item_seen right.now)) }
+        (W.asked world.new) (set_run (eval room) (around_of around.now W.reading W.calls) place.now
+        name.now (items_seen indexes.now) (item_seen right.now)) }
     ensures counted { steps.new + live.new.work.left ≡ steps.old + live.old.work.left }
 {
     let keys = open_values(alloc, indexes, room, around, live, world, steps)?;

@@ -34,8 +34,8 @@ fn turn_while<W: World, L: Ledger>(
     steps: &mut Steps<L>,
 ) -> Result<Option<Tree>, Exit>
     ensures gives { Follows (λ t. t) result W.answers live.old (W.asked world.old) live.new
-        (W.asked world.new) (while_turn left (eval room) (around_of around.now W.reading W.calls) place.now
-        (item_seen condition.now) (item_seen body.now)) }
+        (W.asked world.new) (while_turn left (eval room) (around_of around.now W.reading W.calls)
+        place.now (item_seen condition.now) (item_seen body.now)) }
     ensures counted { steps.new + live.new.work.left ≡ steps.old + live.old.work.left }
     ensures goes_on { IfOk result (λ o. IfSome o (λ _. 0 < left)) }
 {
@@ -65,8 +65,8 @@ pub(crate) fn run_while<W: World, L: Ledger>(
 ) -> Result<Tree, Exit>
     ensures gives { Follows (λ t. t) result W.answers live.old (W.asked world.old) live.new
         (W.asked world.new) (while_turns around.now.frame.now.max_iteration (eval room)
-        (around_of around.now W.reading W.calls) place.now (item_seen condition.now) (item_seen body.now)
-        undef) }
+        (around_of around.now W.reading W.calls) place.now (item_seen condition.now)
+        (item_seen body.now) undef) }
     ensures counted { steps.new + live.new.work.left ≡ steps.old + live.old.work.left }
 {
     let mut last = Tree::undef();
@@ -97,8 +97,8 @@ fn turn_for<W: World, L: Ledger>(
     steps: &mut Steps<L>,
 ) -> Result<Option<Tree>, Exit>
     ensures gives { Follows (λ t. t) result W.answers live.old (W.asked world.old) live.new
-        (W.asked world.new) (for_turn left (eval room) (around_of around.now W.reading W.calls) place.now
-        (item_seen condition.now) (item_seen step.now) (item_seen body.now)) }
+        (W.asked world.new) (for_turn left (eval room) (around_of around.now W.reading W.calls)
+        place.now (item_seen condition.now) (item_seen step.now) (item_seen body.now)) }
     ensures counted { steps.new + live.new.work.left ≡ steps.old + live.old.work.left }
     ensures goes_on { IfOk result (λ o. IfSome o (λ _. 0 < left)) }
 {
@@ -129,8 +129,8 @@ fn turns_for<W: World, L: Ledger>(
 ) -> Result<Tree, Exit>
     ensures gives { Follows (λ t. t) result W.answers live.old (W.asked world.old) live.new
         (W.asked world.new) (for_turns around.now.frame.now.max_iteration (eval room)
-        (around_of around.now W.reading W.calls) place.now (item_seen condition.now) (item_seen step.now)
-        (item_seen body.now) undef) }
+        (around_of around.now W.reading W.calls) place.now (item_seen condition.now)
+        (item_seen step.now) (item_seen body.now) undef) }
     ensures counted { steps.new + live.new.work.left ≡ steps.old + live.old.work.left }
 {
     let mut last = Tree::undef();
@@ -247,8 +247,8 @@ fn walk<W: World, L: Ledger>(
     steps: &mut Steps<L>,
 ) -> Result<Tree, Exit>
     ensures gives { Follows (λ t. t) result W.answers live.old (W.asked world.old) live.new
-        (W.asked world.new) (each_of (eval room) (around_of around.now W.reading W.calls) place.now key.now
-        value.now (item_seen body.now) walked.now) }
+        (W.asked world.new) (each_of (eval room) (around_of around.now W.reading W.calls) place.now
+        key.now value.now (item_seen body.now) walked.now) }
     ensures counted { steps.new + live.new.work.left ≡ steps.old + live.old.work.left }
 {
     if !passes(Test::Resource, walked.kind()) {

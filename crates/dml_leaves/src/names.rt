@@ -177,7 +177,8 @@ pub fn may_change<W: World>(
     world: &W,
 ) -> Result<(), Exit>
     ensures { Follows (λ t. t) result W.answers live.now (W.asked world.now) live.now
-        (W.asked world.now) (may_change (around_of around.now W.reading W.calls) place.now name.now whole) }
+        (W.asked world.now) (may_change (around_of around.now W.reading W.calls) place.now name.now
+        whole) }
 {
     match automatic_name(name.as_str()) {
         Some(Automatic::OwnValue) => {

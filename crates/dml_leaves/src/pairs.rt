@@ -41,8 +41,8 @@ pub fn set_pair<W: World>(
 ) -> Result<(), Exit>
     requires { i < child_count walked.now }
     ensures gives { Follows (λ t. t) result W.answers live.old (W.asked world.now) live.new
-        (W.asked world.now) (set_pair (around_of around.now W.reading W.calls) place.now key.now value.now
-        (pair_at i walked.now)) }
+        (W.asked world.now) (set_pair (around_of around.now W.reading W.calls) place.now key.now
+        value.now (pair_at i walked.now)) }
     ensures left { live.new.work.left ≡ live.old.work.left }
 {
     let Some(child) = walked.child_at(i) else {

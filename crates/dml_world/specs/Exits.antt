@@ -58,7 +58,8 @@ Comes view (Err x) e m o = Ends x e m o
 abbrev pub Follows : {X Y : Type 0} → (X → Y) → Result X Exit → Answers → Live → List Key → Live
     → List Key → Run Y → Type 0
 Follows view r answers before old after new run =
-    Comes view r (env after) (meter after.work new) (run answers (env before) (meter before.work old))
+    Comes view r (env after) (meter after.work new) (run answers (env before)
+    (meter before.work old))
 
 -- Faults.
 

@@ -102,7 +102,8 @@ pub trait World {
         object: &Name,
         terms: &[Term],
     ) -> Result<Foreign, WorldStop>
-        ensures { TellsValue result (asked self.old) (asked self.new) object.now terms.now answers };
+        ensures { TellsValue result (asked self.old) (asked self.new) object.now terms.now
+            answers };
 
     /// The built-in function of values of a name.
     fn find(&self, name: &str) -> Option<Self::Call>

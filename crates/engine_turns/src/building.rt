@@ -203,8 +203,8 @@ pub fn build_at<R: Runner, L: Ledger>(
     requires picture { R.files_of runner.old ≡ pictured core.now.files.items }
     ensures answer { IfOk result (λ end. top_run (R.meaning (R.dirs_of runner.old)
         core.now.limits).build core.now ≡ build_ran end) }
-    ensures spent { Spends result (top_work (R.meaning (R.dirs_of runner.old) core.now.limits) core.now) steps.old steps.new
-        (R.runs_of runner.old) (R.runs_of runner.new) }
+    ensures spent { Spends result (top_work (R.meaning (R.dirs_of runner.old) core.now.limits)
+        core.now) steps.old steps.new (R.runs_of runner.old) (R.runs_of runner.new) }
     ensures files { R.files_of runner.new ≡ R.files_of runner.old }
     ensures dirs { R.dirs_of runner.new ≡ R.dirs_of runner.old }
 {
@@ -230,8 +230,8 @@ fn run_top<R: Runner, L: Ledger>(
     ensures refused { IfErr result (λ e. IsTurnRefused e
         (ran_turn (R.meaning (R.dirs_of runner.old) core.old.limits).build core.old
         (top_cause differs core.old)).counter) }
-    ensures spent { Spends result (top_work (R.meaning (R.dirs_of runner.old) core.old.limits) core.old) steps.old steps.new
-        (R.runs_of runner.old) (R.runs_of runner.new) }
+    ensures spent { Spends result (top_work (R.meaning (R.dirs_of runner.old) core.old.limits)
+        core.old) steps.old steps.new (R.runs_of runner.old) (R.runs_of runner.new) }
     ensures files { R.files_of runner.new ≡ R.files_of runner.old }
     ensures dirs { R.dirs_of runner.new ≡ R.dirs_of runner.old }
     ensures before { OnErr result (core.new ≡ core.old) }
@@ -262,8 +262,9 @@ pub fn build_top<R: Runner, L: Ledger>(
     ensures ready { OnOk result (StaysReady core.old core.new) }
     ensures refused { IfErr result (λ e. IsTurnRefused e
         (build_turn (R.meaning (R.dirs_of runner.old) core.old.limits).build core.old).counter) }
-    ensures spent { Spends result (build_turn_work (R.meaning (R.dirs_of runner.old) core.old.limits) core.old) steps.old steps.new
-        (R.runs_of runner.old) (R.runs_of runner.new) }
+    ensures spent { Spends result (build_turn_work (R.meaning (R.dirs_of runner.old)
+        core.old.limits) core.old) steps.old steps.new (R.runs_of runner.old)
+        (R.runs_of runner.new) }
     ensures files { R.files_of runner.new ≡ R.files_of runner.old }
     ensures dirs { R.dirs_of runner.new ≡ R.dirs_of runner.old }
     ensures before { OnErr result (core.new ≡ core.old) }

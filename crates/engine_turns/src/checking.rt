@@ -98,8 +98,8 @@ fn check_value<R: Runner, L: Ledger>(
         (R.meaning (R.dirs_of runner.old) core.now.limits).build
         (R.meaning (R.dirs_of runner.old) core.now.limits).check core.now built.now
         ≡ check_ran end) }
-    ensures spent { Spends result (value_work (R.meaning (R.dirs_of runner.old) core.now.limits) core.now built.now)
-        steps.old steps.new (R.runs_of runner.old) (R.runs_of runner.new) }
+    ensures spent { Spends result (value_work (R.meaning (R.dirs_of runner.old) core.now.limits)
+        core.now built.now) steps.old steps.new (R.runs_of runner.old) (R.runs_of runner.new) }
     ensures files { R.files_of runner.new ≡ R.files_of runner.old }
     ensures dirs { R.dirs_of runner.new ≡ R.dirs_of runner.old }
 {
@@ -126,8 +126,8 @@ fn rerun_top<R: Runner, L: Ledger>(
         (top_check_cause differs core.old)) }
     ensures ready { OnOk result (StaysReady core.old core.new) }
     ensures refused { IfErr result (λ e. e ≡ Memory) }
-    ensures spent { Spends result (run_check_work (R.meaning (R.dirs_of runner.old) core.old.limits) core.old) steps.old steps.new
-        (R.runs_of runner.old) (R.runs_of runner.new) }
+    ensures spent { Spends result (run_check_work (R.meaning (R.dirs_of runner.old) core.old.limits)
+        core.old) steps.old steps.new (R.runs_of runner.old) (R.runs_of runner.new) }
     ensures files { R.files_of runner.new ≡ R.files_of runner.old }
     ensures dirs { R.dirs_of runner.new ≡ R.dirs_of runner.old }
     ensures before { OnErr result (core.new ≡ core.old) }
@@ -163,8 +163,8 @@ fn run_check_top<R: Runner, L: Ledger>(
         (top_check_cause differs core.old)) }
     ensures ready { OnOk result (StaysReady core.old core.new) }
     ensures refused { IfErr result (λ e. e ≡ Memory) }
-    ensures spent { Spends result (run_check_work (R.meaning (R.dirs_of runner.old) core.old.limits) core.old) steps.old steps.new
-        (R.runs_of runner.old) (R.runs_of runner.new) }
+    ensures spent { Spends result (run_check_work (R.meaning (R.dirs_of runner.old) core.old.limits)
+        core.old) steps.old steps.new (R.runs_of runner.old) (R.runs_of runner.new) }
     ensures files { R.files_of runner.new ≡ R.files_of runner.old }
     ensures dirs { R.dirs_of runner.new ≡ R.dirs_of runner.old }
     ensures before { OnErr result (core.new ≡ core.old) }
@@ -205,8 +205,9 @@ fn compare_top<R: Runner, L: Ledger>(
         (R.meaning (R.dirs_of runner.old) core.old.limits).check core.old) }
     ensures ready { OnOk result (StaysReady core.old core.new) }
     ensures refused { IfErr result (λ e. e ≡ Memory) }
-    ensures spent { Spends result (with_check_work (R.meaning (R.dirs_of runner.old) core.old.limits) core.old) steps.old steps.new
-        (R.runs_of runner.old) (R.runs_of runner.new) }
+    ensures spent { Spends result (with_check_work (R.meaning (R.dirs_of runner.old)
+        core.old.limits) core.old) steps.old steps.new (R.runs_of runner.old)
+        (R.runs_of runner.new) }
     ensures files { R.files_of runner.new ≡ R.files_of runner.old }
     ensures dirs { R.dirs_of runner.new ≡ R.dirs_of runner.old }
     ensures before { OnErr result (core.new ≡ core.old) }
@@ -241,8 +242,9 @@ pub fn check_top<R: Runner, L: Ledger>(
         (R.meaning (R.dirs_of runner.old) core.old.limits).check core.old) }
     ensures ready { OnOk result (StaysReady core.old core.new) }
     ensures refused { IfErr result (λ e. e ≡ Memory) }
-    ensures spent { Spends result (check_turn_work (R.meaning (R.dirs_of runner.old) core.old.limits) core.old) steps.old steps.new
-        (R.runs_of runner.old) (R.runs_of runner.new) }
+    ensures spent { Spends result (check_turn_work (R.meaning (R.dirs_of runner.old)
+        core.old.limits) core.old) steps.old steps.new (R.runs_of runner.old)
+        (R.runs_of runner.new) }
     ensures files { R.files_of runner.new ≡ R.files_of runner.old }
     ensures dirs { R.dirs_of runner.new ≡ R.dirs_of runner.old }
     ensures before { OnErr result (core.new ≡ core.old) }

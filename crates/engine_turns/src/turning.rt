@@ -133,8 +133,8 @@ pub fn step<R: Runner, L: Ledger>(
     ensures refused { IfErr result (λ e. IsTurnRefused e
         (turned (R.meaning (R.dirs_of runner.old) core.old.limits).build
         (R.meaning (R.dirs_of runner.old) core.old.limits).check core.old).counter) }
-    ensures spent { Spends result (core_work (R.meaning (R.dirs_of runner.old) core.old.limits) core.old) steps.old steps.new
-        (R.runs_of runner.old) (R.runs_of runner.new) }
+    ensures spent { Spends result (core_work (R.meaning (R.dirs_of runner.old) core.old.limits)
+        core.old) steps.old steps.new (R.runs_of runner.old) (R.runs_of runner.new) }
     ensures files { R.files_of runner.new ≡ R.files_of runner.old }
     ensures dirs { R.dirs_of runner.new ≡ R.dirs_of runner.old }
     ensures before { OnErr result (core.new ≡ core.old) }

@@ -16,7 +16,8 @@ abbrev tagged : ℕ → Items → Plain
 tagged n ts = list (item (long (pos n)) ts)
 
 abbrev pub place_kept : Place → Plain
-place_kept p = list (item (text p.file) (item (long (pos p.line)) (item (long (pos p.column)) no_items)))
+place_kept p =
+    list (item (text p.file) (item (long (pos p.line)) (item (long (pos p.column)) no_items)))
 
 abbrev pub no_place : Place
 no_place = record { file = []; line = 0; column = 0 }
@@ -109,16 +110,26 @@ no_item = Chain no_place no_node
 abbrev mutual
   pub item_kept : Item → Plain
   item_kept (Block p is) = tagged 0 (item (place_kept p) (item (items_kept is) no_items))
-  item_kept (If p c t) = tagged 1 (item (place_kept p) (item (item_kept c) (item (item_kept t) no_items)))
-  item_kept (IfElse p c t e) = tagged 2 (item (place_kept p) (item (item_kept c) (item (item_kept t) (item (item_kept e) no_items))))
-  item_kept (While p c b) = tagged 3 (item (place_kept p) (item (item_kept c) (item (item_kept b) no_items)))
-  item_kept (For p a c n b) = tagged 4 (item (place_kept p) (item (item_kept a) (item (item_kept c) (item (item_kept n) (item (item_kept b) no_items)))))
-  item_kept (Foreach p k v c b) = tagged 5 (item (place_kept p) (item (text k) (item (text v) (item (item_kept c) (item (item_kept b) no_items)))))
-  item_kept (Assign p r i) = tagged 6 (item (place_kept p) (item (reference_kept r) (item (item_kept i) no_items)))
+  item_kept (If p c t) =
+      tagged 1 (item (place_kept p) (item (item_kept c) (item (item_kept t) no_items)))
+  item_kept (IfElse p c t e) =
+      tagged 2 (item (place_kept p) (item (item_kept c) (item (item_kept t)
+      (item (item_kept e) no_items))))
+  item_kept (While p c b) =
+      tagged 3 (item (place_kept p) (item (item_kept c) (item (item_kept b) no_items)))
+  item_kept (For p a c n b) =
+      tagged 4 (item (place_kept p) (item (item_kept a) (item (item_kept c)
+      (item (item_kept n) (item (item_kept b) no_items)))))
+  item_kept (Foreach p k v c b) =
+      tagged 5 (item (place_kept p) (item (text k) (item (text v)
+      (item (item_kept c) (item (item_kept b) no_items)))))
+  item_kept (Assign p r i) =
+      tagged 6 (item (place_kept p) (item (reference_kept r) (item (item_kept i) no_items)))
   item_kept (Chain p n) = tagged 7 (item (place_kept p) (item (node_kept n) no_items))
 
   reference_kept : Reference → Plain
-  reference_kept (Refer p x is) = tagged 0 (item (place_kept p) (item (text x) (item (items_kept is) no_items)))
+  reference_kept (Refer p x is) =
+      tagged 0 (item (place_kept p) (item (text x) (item (items_kept is) no_items)))
 
   node_kept : Node → Plain
   node_kept (Long p z) = tagged 0 (item (place_kept p) (item (long z) no_items))
@@ -127,13 +138,20 @@ abbrev mutual
   node_kept (Undef p) = tagged 3 (item (place_kept p) no_items)
   node_kept (Null p) = tagged 4 (item (place_kept p) no_items)
   node_kept (Name p x) = tagged 5 (item (place_kept p) (item (text x) no_items))
-  node_kept (Call p f is) = tagged 6 (item (place_kept p) (item (text f) (item (items_kept is) no_items)))
+  node_kept (Call p f is) =
+      tagged 6 (item (place_kept p) (item (text f) (item (items_kept is) no_items)))
   node_kept (Inside p i) = tagged 7 (item (place_kept p) (item (item_kept i) no_items))
-  node_kept (Index p n i) = tagged 8 (item (place_kept p) (item (node_kept n) (item (item_kept i) no_items)))
-  node_kept (Unary p op n) = tagged 9 (item (place_kept p) (item (unary_kept op) (item (node_kept n) no_items)))
-  node_kept (Binary p op x y) = tagged 10 (item (place_kept p) (item (binary_kept op) (item (node_kept x) (item (node_kept y) no_items))))
-  node_kept (And p x y) = tagged 11 (item (place_kept p) (item (node_kept x) (item (node_kept y) no_items)))
-  node_kept (Or p x y) = tagged 12 (item (place_kept p) (item (node_kept x) (item (node_kept y) no_items)))
+  node_kept (Index p n i) =
+      tagged 8 (item (place_kept p) (item (node_kept n) (item (item_kept i) no_items)))
+  node_kept (Unary p op n) =
+      tagged 9 (item (place_kept p) (item (unary_kept op) (item (node_kept n) no_items)))
+  node_kept (Binary p op x y) =
+      tagged 10 (item (place_kept p) (item (binary_kept op) (item (node_kept x)
+      (item (node_kept y) no_items))))
+  node_kept (And p x y) =
+      tagged 11 (item (place_kept p) (item (node_kept x) (item (node_kept y) no_items)))
+  node_kept (Or p x y) =
+      tagged 12 (item (place_kept p) (item (node_kept x) (item (node_kept y) no_items)))
 
   items_kept : Syntax.Items → Plain
   items_kept none = undef
@@ -146,17 +164,26 @@ abbrev mutual
 
   item_by : ℕ → Items → Item
   item_by zero (item p (item is no_items)) = Block (place_read p) (items_read is)
-  item_by (suc zero) (item p (item c (item t no_items))) = If (place_read p) (item_read c) (item_read t)
-  item_by (suc (suc zero)) (item p (item c (item t (item e no_items)))) = IfElse (place_read p) (item_read c) (item_read t) (item_read e)
-  item_by (suc (suc (suc zero))) (item p (item c (item b no_items))) = While (place_read p) (item_read c) (item_read b)
-  item_by (suc (suc (suc (suc zero)))) (item p (item a (item c (item n (item b no_items))))) = For (place_read p) (item_read a) (item_read c) (item_read n) (item_read b)
-  item_by (suc (suc (suc (suc (suc zero))))) (item p (item (text k) (item (text v) (item c (item b no_items))))) = Foreach (place_read p) k v (item_read c) (item_read b)
-  item_by (suc (suc (suc (suc (suc (suc zero)))))) (item p (item r (item i no_items))) = Assign (place_read p) (reference_read r) (item_read i)
-  item_by (suc (suc (suc (suc (suc (suc (suc zero))))))) (item p (item n no_items)) = Chain (place_read p) (node_read n)
+  item_by (suc zero) (item p (item c (item t no_items))) =
+      If (place_read p) (item_read c) (item_read t)
+  item_by (suc (suc zero)) (item p (item c (item t (item e no_items)))) =
+      IfElse (place_read p) (item_read c) (item_read t) (item_read e)
+  item_by (suc (suc (suc zero))) (item p (item c (item b no_items))) =
+      While (place_read p) (item_read c) (item_read b)
+  item_by (suc (suc (suc (suc zero)))) (item p (item a (item c (item n (item b no_items))))) =
+      For (place_read p) (item_read a) (item_read c) (item_read n) (item_read b)
+  item_by (suc (suc (suc (suc (suc zero))))) (item p (item (text k)
+      (item (text v) (item c (item b no_items))))) =
+      Foreach (place_read p) k v (item_read c) (item_read b)
+  item_by (suc (suc (suc (suc (suc (suc zero)))))) (item p (item r (item i no_items))) =
+      Assign (place_read p) (reference_read r) (item_read i)
+  item_by (suc (suc (suc (suc (suc (suc (suc zero))))))) (item p (item n no_items)) =
+      Chain (place_read p) (node_read n)
   item_by n ts = no_item
 
   reference_read : Plain → Reference
-  reference_read (list (item t (item p (item (text x) (item is no_items))))) = Refer (place_read p) x (items_read is)
+  reference_read (list (item t (item p (item (text x) (item is no_items))))) =
+      Refer (place_read p) x (items_read is)
   reference_read t = Refer no_place [] none
 
   node_read : Plain → Node
@@ -169,14 +196,26 @@ abbrev mutual
   node_by (suc (suc zero)) (item p (item (boolean b) no_items)) = Boolean (place_read p) b
   node_by (suc (suc (suc zero))) (item p no_items) = Undef (place_read p)
   node_by (suc (suc (suc (suc zero)))) (item p no_items) = Null (place_read p)
-  node_by (suc (suc (suc (suc (suc zero))))) (item p (item (text x) no_items)) = Name (place_read p) x
-  node_by (suc (suc (suc (suc (suc (suc zero)))))) (item p (item (text f) (item is no_items))) = Call (place_read p) f (items_read is)
-  node_by (suc (suc (suc (suc (suc (suc (suc zero))))))) (item p (item i no_items)) = Inside (place_read p) (item_read i)
-  node_by (suc (suc (suc (suc (suc (suc (suc (suc zero)))))))) (item p (item n (item i no_items))) = Index (place_read p) (node_read n) (item_read i)
-  node_by (suc (suc (suc (suc (suc (suc (suc (suc (suc zero))))))))) (item p (item op (item n no_items))) = Unary (place_read p) (unary_read op) (node_read n)
-  node_by (suc (suc (suc (suc (suc (suc (suc (suc (suc (suc zero)))))))))) (item p (item op (item x (item y no_items)))) = Binary (place_read p) (binary_read op) (node_read x) (node_read y)
-  node_by (suc (suc (suc (suc (suc (suc (suc (suc (suc (suc (suc zero))))))))))) (item p (item x (item y no_items))) = And (place_read p) (node_read x) (node_read y)
-  node_by (suc (suc (suc (suc (suc (suc (suc (suc (suc (suc (suc (suc zero)))))))))))) (item p (item x (item y no_items))) = Or (place_read p) (node_read x) (node_read y)
+  node_by (suc (suc (suc (suc (suc zero))))) (item p (item (text x) no_items)) =
+      Name (place_read p) x
+  node_by (suc (suc (suc (suc (suc (suc zero)))))) (item p (item (text f) (item is no_items))) =
+      Call (place_read p) f (items_read is)
+  node_by (suc (suc (suc (suc (suc (suc (suc zero))))))) (item p (item i no_items)) =
+      Inside (place_read p) (item_read i)
+  node_by (suc (suc (suc (suc (suc (suc (suc (suc zero)))))))) (item p (item n (item i no_items))) =
+      Index (place_read p) (node_read n) (item_read i)
+  node_by (suc (suc (suc (suc (suc (suc (suc (suc (suc zero)))))))))
+      (item p (item op (item n no_items))) =
+      Unary (place_read p) (unary_read op) (node_read n)
+  node_by (suc (suc (suc (suc (suc (suc (suc (suc (suc (suc zero))))))))))
+      (item p (item op (item x (item y no_items)))) =
+      Binary (place_read p) (binary_read op) (node_read x) (node_read y)
+  node_by (suc (suc (suc (suc (suc (suc (suc (suc (suc (suc (suc zero)))))))))))
+      (item p (item x (item y no_items))) =
+      And (place_read p) (node_read x) (node_read y)
+  node_by (suc (suc (suc (suc (suc (suc (suc (suc (suc (suc (suc (suc zero))))))))))))
+      (item p (item x (item y no_items))) =
+      Or (place_read p) (node_read x) (node_read y)
   node_by n ts = no_node
 
   items_read : Plain → Syntax.Items
@@ -189,7 +228,8 @@ mutual
   item_same (If p c t) = λ j. If p (item_same c j) (item_same t j)
   item_same (IfElse p c t e) = λ j. IfElse p (item_same c j) (item_same t j) (item_same e j)
   item_same (While p c b) = λ j. While p (item_same c j) (item_same b j)
-  item_same (For p a c n b) = λ j. For p (item_same a j) (item_same c j) (item_same n j) (item_same b j)
+  item_same (For p a c n b) =
+      λ j. For p (item_same a j) (item_same c j) (item_same n j) (item_same b j)
   item_same (Foreach p k v c b) = λ j. Foreach p k v (item_same c j) (item_same b j)
   item_same (Assign p r i) = λ j. Assign p (reference_same r j) (item_same i j)
   item_same (Chain p n) = λ j. Chain p (node_same n j)

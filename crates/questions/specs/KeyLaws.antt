@@ -32,7 +32,10 @@ term_refl (term.Index i) = eq-eqb i i refl
 
 terms_same : (xs ys : List Term) → terms_eq xs ys ≡ true → xs ≡ ys
 terms_same [] [] h = refl
-terms_same (x ∷ xs) (y ∷ ys) h = let e = both (term_eq x y) (terms_eq xs ys) h in let p = term_same x y e.0 in let q = terms_same xs ys e.1 in cc
+terms_same (x ∷ xs) (y ∷ ys) h =
+    let e = both (term_eq x y) (terms_eq xs ys) h in
+    let p = term_same x y e.0 in
+    let q = terms_same xs ys e.1 in cc
 terms_same [] (y ∷ ys) h = absurd (true≢false (sym h))
 terms_same (x ∷ xs) [] h = absurd (true≢false (sym h))
 
@@ -42,7 +45,10 @@ terms_refl (x ∷ xs) = rw (term_refl x) (terms_refl xs)
 
 pub key_same : (a b : Key) → key_eq a b ≡ true → a ≡ b
 key_same (File a) (File b) h = ap File (bytes_same a b h)
-key_same (Under p xs) (Under q ys) h = let e = both (bytes_eq p q) (terms_eq xs ys) h in let s = bytes_same p q e.0 in let t = terms_same xs ys e.1 in cc
+key_same (Under p xs) (Under q ys) h =
+    let e = both (bytes_eq p q) (terms_eq xs ys) h in
+    let s = bytes_same p q e.0 in
+    let t = terms_same xs ys e.1 in cc
 key_same (File a) (Under q ys) h = absurd (true≢false (sym h))
 key_same (Under p xs) (File b) h = absurd (true≢false (sym h))
 

@@ -35,5 +35,6 @@ key_set = hlevel (term_set, props)
 pairs_set : IsSet (List (Key × ℕ))
 pairs_set = hlevel (key_set, props)
 
-pub AreNumbered-prop : (tells : Key → Word Content) (items : List Item) → IsProp (AreNumbered tells items)
+pub AreNumbered-prop : (tells : Key → Word Content) (items : List Item)
+    → IsProp (AreNumbered tells items)
 AreNumbered-prop tells items = pairs_set _ _

@@ -64,7 +64,8 @@ impl Notes {
         terms: &[Term],
         number: u64,
     ) -> Result<(), AllocError>
-        ensures ok { OnOk result (self.new ≡ with_item (Under object.now terms.now) number self.old) }
+        ensures ok { OnOk result (self.new
+            ≡ with_item (Under object.now terms.now) number self.old) }
         ensures err { OnErr result (self.new ≡ self.old) }
     {
         let key = Key::Under {

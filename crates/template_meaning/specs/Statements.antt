@@ -315,7 +315,8 @@ statement_run including site n q s = do
       (fail code.WrongStatement s.place)
 
 -- the statements of a template, from a prefix on
-unfoldable pub statements_run : Includes → Site → Inside → Prefixed → List Statement → Run (Unit {0})
+unfoldable pub statements_run : Includes → Site → Inside → Prefixed → List Statement
+    → Run (Unit {0})
 statements_run including site n q [] = give tt
 statements_run including site n q (s ∷ ss) =
     statement_run including site n q s >>= (λ r. statements_run including site n r ss)

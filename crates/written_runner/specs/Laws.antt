@@ -27,9 +27,12 @@ module _ (own : List ℕ) (p : Place) where
 
   -- what follows an answer of an object
   abbrev Follows : List ℕ → (Content → Run Plain (Unit {0})) → Content → Type 0
-  Follows object go c = Either (is_circular_answer (Under object []) c) (FailsCircular (MayAsk own) (go c)) (IsFine (go c))
+  Follows object go c =
+      Either (is_circular_answer (Under object []) c) (FailsCircular (MayAsk own) (go c))
+      (IsFine (go c))
 
-  circular : (object : List ℕ) → FailsCircular (MayAsk own) (fail_about {S = Plain} {X = Unit {0}} IsCircular p object)
+  circular : (object : List ℕ)
+      → FailsCircular (MayAsk own) (fail_about {S = Plain} {X = Unit {0}} IsCircular p object)
   circular object = record { fault = fault_with IsCircular p object; is = refl; circular = refl }
 
   read_follows : (object : List ℕ) (c : Content) → Follows object (read_in p object) c
@@ -53,31 +56,42 @@ module _ (own : List ℕ) (p : Place) where
   tested_follows object (Value t) = lawful_become (MayAsk own) 0 (boolean true)
 
   -- an object is asked for that is not the object itself
-  object_fine : (go : List ℕ → Content → Run Plain (Unit {0})) → ((object : List ℕ) (c : Content) → Follows object (go object) c) → (name : List ℕ) → IsFine (object_asked p go (other_object own name))
+  object_fine : (go : List ℕ → Content → Run Plain (Unit {0}))
+      → ((object : List ℕ) (c : Content) → Follows object (go object) c) → (name : List ℕ)
+      → IsFine (object_asked p go (other_object own name))
   object_fine go follows name = at (is_name name) (bytes_eq name own) refl
     where
       bad : IsFine (fail BadPath p)
       bad = lawful_fail (MayAsk own) 0 (fault_at BadPath p) refl
 
-      at : (b e : Bool) → bytes_eq name own ≡ e → IsFine (object_asked p go (cond b (cond e None (Some name)) None))
+      at : (b e : Bool) → bytes_eq name own ≡ e
+          → IsFine (object_asked p go (cond b (cond e None (Some name)) None))
       at false e is = bad
       at true true is = bad
-      at true false is = lawful_step_then (MayAsk own) 0 p _ (lawful_ask_then (MayAsk own) 0 (Under name []) (go name) is (follows name))
+      at true false is =
+          lawful_step_then (MayAsk own) 0 p _ (lawful_ask_then (MayAsk own) 0 (Under name [])
+          (go name) is (follows name))
 
-  file_fine : (file : List ℕ) (go : Content → Run Plain (Unit {0})) → ((c : Content) → IsFine (go c)) → IsFine (file_asked p file go)
-  file_fine file go fine = lawful_step_then (MayAsk own) 0 p _ (lawful_ask_then (MayAsk own) 0 (File file) go tt fine)
+  file_fine : (file : List ℕ) (go : Content → Run Plain (Unit {0}))
+      → ((c : Content) → IsFine (go c)) → IsFine (file_asked p file go)
+  file_fine file go fine =
+      lawful_step_then (MayAsk own) 0 p _ (lawful_ask_then (MayAsk own) 0 (File file) go tt fine)
 
   acted_fine : (a : Action) → IsFine (acted p own a)
   acted_fine Nothing = lawful_give (MayAsk own) 0 tt
   acted_fine (Gives n) = lawful_become (MayAsk own) 0 (text (letter_text n))
   acted_fine (Fails n) = lawful_fail (MayAsk own) 0 (fault_with UserError p (letter_text n)) refl
-  acted_fine (LooksFor n) = file_fine (file_text (letter_text n)) (λ c. become (boolean (is_there c))) (λ c. lawful_become (MayAsk own) 0 (boolean (is_there c)))
+  acted_fine (LooksFor n) =
+      file_fine (file_text (letter_text n)) (λ c. become (boolean (is_there c)))
+      (λ c. lawful_become (MayAsk own) 0 (boolean (is_there c)))
   acted_fine (Reads n) = object_fine (read_in p) read_follows (letter_text n)
   acted_fine (TestsFor n) = object_fine (tested_in p) tested_follows (letter_text n)
 
   all_fine : (acts : List Action) → IsFine (all_acted p own acts)
   all_fine [] = lawful_give (MayAsk own) 0 tt
-  all_fine (a ∷ later) = lawful_bind (MayAsk own) 0 (acted p own a) (λ _. all_acted p own later) (acted_fine a) (λ _. all_fine later)
+  all_fine (a ∷ later) =
+      lawful_bind (MayAsk own) 0 (acted p own a) (λ _. all_acted p own later) (acted_fine a)
+      (λ _. all_fine later)
 
   content_fine : (act : ℕ → ℕ → Action) (c : Content) → IsFine (file_run p own act c)
   content_fine act Missing = lawful_fail (MayAsk own) 0 (fault_with NoTemplate p own) refl
@@ -89,8 +103,11 @@ module _ (own : List ℕ) (p : Place) where
   content_fine act NoValue = lawful_fail (MayAsk own) 0 (fault_with NoTemplate p own) refl
   content_fine act (Value t) = lawful_fail (MayAsk own) 0 (fault_with NoTemplate p own) refl
 
-pub object_lawful : (own : List ℕ) (act : ℕ → ℕ → Action) → Lawful (MayAsk own) 0 (object_run own act)
-object_lawful own act = file_fine own (place_of own) (file_text own) (file_run (place_of own) own act) (content_fine own (place_of own) act)
+pub object_lawful : (own : List ℕ) (act : ℕ → ℕ → Action)
+    → Lawful (MayAsk own) 0 (object_run own act)
+object_lawful own act =
+    file_fine own (place_of own) (file_text own) (file_run (place_of own) own act)
+    (content_fine own (place_of own) act)
 
 pub build_end : (own : List ℕ) → IsEnd (build_ending own) is_circular_end
 build_end own = record { done = λ x s. refl; returned = λ t s. refl; failed = λ f. refl }
@@ -100,6 +117,10 @@ check_end = record { done = λ x s. refl; returned = λ t s. refl; failed = λ f
 
 pub lawful : IsLawful meaning
 lawful = record {
-  builds = λ own. run_laws (MayAsk own) (object_run own (action_of Build)) undef (build_ending own) (object_lawful own (action_of Build)) is_circular_end (build_end own);
-  checks = λ built. run_laws (MayAsk built.object) (object_run built.object (action_of Check)) undef check_ending (object_lawful built.object (action_of Check)) is_circular_verdict check_end;
+  builds =
+      λ own. run_laws (MayAsk own) (object_run own (action_of Build)) undef (build_ending own)
+      (object_lawful own (action_of Build)) is_circular_end (build_end own);
+  checks =
+      λ built. run_laws (MayAsk built.object) (object_run built.object (action_of Check)) undef
+      check_ending (object_lawful built.object (action_of Check)) is_circular_verdict check_end;
 }
