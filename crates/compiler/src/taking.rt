@@ -93,6 +93,7 @@ pub fn take_next<R: Runner, S: Source, L: Ledger>(
     ensures once { S.fault_count source.new ≤ S.fault_count source.old + 1 }
     ensures same { IfOk result (λ how. (how ≡ Took.Failed → ⊥)
         → S.fault_count source.new ≡ S.fault_count source.old) }
+    ensures wanting { OnErr result (S.fault_count source.new ≡ S.fault_count source.old) }
 {
     match scan(alloc, source) {
         Ok(picture) => take(alloc, engine, runner, picture, steps),

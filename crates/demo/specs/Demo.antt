@@ -48,10 +48,3 @@ pub record Breaks {E : Type 0} (x : Next E) (before now : Counts)
     (held_old held_new : Option (List ℕ)) : Type 0 where
   pub text : AppendsPart held_old (state_in x).text held_new
   pub spent : HasSpentAtMost (state_in x) before now
-
--- the count didn't fall; it rose where the call ended as a line could not be written, and is as
--- before where it succeeded
-pub record Caused {T : Type 0} (before now : ℕ) (result : Result T End) : Type 0 where
-  pub later : before ≤ now
-  pub rose : IfErr result (λ e. e ≡ ends.Out → Rose before now)
-  pub done : OnOk result (now ≡ before)

@@ -2,12 +2,13 @@ ghost use Rattle.std.specs.Prelude.{◌≡◌, ◌≤◌, [], List, ℕ, IfOk, O
 ghost use Rattle.compiler.specs.Compiler.{Compiled, compiler, nothing};
 ghost use Rattle.compiler.specs.Standing.{Here, Counts, counts, HasSpentAtMost, IsAt, IsIn, IsKept, compiled_in};
 ghost use Rattle.engine_turns.specs.States.{pictured};
+ghost use Rattle.outside.specs.Causes.{Caused};
 ghost use Rattle.outside.specs.Contents.{Appends, AppendsPart};
 ghost use Rattle.outside.specs.declared.source.MemFile.{MemFile};
 ghost use Rattle.pan_ast.specs.declared.work.Limits.{Limits};
 ghost use Rattle.rebuild.specs.Engines.{turns_left_of};
 ghost use Rattle.session.specs.Sessions.{build_round, next, state_in, started};
-ghost use Rattle.demo.specs.Demo.{builds, demo_dirs, demo_session, Ends, Breaks, Caused};
+ghost use Rattle.demo.specs.Demo.{builds, demo_dirs, demo_session, Ends, Breaks};
 ghost use Rattle.demo.specs.Played.{Goes, Says};
 
 use crate::ends::End;
@@ -98,7 +99,7 @@ fn build_next<R: Runner, L: Ledger>(
 fn write<O: Sink>(out: &mut O, text: &[u8]) -> Result<(), End>
     ensures ok { OnOk result (Appends (O.held out.old) text.now (O.held out.new)) }
     ensures err { OnErr result (AppendsPart (O.held out.old) text.now (O.held out.new)) }
-    ensures cause { Caused (O.fault_count out.old) (O.fault_count out.new) result }
+    ensures cause { Caused (λ e. e ≡ End.Out) (O.fault_count out.old) (O.fault_count out.new) result }
 {
     match out.write(text) {
         Ok(()) => Ok(()),
@@ -131,7 +132,8 @@ fn play<R: Runner, O: Sink, L: Ledger>(
         → Breaks (builds (compiler (R.meaning dirs limits) dirs) 4 (started e ps))
         (counts (R.runs_of runner.old) steps.old) (counts (R.runs_of runner.new) steps.new)
         (O.held out.old) (O.held out.new)) }
-    ensures out_cause { Caused (O.fault_count out.old) (O.fault_count out.new) result }
+    ensures out_cause { Caused (λ e. e ≡ End.Out) (O.fault_count out.old) (O.fault_count out.new)
+        result }
 {
     let mut line = Vec::new(alloc);
     let mut has_faults = false;
@@ -207,7 +209,8 @@ pub fn demo<R: Runner, O: Sink, L: Ledger>(
     ensures err { OnErr result (Breaks (demo_session R.meaning limits count start)
         (counts (R.runs_of runner.old) steps.old) (counts (R.runs_of runner.new) steps.new)
         (O.held out.old) (O.held out.new)) }
-    ensures out_cause { Caused (O.fault_count out.old) (O.fault_count out.new) result }
+    ensures out_cause { Caused (λ e. e ≡ End.Out) (O.fault_count out.old) (O.fault_count out.new)
+        result }
 {
     let mut source = SureSource::new(alloc, pictures(alloc, count, start)?);
     let mut engine = new_engine(alloc, runner, limits)?;

@@ -4,43 +4,48 @@ use Rattle.command_words.specs.declared.commands.Command.{Command}
 use Rattle.command_words.specs.declared.commands.Command.TheVariants.{Build, Watch, Demo}
 use Rattle.rebuild.specs.Engines.{Meanings}
 use Rattle.session.specs.Sessions.{state_in}
-use Rattle.site_build.specs.Ends.{Stopped}
+use Rattle.site_build.specs.Ends.{IsFailureOf, Stopped}
+use Rattle.site_build.specs.declared.ends.Device.TheVariants as D
 use Rattle.site_build.specs.Session.{PublishesPart, session_for, state_for}
 use Rattle.site_build.specs.declared.ends.End.TheVariants as E
 use Rattle.site_build.proofs.Ending.{none_of}
 use Rattle.site_build.proofs.Publishing.{part_none}
 use Rattle.site_build.proofs.Settling.{if_told, spent_nothing}
 use Rattle.publication.specs.Stands.{Stand}
+use Rattle.outside.specs.Causes.{Counted}
 use Rattle.outside.specs.Cells.{Cell}
 use Rattle.pan_top.specs.Builds.{Wrote}
 use Rattle.command_words.specs.Commands.{command_of}
-use Rattle.pan_top.specs.Calls.{CallOf, PanCall}
+use Rattle.pan_top.specs.Calls.{CallOf}
 use Rattle.pan_top.specs.Demos.{shown_by, text_after}
-use Rattle.pan_top.specs.Scenes.{Scene, OnlyWrites, Causes}
+use Rattle.pan_top.specs.Scenes.{Scene}
 use Rattle.pan_top.specs.declared.status.Status.{Status}
 use Rattle.pan_top.specs.declared.status.Status.TheVariants as S
-use Rattle.pan_top.proofs.Causing.{memory_causes}
+use Rattle.pan_top.proofs.Counting.{counted_same}
 use Rattle.pan_top.proofs.Watched.{memory_wrote}
 
-pub untouched : (s : Scene) → OnlyWrites s s
-untouched s = record { coming = refl; source_opened = refl; source_count = refl; cell = λ n. refl; changes = refl; shelf_opened = refl; shelf_count = refl; lines = refl; lines_count = refl }
+uncounted : (n : ℕ) → Counted (S.Memory ≡ S.OutFault) n n
+uncounted n = counted_same (S.Memory ≡ S.OutFault) n n refl (λ is. cc)
 
 still : (shelf : List ℕ → Stand) (cell : List ℕ → Cell) → Stopped E.Memory shelf cell cell
 still shelf cell = ([], record { others = λ n other. refl; own = λ n closed. inl refl })
 
 pub nothing_done : {T : Type 0} (M : Meanings T) (command : Option Command) (s : Scene) → CallOf M command S.Memory s s
-nothing_done M None s = record { only = untouched s; spent = refl; line = inr (inr refl, none_of (codes "usage fault\n") s.held) }
+nothing_done M None s = record { only = refl; spent = refl; line = inr (inr refl, none_of (codes "usage fault\n") s.held); out_count = uncounted s.out_count }
 nothing_done M (Some (Build w)) s = record {
   session = inr (record {
     end = E.Memory;
     is = inl refl;
-    text = if_told (λ ps. Wrote (session_for M w ps).text E.Memory S.Memory s.held s.held) s.coming (λ ps told. inl (refl, none_of (session_for M w ps).text s.held));
+    text = if_told (λ ps. Wrote (session_for M w ps).text E.Memory S.Memory s.held s.held) s.coming (λ ps told. (refl, none_of (session_for M w ps).text s.held));
     shelf = if_told (λ ps. Stopped E.Memory (session_for M w ps).shelf s.cell s.cell) s.coming (λ ps told. still (session_for M w ps).shelf s.cell);
     order = λ tells. if_told (λ ps. PublishesPart (session_for M w ps).wants s.cell s.cell s.changes s.changes) s.coming (λ ps told. part_none (session_for M w ps).wants s.cell s.cell s.changes s.changes (λ n. refl) refl);
     spent = if_told _ s.coming (λ ps told. spent_nothing (state_for M w ps) s.spent);
     taken = inl refl;
     source_opened = inl refl;
     shelf_opened = inl refl;
+    source_count = counted_same (IsFailureOf D.Source E.Memory) s.source_count s.source_count refl (λ is. cc);
+    shelf_count = counted_same (IsFailureOf D.Shelf E.Memory) s.shelf_count s.shelf_count refl (λ is. cc);
+    out_count = uncounted s.out_count;
   });
   lines = refl;
   lines_count = refl;
@@ -57,12 +62,12 @@ nothing_done M (Some (Watch w)) s = inr (record {
   spent = refl;
   source_opened = inl refl;
   shelf_opened = inl refl;
+  source_count = counted_same (IsFailureOf D.Source E.Memory) s.source_count s.source_count refl (λ is. cc);
+  shelf_count = counted_same (IsFailureOf D.Shelf E.Memory) s.shelf_count s.shelf_count refl (λ is. cc);
+  out_count = uncounted s.out_count;
 })
-nothing_done M (Some (Demo d)) s = record { only = untouched s; shows = inr (inr refl, none_of (text_after (shown_by M d)) s.held, spent_nothing (state_in (shown_by M d)) s.spent) }
+nothing_done M (Some (Demo d)) s = record { only = refl; shows = inr (inr refl, none_of (text_after (shown_by M d)) s.held, spent_nothing (state_in (shown_by M d)) s.spent); out_count = uncounted s.out_count }
 
 -- the call of the command that the words are
-pub called : {T : Type 0} (M : Meanings T) (words : List (List ℕ)) (command : Option Command) (status : Status) (before after : Scene) → command ≡ command_of words → CallOf M command status before after → Causes status before after → PanCall M words status before after
-called M words command status before after is call causes = record { call = subst (λ command. CallOf M command status before after) is call; causes = causes }
-
-pub given_up : {T : Type 0} (M : Meanings T) (words : List (List ℕ)) (s : Scene) → PanCall M words S.Memory s s
-given_up M words s = record { call = nothing_done M (command_of words) s; causes = memory_causes s s }
+pub called : {T : Type 0} (M : Meanings T) (words : List (List ℕ)) (command : Option Command) (status : Status) (before after : Scene) → command ≡ command_of words → CallOf M command status before after → CallOf M (command_of words) status before after
+called M words command status before after is call = subst (λ command. CallOf M command status before after) is call

@@ -1,5 +1,5 @@
 pub mod Said
-pub mod Causing
+pub mod Counting
 pub mod Shown
 pub mod Watched
 pub mod Calling

@@ -10,8 +10,7 @@ use Rattle.session.specs.Sessions.{Next, State, state_in, end_of, end_line}
 use Rattle.session.specs.declared.Ended.{Ended}
 use Rattle.session.specs.declared.Ended.TheVariants as ended
 use Rattle.pan_top.specs.Demos.{Shows}
-use Rattle.pan_top.specs.Scenes.{Says}
-use Rattle.pan_top.specs.Statuses.{IsCut, status_after}
+use Rattle.pan_top.specs.Statuses.{IsCut, Says, status_after}
 use Rattle.pan_top.specs.declared.status.Status.{Status}
 
 front : (a b : List ℕ) → take (length a) (a ++ b) ≡ a
@@ -39,28 +38,26 @@ module _ {E : Type 0} (x : Next E) (how : Ended) (before now : Counts) (old mid 
   spent_is = subst (λ h. SpendsAs h (state_in x) before now) ends.ended ends.spent
 
   -- its last builds were made, and nothing is to be said behind them
-  pub shown_plain : (status : Status) (count counted : ℕ) → status ≡ status_after how → end_line how ≡ [] → counted ≡ count → Shows x status old mid count counted before now
-  shown_plain status count counted is none same = inl (
+  pub shown_plain : (status : Status) → status ≡ status_after how → end_line how ≡ [] → Shows x status old mid before now
+  shown_plain status is none = inl (
     is ∙ ap status_after ends.ended,
     subst (λ line. Appends old ((state_in x).text ++ line) mid) (sym none ∙ ap end_line ends.ended) (subst (λ text. Appends old text mid) (sym (append-nil (state_in x).text)) ends.text),
-    same,
     spent_is,
   )
 
   -- a line is said behind them
-  pub shown_said : (status : Status) (new : Option (List ℕ)) (count between counted : ℕ) → Says (status_after how) (end_line how) status mid new between counted → between ≡ count → Shows x status old new count counted before now
-  shown_said status new count between counted (inl whole) same = inl (
+  pub shown_said : (status : Status) (new : Option (List ℕ)) → Says (status_after how) (end_line how) status mid new → Shows x status old new before now
+  shown_said status new (inl whole) = inl (
     whole.0 ∙ ap status_after ends.ended,
     subst (λ h. Appends old ((state_in x).text ++ end_line h) new) ends.ended (text_by old mid new (state_in x).text (end_line how) ends.text whole.1),
-    whole.2 ∙ same,
     spent_is,
   )
-  shown_said status new count between counted (inr part) same = inr (
+  shown_said status new (inr part) = inr (
     part.0,
     subst (λ h. AppendsPart old ((state_in x).text ++ end_line h) new) ends.ended (part_behind old mid new (state_in x).text (end_line how) ends.text part.1),
     spends_most (end_of x) (state_in x) before now spent_is,
   )
 
 -- it was broken off
-pub shown_part : {E : Type 0} (x : Next E) (status : Status) (old new : Option (List ℕ)) (count counted : ℕ) (before now : Counts) → IsCut status → Breaks x before now old new → Shows x status old new count counted before now
-shown_part x status old new count counted before now cut b = inr (cut, part_longer old new (state_in x).text (end_line (end_of x)) b.text, b.spent)
+pub shown_part : {E : Type 0} (x : Next E) (status : Status) (old new : Option (List ℕ)) (before now : Counts) → IsCut status → Breaks x before now old new → Shows x status old new before now
+shown_part x status old new before now cut b = inr (cut, part_longer old new (state_in x).text (end_line (end_of x)) b.text, b.spent)

@@ -2,33 +2,31 @@
 use Rattle.std.specs.Prelude.{◌≡◌, ◌⊎◌, ℕ, List, Option, Some, IfSome}
 use Rattle.command_words.specs.declared.commands.Work.{Work}
 use Rattle.compiler.specs.Standing.{HasSpentAtMost, SpendsAs}
-use Rattle.outside.specs.Contents.{Appends, AppendsPart}
+use Rattle.outside.specs.Causes.{Counted}
+use Rattle.outside.specs.Contents.{AppendsPart}
 use Rattle.publication.specs.Changing.{Tells}
 use Rattle.rebuild.specs.Engines.{Meanings}
 use Rattle.session.specs.declared.Ended.{Ended}
-use Rattle.site_build.specs.Ends.{Stopped}
+use Rattle.site_build.specs.Ends.{IsFailureOf, Stopped}
 use Rattle.site_build.specs.Session.{session_for, state_for, Finished, TakesEarly, IsPassed, IsPerhapsOpened, Publishes, PublishesPart}
+use Rattle.site_build.specs.declared.ends.Device.TheVariants as D
 use Rattle.site_build.specs.declared.ends.End.{End}
 use Rattle.site_build.specs.declared.ends.End.TheVariants as E
 use Rattle.pan_top.specs.Scenes.{Scene}
-use Rattle.pan_top.specs.Statuses.{status_after, status_of, line_of, IsCut}
+use Rattle.pan_top.specs.Statuses.{status_after, status_of, line_of, IsCut, Says}
 use Rattle.pan_top.specs.declared.status.Status.{Status}
+use Rattle.pan_top.specs.declared.status.Status.TheVariants as S
 
 -- what an end has written: a first part of the text where a write failed or memory was wanting, else
--- its line alone
-abbrev pub WrittenBy : List ℕ → End → Option (List ℕ) → Option (List ℕ) → Type 0
-WrittenBy text E.Out old new = AppendsPart old text new
-WrittenBy text E.Memory old new = AppendsPart old text new
-WrittenBy text e old new = Appends old (line_of e) new
-
--- the call has the status of the end; or a part of the line alone could be written
+-- its line
 abbrev pub Wrote : List ℕ → End → Status → Option (List ℕ) → Option (List ℕ) → Type 0
-Wrote text e status old new = ((status ≡ status_of e) × WrittenBy text e old new)
-    ⊎ (IsCut status × AppendsPart old (line_of e) new)
+Wrote text E.Out status old new = (status ≡ S.OutFault) × AppendsPart old text new
+Wrote text E.Memory status old new = (status ≡ S.Memory) × AppendsPart old text new
+Wrote text e status old new = Says (status_of e) (line_of e) status old new
 
 module _ {T : Type 0} (means : Meanings T) (w : Work) (status : Status) (before after : Scene) where
-  -- The build came to its end: its text, the shelf, the changes of it in order, the runs and the steps
-  -- are the session's, and no call of a device failed.
+  -- It came to its end: its text, the shelf, the changes of it in order, the runs and the steps are
+  -- the session's, and no call of a device failed.
   pub record Built : Type 0 where
     pub ended : Ended
     pub is : status ≡ status_after ended
@@ -45,7 +43,7 @@ module _ {T : Type 0} (means : Meanings T) (w : Work) (status : Status) (before 
     pub shelf_count : after.shelf_count ≡ before.shelf_count
     pub out_count : after.out_count ≡ before.out_count
 
-  -- It ended early, by this end: a part of that at most.
+  -- It ended early, by this end: a part of that at most. The device whose call failed counts it.
   pub record BuiltPart : Type 0 where
     pub end : End
     pub is : (status ≡ status_of end) ⊎ IsCut status
@@ -60,6 +58,9 @@ module _ {T : Type 0} (means : Meanings T) (w : Work) (status : Status) (before 
     pub taken : TakesEarly end before.coming after.coming
     pub source_opened : IsPerhapsOpened w.source before.source_opened after.source_opened
     pub shelf_opened : IsPerhapsOpened w.out before.shelf_opened after.shelf_opened
+    pub source_count : Counted (IsFailureOf D.Source end) before.source_count after.source_count
+    pub shelf_count : Counted (IsFailureOf D.Shelf end) before.shelf_count after.shelf_count
+    pub out_count : Counted (status ≡ S.OutFault) before.out_count after.out_count
 
   -- no line is read
   pub record BuildCall : Type 0 where

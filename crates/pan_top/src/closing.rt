@@ -1,11 +1,10 @@
-ghost use Rattle.std.specs.Prelude.{◌≡◌, ◌≤◌, ◌⊎◌, ◌++◌, ℕ, List, IfOk, Option, Some, codes};
-ghost use Rattle.outside.specs.Causes.{Rose};
-ghost use Rattle.site_build.specs.Ends.{device_of};
+ghost use Rattle.std.specs.Prelude.{◌≡◌, ◌⊎◌, ◌++◌, ℕ, List, IfOk, Option, codes};
+ghost use Rattle.outside.specs.Causes.{Counted};
+ghost use Rattle.site_build.specs.Ends.{IsFailureOf};
 ghost use Rattle.site_build.specs.Session.{WritesEarly};
 ghost use Rattle.site_build.specs.declared.ends.Device.TheVariants as device;
 ghost use Rattle.pan_top.specs.Builds.{Wrote};
-ghost use Rattle.pan_top.specs.Scenes.{Says};
-ghost use Rattle.pan_top.specs.Statuses.{IsCut, status_of};
+ghost use Rattle.pan_top.specs.Statuses.{IsCut, Says, status_of};
 ghost use Rattle.pan_top.specs.declared.status.Status.{Status};
 
 use crate::status::Status;
@@ -16,11 +15,10 @@ use std::alloc::{AllocError, Global};
 
 /// Writes a line, and gives the status that goes with it, or that of the write that failed.
 pub fn say<O: Sink>(out: &mut O, line: &[u8], status: Status) -> Status
-    ensures line { Says status line.now result (O.held out.old) (O.held out.new)
-        (O.fault_count out.old) (O.fault_count out.new) }
-    ensures later { O.fault_count out.old ≤ O.fault_count out.new }
-    ensures cause { result ≡ Status.OutFault → (status ≡ Status.OutFault) ⊎ Rose
-        (O.fault_count out.old) (O.fault_count out.new) }
+    requires { status ≡ Status.OutFault → ⊥ }
+    ensures line { Says status line.now result (O.held out.old) (O.held out.new) }
+    ensures count { Counted (result ≡ Status.OutFault) (O.fault_count out.old)
+        (O.fault_count out.new) }
 {
     match write(out, line) {
         Ok(()) => status,
@@ -43,9 +41,8 @@ fn name_line(alloc: Global, object: &Text) -> Result<Vec<u8>, AllocError>
 /// Writes that line.
 fn say_name<O: Sink>(alloc: Global, object: &Text, out: &mut O) -> Status
     ensures line { Says Status.ShelfFault (codes "shelf fault " ++ object.now ++ codes "\n") result
-        (O.held out.old) (O.held out.new) (O.fault_count out.old) (O.fault_count out.new) }
-    ensures later { O.fault_count out.old ≤ O.fault_count out.new }
-    ensures cause { result ≡ Status.OutFault → Rose (O.fault_count out.old)
+        (O.held out.old) (O.held out.new) }
+    ensures count { Counted (result ≡ Status.OutFault) (O.fault_count out.old)
         (O.fault_count out.new) }
 {
     let Ok(line) = name_line(alloc, object) else {
@@ -59,9 +56,9 @@ pub fn close_build<O: Sink>(alloc: Global, end: &End, out: &mut O) -> Status
     ensures status { (result ≡ status_of end.now) ⊎ IsCut result }
     ensures text { (text : List ℕ) (old : Option (List ℕ)) → WritesEarly text end.now old
         (O.held out.old) → Wrote text end.now result old (O.held out.new) }
-    ensures later { O.fault_count out.old ≤ O.fault_count out.new }
-    ensures cause { result ≡ Status.OutFault → (device_of end.now ≡ Some device.Out) ⊎ Rose
-        (O.fault_count out.old) (O.fault_count out.new) }
+    ensures count { (before : ℕ) → Counted (IsFailureOf device.Out end.now) before
+        (O.fault_count out.old) → Counted (result ≡ Status.OutFault) before
+        (O.fault_count out.new) }
 {
     match end {
         End::Source => say(out, b"source fault\n", Status::SourceFault),

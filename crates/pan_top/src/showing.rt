@@ -1,6 +1,6 @@
 ghost use Rattle.std.specs.Prelude.{◌≡◌, ◌≤◌, ℕ, List, Option};
 ghost use Rattle.compiler.specs.Standing.{Counts, counts};
-ghost use Rattle.outside.specs.Causes.{Rose};
+ghost use Rattle.outside.specs.Causes.{Counted};
 ghost use Rattle.pan_top.specs.Demos.{Shows, limits_given, shown_by};
 ghost use Rattle.pan_top.specs.Scenes.{Scene};
 ghost use Rattle.pan_top.specs.declared.status.Status.{Status};
@@ -36,9 +36,9 @@ pub fn show<R: Runner, O: Sink, L: Ledger>(
     steps: &mut Steps<L>,
 ) -> Status
     ensures shows { Shows (shown_by R.meaning demonstration.now) result (O.held out.old)
-        (O.held out.new) (O.fault_count out.old) (O.fault_count out.new)
-        (counts (R.runs_of runner.old) steps.old) (counts (R.runs_of runner.new) steps.new) }
-    ensures cause { result ≡ Status.OutFault → Rose (O.fault_count out.old)
+        (O.held out.new) (counts (R.runs_of runner.old) steps.old)
+        (counts (R.runs_of runner.new) steps.new) }
+    ensures count { Counted (result ≡ Status.OutFault) (O.fault_count out.old)
         (O.fault_count out.new) }
 {
     let limits = limits_given(demonstration);

@@ -1,6 +1,7 @@
 ghost use Rattle.std.specs.Prelude.{◌≡◌};
+ghost use Rattle.command_words.specs.Commands.{command_of};
 ghost use Rattle.compiler.specs.Standing.{counts};
-ghost use Rattle.pan_top.specs.Calls.{PanCall};
+ghost use Rattle.pan_top.specs.Calls.{CallOf};
 ghost use Rattle.pan_top.specs.Scenes.{scene};
 
 use crate::building::build;
@@ -41,7 +42,7 @@ pub fn pan<R: Runner, S: Source, H: Shelf, N: Lines, O: Sink, L: Ledger>(
         (S.fault_count source.new) (H.cell shelf.new) (H.changes shelf.new) (H.opened shelf.new)
         (H.fault_count shelf.new) (N.left lines.new) (N.fault_count lines.new)
         (O.held out.new) (O.fault_count out.new) (counts (R.runs_of runner.new) steps.new) in
-        PanCall R.meaning words.now result before after }
+        CallOf R.meaning (command_of words.now) result before after }
 {
     match read_command(alloc, words) {
         Ok(Some(Command::Build(work))) => { build(alloc, &work, runner, source, shelf, out, steps) }

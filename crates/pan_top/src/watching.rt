@@ -1,15 +1,15 @@
 ghost use Rattle.std.specs.Prelude.{◌≡◌, ◌≤◌, ◌⊎◌, ℕ, List, Option, Some, IfOk, IfErr, OnOk};
 ghost use Rattle.compiler.specs.Standing.{counts};
-ghost use Rattle.outside.specs.Causes.{Rose};
+ghost use Rattle.outside.specs.Causes.{Caused, Counted};
 ghost use Rattle.outside.specs.Cells.{AreSame};
 ghost use Rattle.publication.specs.Published.{Knows};
-ghost use Rattle.site_build.specs.Ends.{Caused};
+ghost use Rattle.site_build.specs.Ends.{IsFailureOf};
 ghost use Rattle.site_build.specs.Session.{IsPerhapsOpened};
 ghost use Rattle.site_build.specs.declared.ends.Device.{Device};
 ghost use Rattle.watch.specs.declared.ends.End.TheVariants as ends;
-ghost use Rattle.pan_top.specs.Scenes.{Causes, Says, scene};
-ghost use Rattle.pan_top.specs.Statuses.{line_at, status_at};
-ghost use Rattle.pan_top.specs.Watches.{IsOpening, SourceAt, WatchCall};
+ghost use Rattle.pan_top.specs.Scenes.{scene};
+ghost use Rattle.pan_top.specs.Statuses.{Says};
+ghost use Rattle.pan_top.specs.Watches.{IsOpening, SourceAt, WatchCall, line_at, status_at};
 ghost use Rattle.pan_top.specs.declared.status.Status.{Status};
 
 use crate::closing::{close_build, say};
@@ -46,10 +46,10 @@ fn open<S: Source, H: Shelf>(
         (S.opened source.new) }
     ensures shelf_perhaps { IsPerhapsOpened work.now.out (H.opened shelf.old)
         (H.opened shelf.new) }
-    ensures source_cause { Caused Device.Source (S.fault_count source.old)
+    ensures source_cause { Caused (IsFailureOf Device.Source) (S.fault_count source.old)
         (S.fault_count source.new) result }
-    ensures shelf_cause { Caused Device.Shelf (H.fault_count shelf.old) (H.fault_count shelf.new)
-        result }
+    ensures shelf_cause { Caused (IsFailureOf Device.Shelf) (H.fault_count shelf.old)
+        (H.fault_count shelf.new) result }
 {
     open_source(source, work.source.as_str())?;
     open_shelf(shelf, work.out.as_str())?;
@@ -60,11 +60,9 @@ fn open<S: Source, H: Shelf>(
 
 /// Writes the line of an end of the session, and gives the status.
 fn close<O: Sink>(end: Stop, out: &mut O) -> Status
-    ensures closes { Says (status_at end) (line_at end) result (O.held out.old) (O.held out.new)
-        (O.fault_count out.old) (O.fault_count out.new) }
-    ensures later { O.fault_count out.old ≤ O.fault_count out.new }
-    ensures cause { result ≡ Status.OutFault → (end ≡ ends.Out) ⊎ Rose (O.fault_count out.old)
-        (O.fault_count out.new) }
+    ensures closes { Says (status_at end) (line_at end) result (O.held out.old) (O.held out.new) }
+    ensures count { (before : ℕ) → Counted (end ≡ ends.Out) before (O.fault_count out.old)
+        → Counted (result ≡ Status.OutFault) before (O.fault_count out.new) }
 {
     match end {
         Stop::Lines => say(out, b"lines fault\n", Status::LinesFault),
@@ -89,7 +87,7 @@ pub fn watch<R: Runner, S: Source, H: Shelf, N: Lines, O: Sink, L: Ledger>(
     out: &mut O,
     steps: &mut Steps<L>,
 ) -> Status
-    ensures call { let before = scene (S.coming source.old) (S.opened source.old)
+    ensures { let before = scene (S.coming source.old) (S.opened source.old)
         (S.fault_count source.old) (H.cell shelf.old) (H.changes shelf.old) (H.opened shelf.old)
         (H.fault_count shelf.old) (N.left lines.old) (N.fault_count lines.old)
         (O.held out.old) (O.fault_count out.old) (counts (R.runs_of runner.old) steps.old) in
@@ -98,15 +96,6 @@ pub fn watch<R: Runner, S: Source, H: Shelf, N: Lines, O: Sink, L: Ledger>(
         (H.fault_count shelf.new) (N.left lines.new) (N.fault_count lines.new)
         (O.held out.new) (O.fault_count out.new) (counts (R.runs_of runner.new) steps.new) in
         WatchCall R.meaning work.now result before after }
-    ensures causes { let before = scene (S.coming source.old) (S.opened source.old)
-        (S.fault_count source.old) (H.cell shelf.old) (H.changes shelf.old) (H.opened shelf.old)
-        (H.fault_count shelf.old) (N.left lines.old) (N.fault_count lines.old)
-        (O.held out.old) (O.fault_count out.old) (counts (R.runs_of runner.old) steps.old) in
-        let after = scene (S.coming source.new) (S.opened source.new)
-        (S.fault_count source.new) (H.cell shelf.new) (H.changes shelf.new) (H.opened shelf.new)
-        (H.fault_count shelf.new) (N.left lines.new) (N.fault_count lines.new)
-        (O.held out.new) (O.fault_count out.new) (counts (R.runs_of runner.new) steps.new) in
-        Causes result before after }
 {
     let mut publisher = match open(alloc, work, source, shelf) {
         Ok(publisher) => publisher,

@@ -1,6 +1,6 @@
 -- How a publication begins, goes on from removing to putting, and ends.
 use Rattle.std.proofs.Common.{◌≡◌, ◌≤◌, ℕ, Bool, true, false, List, [], ◌∷◌, Option, Some, None, is_some, IfSome, not, if◌then◌else◌, ◌&&◌, ◌⊎◌, inl, inr, refl, sym, ap, ◌∙◌, subst, length, arith, append-nil}
-use Rattle.std.specs.Prelude.{bytes_eq, Result, Ok, Err, OnErr}
+use Rattle.std.specs.Prelude.{bytes_eq}
 use Rattle.std.specs.List.{list_any, list_all}
 use Rattle.std.specs.HashMap.{get}
 use Rattle.std.proofs.lemmas.Slice.Eq.{bytes_eq-Decides}
@@ -23,10 +23,6 @@ use Rattle.publication.proofs.Proper.{and_left, and_right, proper_own, proper_re
 use Rattle.publication.proofs.Tells.{apart, foreign}
 use Rattle.publication.proofs.Placing.{here, own_by, wanted_here}
 use Rattle.publication.proofs.Clearing.{removals_keep, unwanted}
-
-pub on_err : {T E P : Type 0} (r : Result T E) → P → OnErr r P
-on_err (Ok x) p = tt
-on_err (Err e) p = p
 
 not_goes : (ws : List Want) (n : List ℕ) → is_own n ≡ false → goes ws n ≡ false
 not_goes ws n other = rw other refl

@@ -155,10 +155,6 @@ placing_ended is_open names ws old mid new ok knows clear l = record {
   ];
 }
 
-pub on_ok : {T E : Type 0} {P Q : Type 0} (r : Result T E) → OnOk r P → (P → Q) → OnOk r Q
-on_ok (Ok x) p f = f p
-on_ok (Err e) p f = tt
-
 pub published_ok : (names : List (List ℕ)) (ws : List Want) (old next new : List ℕ → Cell) → proper ws ≡ true → Lists names old → ((n : List ℕ) → next n ≡ cleared names ws n (old n)) → ((n : List ℕ) → new n ≡ placed ws n (next n)) → (n : List ℕ) → new n ≡ brought ws n (old n)
 published_ok names ws old next new ok knows clear place n = place n ∙ ap (placed ws n) (clear n) ∙ brought_both names ws n (old n) ok (knows n)
 

@@ -1,6 +1,5 @@
 -- What a publication leaves that ends at its first failed call, or for want of memory.
-use Rattle.std.specs.Prelude.{◌≡◌, ◌≤◌, ◌⊎◌, ℕ, Bool, true, false, List, Result, IfErr, OnOk, bytes_eq}
-use Rattle.outside.specs.Causes.{Rose}
+use Rattle.std.specs.Prelude.{◌≡◌, ◌⊎◌, ℕ, Bool, true, false, List, bytes_eq}
 use Rattle.outside.specs.Cells.{Cell}
 use Rattle.publication.specs.declared.until_failure.PublishError.{PublishError}
 use Rattle.publication.specs.declared.until_failure.PublishError.TheVariants.{Failed, Memory}
@@ -27,9 +26,3 @@ IsEndAt n Memory = Unit
 abbrev pub IsFailure : PublishError → Type 0
 IsFailure (Failed m) = Unit
 IsFailure Memory = ⊥
-
--- the count never falls; it rose where a call failed, and is as before where all were answered
-pub record EndsBy {T : Type 0} (before now : ℕ) (result : Result T PublishError) : Type 0 where
-  pub later : before ≤ now
-  pub rose : IfErr result (λ e. IsFailure e → Rose before now)
-  pub done : OnOk result (now ≡ before)

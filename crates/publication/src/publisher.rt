@@ -401,8 +401,8 @@ impl Publisher {
         ensures going { IfOk result (λ gone. list_all (goes (wants_of profiles.now)) gone.items
             ≡ true) }
         ensures covers { IfOk result (λ gone. Covers gone.items (wants_of profiles.now) self.now) }
-        ensures known { IfOk result
-            (λ gone. (n : List ℕ) → list_any (λ m. bytes_eq m n) gone.items ≡ true → is_some (get bytes_eq self.now.own n) ≡ true) }
+        ensures known { IfOk result (λ gone. (n : List ℕ) → list_any (λ m. bytes_eq m n) gone.items
+            ≡ true → is_some (get bytes_eq self.now.own n) ≡ true) }
         ensures sorted { IfOk result (λ gone. IsSorted (slice_cmp nat_cmp) gone.items) }
     {
         let names = wanted_names(alloc, profiles)?;

@@ -12,10 +12,10 @@ pub(crate) fn holds<H: Shelf>(
     bytes: &[u8],
     held: &mut Vec<u8>,
 ) -> Result<bool, StoreError>
-    ensures ok { IfOk result
-        (λ same. same ≡ true → IfSome (H.cell shelf.old name.now) (λ content. content ≡ Some bytes.now)) }
-    ensures exact { IfOk result
-        (λ same. IfSome (H.cell shelf.old name.now) (λ content. same ≡ holds bytes.now (Some content))) }
+    ensures ok { IfOk result (λ same. same ≡ true → IfSome (H.cell shelf.old name.now)
+        (λ content. content ≡ Some bytes.now)) }
+    ensures exact { IfOk result (λ same. IfSome (H.cell shelf.old name.now)
+        (λ content. same ≡ holds bytes.now (Some content))) }
     ensures same { AreSame (H.cell shelf.old) (H.cell shelf.new) }
     ensures changes { H.changes shelf.new ≡ H.changes shelf.old }
     ensures opened { H.opened shelf.new ≡ H.opened shelf.old }

@@ -2,12 +2,12 @@ ghost use Rattle.std.specs.Prelude.{◌≡◌, ◌∷◌, [], ℕ, List, flat_ma
 ghost use Rattle.std.specs.List.Sorted.{IsSorted};
 ghost use Rattle.std.specs.Cmp.Lexicographic.{slice_cmp};
 ghost use Rattle.std.specs.Ordering.{nat_cmp};
-ghost use Rattle.outside.specs.Causes.{HasCause};
+ghost use Rattle.outside.specs.Causes.{Caused, HasCause};
 ghost use Rattle.outside.specs.Cells.{Sets, AllBut, AreSame};
 ghost use Rattle.outside.specs.declared.shelf.Change.TheVariants.{Put};
 ghost use Rattle.publication.specs.Changing.{holds, removal, putting, planned, done, Made, Begun, Makes, Begins, Tells};
 ghost use Rattle.publication.specs.Halves.{swept, cleared, placed, brought, LeftAs};
-ghost use Rattle.publication.specs.Leavings.{Left, IsEndAt, EndsBy};
+ghost use Rattle.publication.specs.Leavings.{Left, IsEndAt, IsFailure};
 ghost use Rattle.publication.specs.Listings.{Lists};
 ghost use Rattle.publication.specs.OwnNames.{is_own};
 ghost use Rattle.publication.specs.Published.{Names};
@@ -51,43 +51,14 @@ impl<T: Drop> From<AllocFailed<T>> for PublishError {
     }
 }
 
-/// A call on the shelf for a name, as an end of the publication.
-fn ended(alloc: Global, error: StoreError, name: &str) -> PublishError
-    requires { is_own name.now ≡ true }
+/// How a call on the shelf that a file of this object is for ends the publication.
+fn ended(error: StoreError, object: Text) -> PublishError
     ensures memory { error ≡ StoreError.Memory → result ≡ PublishError.Memory }
-    ensures at { IsEndAt name.now result }
+    ensures failed { error ≡ StoreError.Failed → result ≡ PublishError.Failed object }
 {
     match error {
         StoreError::Memory => PublishError::Memory,
-        StoreError::Failed => match object_of(alloc, name) {
-            Ok(object) => PublishError::Failed(object),
-            Err(AllocError) => PublishError::Memory,
-        },
-    }
-}
-
-/// Whether the name holds the bytes.
-fn finds<H: Shelf>(
-    alloc: Global,
-    shelf: &mut H,
-    name: &str,
-    bytes: &[u8],
-    held: &mut Vec<u8>,
-) -> Result<bool, PublishError>
-    requires { is_own name.now ≡ true }
-    ensures ok { IfOk result
-        (λ same. same ≡ true → IfSome (H.cell shelf.old name.now) (λ content. content ≡ Some bytes.now)) }
-    ensures exact { IfOk result
-        (λ same. IfSome (H.cell shelf.old name.now) (λ content. same ≡ holds bytes.now (Some content))) }
-    ensures changes { H.changes shelf.new ≡ H.changes shelf.old }
-    ensures same { AreSame (H.cell shelf.old) (H.cell shelf.new) }
-    ensures opened { H.opened shelf.new ≡ H.opened shelf.old }
-    ensures at { IfErr result (IsEndAt name.now) }
-    ensures cause { EndsBy (H.fault_count shelf.old) (H.fault_count shelf.new) result }
-{
-    match holds(shelf, name, bytes, held) {
-        Ok(same) => Ok(same),
-        Err(error) => Err(ended(alloc, error, name)),
+        StoreError::Failed => PublishError::Failed(object),
     }
 }
 
@@ -111,14 +82,18 @@ fn bring<H: Shelf>(
         → AreSame (H.cell shelf.old) (H.cell shelf.new)) }
     ensures opened { H.opened shelf.new ≡ H.opened shelf.old }
     ensures at { IfErr result (IsEndAt name.now) }
-    ensures cause { EndsBy (H.fault_count shelf.old) (H.fault_count shelf.new) result }
+    ensures cause { Caused IsFailure (H.fault_count shelf.old) (H.fault_count shelf.new) result }
 {
-    if finds(alloc, shelf, name, bytes, held)? {
-        return Ok(());
+    // (ahead of the calls, so that one that fails has its object where memory is wanting then)
+    let object = object_of(alloc, name)?;
+    match holds(shelf, name, bytes, held) {
+        Ok(true) => return Ok(()),
+        Ok(false) => {}
+        Err(error) => return Err(ended(error, object)),
     }
     match shelf.put(name, bytes) {
         Ok(()) => Ok(()),
-        Err(error) => Err(ended(alloc, error, name)),
+        Err(error) => Err(ended(error, object)),
     }
 }
 
@@ -151,7 +126,7 @@ fn sweep<H: Shelf>(
     ensures undone { OnErr result (H.changes shelf.new ≡ H.changes shelf.old) }
     ensures opened { H.opened shelf.new ≡ H.opened shelf.old }
     ensures at { IfErr result (IsEndAt name.now) }
-    ensures cause { EndsBy (H.fault_count shelf.old) (H.fault_count shelf.new) result }
+    ensures cause { Caused IsFailure (H.fault_count shelf.old) (H.fault_count shelf.new) result }
 {
     if !is_own(name.as_str()) {
         return Ok(());
@@ -159,9 +134,10 @@ fn sweep<H: Shelf>(
     if names.contains(name) {
         return Ok(());
     }
+    let object = object_of(alloc, name.as_str())?;
     match shelf.remove(name.as_str()) {
         Ok(()) => Ok(()),
-        Err(error) => Err(ended(alloc, error, name.as_str())),
+        Err(error) => Err(ended(error, object)),
     }
 }
 
@@ -183,7 +159,7 @@ fn clear<H: Shelf>(
     ensures begun { OnErr result (Begun wants.now (flat_map (removal wants.now) listed.now)
         (H.cell shelf.old) (H.cell shelf.new) (H.changes shelf.old) (H.changes shelf.new)) }
     ensures opened { H.opened shelf.new ≡ H.opened shelf.old }
-    ensures cause { EndsBy (H.fault_count shelf.old) (H.fault_count shelf.new) result }
+    ensures cause { Caused IsFailure (H.fault_count shelf.old) (H.fault_count shelf.new) result }
 {
     for name in listed {
         sweep(alloc, shelf, name, names)?;
@@ -205,7 +181,7 @@ fn place<H: Shelf>(alloc: Global, shelf: &mut H, wants: &[Want]) -> Result<(), P
         → Begun wants.now (flat_map (putting (H.cell shelf.old)) wants.now) (H.cell shelf.old)
         (H.cell shelf.new) (H.changes shelf.old) (H.changes shelf.new)) }
     ensures opened { H.opened shelf.new ≡ H.opened shelf.old }
-    ensures cause { EndsBy (H.fault_count shelf.old) (H.fault_count shelf.new) result }
+    ensures cause { Caused IsFailure (H.fault_count shelf.old) (H.fault_count shelf.new) result }
 {
     let mut held = Vec::new(alloc);
     for want in wants {
@@ -258,7 +234,7 @@ fn bring_all<H: Shelf>(
         → Begun wants.now (planned listed.now wants.now (H.cell shelf.old)) (H.cell shelf.old)
         (H.cell shelf.new) (H.changes shelf.old) (H.changes shelf.new)) }
     ensures opened { H.opened shelf.new ≡ H.opened shelf.old }
-    ensures cause { EndsBy (H.fault_count shelf.old) (H.fault_count shelf.new) result }
+    ensures cause { Caused IsFailure (H.fault_count shelf.old) (H.fault_count shelf.new) result }
 {
     let names = wanted_names(alloc, wants)?;
     clear(alloc, shelf, listed, &names, wants)?;
@@ -276,10 +252,10 @@ pub fn publish_until_failure<H: Shelf>(
 ) -> Result<(), PublishError>
     requires proper { proper (wants_of profiles.now) ≡ true }
     requires listed { Lists listed.now (H.cell shelf.old) }
-    ensures ok { OnOk result
-        (Stands (published (wants_of profiles.now) [] untouched) (H.cell shelf.old) (H.cell shelf.new)) }
-    ensures err { IfErr result
-        (λ e. Left e (published (wants_of profiles.now) [] untouched) (H.cell shelf.old) (H.cell shelf.new)) }
+    ensures ok { OnOk result (Stands (published (wants_of profiles.now) [] untouched)
+        (H.cell shelf.old) (H.cell shelf.new)) }
+    ensures err { IfErr result (λ e. Left e (published (wants_of profiles.now) [] untouched)
+        (H.cell shelf.old) (H.cell shelf.new)) }
     ensures made { OnOk result (Tells (H.cell shelf.old) →
         Makes (wants_of profiles.now) listed.now (H.cell shelf.old) (H.cell shelf.new)
         (H.changes shelf.old) (H.changes shelf.new)) }
@@ -287,7 +263,7 @@ pub fn publish_until_failure<H: Shelf>(
         Begins (wants_of profiles.now) listed.now (H.cell shelf.old) (H.cell shelf.new)
         (H.changes shelf.old) (H.changes shelf.new)) }
     ensures opened { H.opened shelf.new ≡ H.opened shelf.old }
-    ensures cause { EndsBy (H.fault_count shelf.old) (H.fault_count shelf.new) result }
+    ensures cause { Caused IsFailure (H.fault_count shelf.old) (H.fault_count shelf.new) result }
 {
     let wants = wants(alloc, profiles)?;
     bring_all(alloc, shelf, listed, &wants)

@@ -1,12 +1,9 @@
 -- What the answers of a scan say.
 use Rattle.std.specs.Prelude.{◌≡◌, ◌≤◌, ◌+◌, ◌⊎◌, ℕ, List, Option, IfSome, IsErrOf, OnOk, option_map, Result, slice_get, if◌then◌else◌}
 use Rattle.load_path.specs.declared.picture.PictureFile.{PictureFile}
-use Rattle.outside.specs.Causes.{Rose}
 use Rattle.outside.specs.Pictures.{next_picture, later_pictures}
 use Rattle.outside.specs.declared.source.MemFile.{MemFile}
 use Rattle.scans.specs.Scans.{has_file_name, weight_of, taken_in, scanned_of}
-use Rattle.scans.specs.declared.error.ScanError.{ScanError}
-use Rattle.scans.specs.declared.error.ScanError.TheVariants.{Fault, TooMuch, Memory}
 
 -- the pictures that are still to come
 abbrev pub Coming : Type 0
@@ -22,16 +19,6 @@ IsPassed old new = new ≡ option_map later_pictures old
 
 abbrev pub IsPerhapsPassed : Coming → Coming → Type 0
 IsPerhapsPassed old new = (new ≡ old) ⊎ IsPassed old new
-
--- The source's count of faults never falls. It rose by one where the scan answers Fault, and is as
--- before in every other case.
-pub record Caused {T : Type 0} (before now : ℕ) (result : Result T ScanError) : Type 0 where
-  pub later : before ≤ now
-  pub rose : IsErrOf result Fault → Rose before now
-  pub once : now ≤ before + 1
-  pub done : OnOk result (now ≡ before)
-  pub much : IsErrOf result TooMuch → now ≡ before
-  pub wanting : IsErrOf result Memory → now ≡ before
 
 -- Facts about file number i of a picture, where the source tells that.
 abbrev pub OfFile : Option (List MemFile) → ℕ → (MemFile → Type 0) → Type 0

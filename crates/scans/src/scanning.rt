@@ -1,7 +1,7 @@
 ghost use Rattle.std.specs.Prelude.{◌≡◌, ◌≤◌, ◌<◌, IfOk, IfErr, IfSome, IsErrOf, OnOk, OnErr, Some, None, true, length, count_by};
 ghost use Rattle.load_path.specs.Pictures.{has_short_content};
-ghost use Rattle.outside.specs.Causes.{HasCause};
-ghost use Rattle.scans.specs.Outcomes.{Caused, IsScan, IsPassed, IsPerhapsPassed, IsTakenIn, OfFile, one_where_named};
+ghost use Rattle.outside.specs.Causes.{Caused, HasCause};
+ghost use Rattle.scans.specs.Outcomes.{IsScan, IsPassed, IsPerhapsPassed, IsTakenIn, OfFile, one_where_named};
 ghost use Rattle.scans.specs.Scans.{has_file_name, found_of, content_weight, with_found};
 
 use crate::error::ScanError;
@@ -160,7 +160,8 @@ pub fn scan<S: Source>(alloc: Global, source: &mut S) -> Result<Picture, ScanErr
         → IsPassed (S.coming source.old) (S.coming source.new) }
     ensures err { OnErr result (IsPerhapsPassed (S.coming source.old) (S.coming source.new)) }
     ensures opened { S.opened source.new ≡ S.opened source.old }
-    ensures cause { Caused (S.fault_count source.old) (S.fault_count source.new) result }
+    ensures cause { Caused (λ e. e ≡ ScanError.Fault) (S.fault_count source.old)
+        (S.fault_count source.new) result }
 {
     match read_picture(alloc, source) {
         Ok(Some(picture)) => Ok(picture),

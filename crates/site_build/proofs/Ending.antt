@@ -1,8 +1,9 @@
 -- Ends of a build.
 use Rattle.std.proofs.Common.{◌≡◌, ℕ, List, [], Option, Some, None, refl, sym, ap, subst, ◌∙◌, ◌⊎◌, inl, inr, Bool, append-nil, IfErr, OnErr, IfSome, arith}
 use Rattle.std.specs.Prelude.{Result, Ok, Err, IfOk, OnOk, bytes_eq}
+use Rattle.std.proofs.lemmas.Result.{IfErr-weaker}
 use Rattle.outside.specs.Cells.{Cell, AreSame}
-use Rattle.outside.specs.Causes.{Rose}
+use Rattle.outside.specs.Causes.{Caused}
 use Rattle.outside.specs.Contents.{Appends, AppendsPart}
 use Rattle.outside.specs.declared.source.MemFile.{MemFile}
 use Rattle.publication.specs.Leavings.{Leaves}
@@ -12,10 +13,11 @@ use Rattle.publication.specs.Troubles.{published}
 use Rattle.publication.specs.declared.want.Want.{Want}
 use Rattle.session.specs.Sessions.{end_line}
 use Rattle.session.specs.declared.Ended.{Ended}
+use Rattle.site_build.specs.declared.ends.Device.{Device}
 use Rattle.site_build.specs.declared.ends.Device.TheVariants as D
 use Rattle.site_build.specs.declared.ends.End.{End}
 use Rattle.site_build.specs.declared.ends.End.TheVariants as E
-use Rattle.site_build.specs.Ends.{Caused, IsEndOf, IsRoundEnd, OfName, OfSink, OfSource, Stopped, device_of}
+use Rattle.site_build.specs.Ends.{IsEndOf, IsFailureOf, IsRoundEnd, OfName, OfSink, OfSource, Stopped}
 use Rattle.site_build.specs.Session.{Session, Finished, WritesEarly, line_alone}
 
 -- nothing is a first part of every text
@@ -66,14 +68,6 @@ done_stopped E.Shelf ws old new kind done = cc
 done_stopped (E.Publishing m) ws old new kind done = cc
 done_stopped E.Out ws old new kind done = done
 done_stopped E.Memory ws old new kind done = ([], record { others = λ n other. rw other at (done n); own = λ n closed. inr (done n) })
-
-pub on_ok : {T E : Type 0} {P Q : Type 0} (r : Result T E) → OnOk r P → (P → Q) → OnOk r Q
-on_ok (Ok x) p f = f p
-on_ok (Err e) p f = tt
-
-pub if_err : {T E : Type 0} {P Q : Type 0} (r : Result T E) → OnErr r P → (P → Q) → OnErr r Q
-if_err (Ok x) p f = tt
-if_err (Err e) p f = f p
 
 -- what an end left behind of a shelf that had not changed before
 meets_from : (s : Stand) (old mid new : Cell) → mid ≡ old → Meets s mid new → Meets s old new
@@ -145,39 +139,41 @@ pub source_stopped : {T : Type 0} (r : Result T End) (told : Option (List (List 
 source_stopped (Ok x) told F old kind = tt
 source_stopped (Err e) told F old kind = stopped_none_at told F e old kind
 
-not_shelf : (e : End) (n : ℕ) → IsEndOf OfSource e → device_of e ≡ Some D.Shelf → Rose n n
-not_shelf E.Source n kind is = cc
-not_shelf E.Shelf n kind is = cc
-not_shelf (E.Publishing m) n kind is = cc
-not_shelf E.Out n kind is = cc
-not_shelf E.Memory n kind is = cc
+-- no call of a device failed, and its count stood still
+uncaused : {T : Type 0} (device : Device) (r : Result T End) (before now : ℕ) → now ≡ before → IfErr r (λ e. IsFailureOf device e → ⊥) → Caused (IsFailureOf device) before now r
+uncaused device (Ok x) before now same never = record { later = omega (arith, same); rose = tt; once = omega (arith, same); kept = tt; done = same }
+uncaused device (Err e) before now same never = record { later = omega (arith, same); rose = λ is. absurd (never is); once = omega (arith, same); kept = λ other. same; done = tt }
 
-pub uncaused_shelf : {T : Type 0} (r : Result T End) (n : ℕ) → IfErr r (IsEndOf OfSource) → Caused D.Shelf n n r
-uncaused_shelf (Ok x) n kind = record { later = omega arith; rose = tt; done = refl }
-uncaused_shelf (Err e) n kind = record { later = omega arith; rose = not_shelf e n kind; done = tt }
+not_shelf : (e : End) → IsEndOf OfSource e → IsFailureOf D.Shelf e → ⊥
+not_shelf E.Source kind is = cc
+not_shelf E.Shelf kind is = cc
+not_shelf (E.Publishing m) kind is = cc
+not_shelf E.Out kind is = cc
+not_shelf E.Memory kind is = cc
 
-not_out : (e : End) (n : ℕ) → IsEndOf OfSource e → device_of e ≡ Some D.Out → Rose n n
-not_out E.Source n kind is = cc
-not_out E.Shelf n kind is = cc
-not_out (E.Publishing m) n kind is = cc
-not_out E.Out n kind is = cc
-not_out E.Memory n kind is = cc
+pub uncaused_shelf : {T : Type 0} (r : Result T End) (n : ℕ) → IfErr r (IsEndOf OfSource) → Caused (IsFailureOf D.Shelf) n n r
+uncaused_shelf r n kind = uncaused D.Shelf r n n refl (IfErr-weaker r (IsEndOf OfSource) (λ e. IsFailureOf D.Shelf e → ⊥) not_shelf kind)
 
-pub uncaused_out : {T : Type 0} (r : Result T End) (n : ℕ) → IfErr r (IsEndOf OfSource) → Caused D.Out n n r
-uncaused_out (Ok x) n kind = record { later = omega arith; rose = tt; done = refl }
-uncaused_out (Err e) n kind = record { later = omega arith; rose = not_out e n kind; done = tt }
+not_out : (e : End) → IsEndOf OfSource e → IsFailureOf D.Out e → ⊥
+not_out E.Source kind is = cc
+not_out E.Shelf kind is = cc
+not_out (E.Publishing m) kind is = cc
+not_out E.Out kind is = cc
+not_out E.Memory kind is = cc
 
-not_source : (e : End) (n m : ℕ) → IsRoundEnd e → device_of e ≡ Some D.Source → Rose n m
-not_source E.Source n m (inl kind) is = cc
-not_source E.Source n m (inr kind) is = cc
-not_source E.Shelf n m kind is = cc
-not_source (E.Publishing x) n m kind is = cc
-not_source E.Out n m kind is = cc
-not_source E.Memory n m kind is = cc
+pub uncaused_out : {T : Type 0} (r : Result T End) (n : ℕ) → IfErr r (IsEndOf OfSource) → Caused (IsFailureOf D.Out) n n r
+uncaused_out r n kind = uncaused D.Out r n n refl (IfErr-weaker r (IsEndOf OfSource) (λ e. IsFailureOf D.Out e → ⊥) not_out kind)
 
-pub uncaused_source : {T : Type 0} (r : Result T End) (before now : ℕ) → now ≡ before → IfErr r IsRoundEnd → Caused D.Source before now r
-uncaused_source (Ok x) before now same kind = record { later = omega (arith, same); rose = tt; done = same }
-uncaused_source (Err e) before now same kind = record { later = omega (arith, same); rose = not_source e before now kind; done = tt }
+not_source : (e : End) → IsRoundEnd e → IsFailureOf D.Source e → ⊥
+not_source E.Source (inl kind) is = cc
+not_source E.Source (inr kind) is = cc
+not_source E.Shelf kind is = cc
+not_source (E.Publishing m) kind is = cc
+not_source E.Out kind is = cc
+not_source E.Memory kind is = cc
+
+pub uncaused_source : {T : Type 0} (r : Result T End) (before now : ℕ) → now ≡ before → IfErr r IsRoundEnd → Caused (IsFailureOf D.Source) before now r
+uncaused_source r before now same kind = uncaused D.Source r before now same (IfErr-weaker r IsRoundEnd (λ e. IsFailureOf D.Source e → ⊥) not_source kind)
 
 -- only a line was to be written
 pub line_unwritten : {T : Type 0} (text : List ℕ) (old new : Option (List ℕ)) (r : Result T End) → IfErr r (IsEndOf OfSink) → OnErr r (AppendsPart old text new) → IfErr r (λ e. WritesEarly text e old new)

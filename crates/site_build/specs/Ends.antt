@@ -1,6 +1,5 @@
 -- Ends that come before the session's own.
-use Rattle.std.specs.Prelude.{◌≡◌, ◌≤◌, ℕ, List, bytes_eq, Result, IfErr, OnOk, Option, Some, None, IfSome, ◌⊎◌}
-use Rattle.outside.specs.Causes.{Rose}
+use Rattle.std.specs.Prelude.{◌≡◌, ℕ, List, bytes_eq, Option, Some, None, IfSome, ◌⊎◌}
 use Rattle.outside.specs.Cells.{Cell, AreSame}
 use Rattle.publication.specs.Leavings.{Leaves}
 use Rattle.publication.specs.OwnNames.{is_file_of}
@@ -17,6 +16,10 @@ device_of E.Shelf = Some D.Shelf
 device_of (E.Publishing m) = Some D.Shelf
 device_of E.Out = Some D.Out
 device_of E.Memory = None
+
+-- a call of this device failed
+abbrev pub IsFailureOf : Device → End → Type 0
+IsFailureOf device e = device_of e ≡ Some device
 
 -- Whose call can end so.
 pub data Caller : Type 0 where
@@ -39,14 +42,6 @@ IsEndOf caller e = IfSome (caller_of e) (λ c. c ≡ caller)
 -- an end of a round, which calls names of the shelf and the sink
 abbrev pub IsRoundEnd : End → Type 0
 IsRoundEnd e = IfSome (caller_of e) (λ c. (c ≡ OfName) ⊎ (c ≡ OfSink))
-
--- A device's count of faults didn't fall; it rose where the call ended so, and is as before where it
--- succeeded.
-pub record Caused {T : Type 0} (device : Device) (before now : ℕ) (result : Result T End) : Type 0
-  where
-    pub later : before ≤ now
-    pub rose : IfErr result (λ e. device_of e ≡ Some device → Rose before now)
-    pub done : OnOk result (now ≡ before)
 
 -- What stands on the shelf after an end. Before a publication it is as it was; where a name's call
 -- failed, the files of that object are open; where the text could not be written, the publication

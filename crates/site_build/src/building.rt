@@ -2,12 +2,13 @@ ghost use Rattle.std.specs.Prelude.{◌≡◌, ◌≤◌, ◌⊎◌, IfOk, IfErr
 ghost use Rattle.compiler.specs.Compiler.{compiler, nothing};
 ghost use Rattle.compiler.specs.Standing.{counts, IsIn, IsKept, HasSpentAtMost, SpendsAs, compiled_in};
 ghost use Rattle.engine_turns.specs.States.{pictured};
+ghost use Rattle.outside.specs.Causes.{Caused};
 ghost use Rattle.outside.specs.Contents.{Appends, AppendsPart};
 ghost use Rattle.publication.specs.Changing.{Tells};
 ghost use Rattle.publication.specs.Listings.{Lists};
 ghost use Rattle.publication.specs.Wants.{proper, wants_of};
 ghost use Rattle.rebuild.specs.Engines.{turns_left_of};
-ghost use Rattle.site_build.specs.Ends.{IsEndOf, Caused, OfSink, OfSource, IsRoundEnd, Stopped};
+ghost use Rattle.site_build.specs.Ends.{IsEndOf, IsFailureOf, OfSink, OfSource, IsRoundEnd, Stopped};
 ghost use Rattle.site_build.specs.Rounds.{given_by, session_at, Reaches, MadeOver, BegunOver};
 ghost use Rattle.site_build.specs.Session.{Finished, WritesEarly, TakesEarly, IsPassed, limits_of, session_for, state_for};
 ghost use Rattle.site_build.specs.declared.ends.Device.{Device};
@@ -51,7 +52,8 @@ fn end_with_line<O: Sink>(out: &mut O, line: &[u8], ended: Ended) -> Result<Ende
     ensures ok { OnOk result (Appends (O.held out.old) line.now (O.held out.new)) }
     ensures err { OnErr result (AppendsPart (O.held out.old) line.now (O.held out.new)) }
     ensures kind { IfErr result (IsEndOf OfSink) }
-    ensures cause { Caused Device.Out (O.fault_count out.old) (O.fault_count out.new) result }
+    ensures cause { Caused (IsFailureOf Device.Out) (O.fault_count out.old) (O.fault_count out.new)
+        result }
 {
     write(out, line)?;
     Ok(ended)
@@ -81,10 +83,10 @@ fn publish_built<H: Shelf, O: Sink>(
         (H.changes shelf.new)) }
     ensures kind { IfErr result IsRoundEnd }
     ensures opened { H.opened shelf.new ≡ H.opened shelf.old }
-    ensures shelf_cause { Caused Device.Shelf (H.fault_count shelf.old)
+    ensures shelf_cause { Caused (IsFailureOf Device.Shelf) (H.fault_count shelf.old)
         (H.fault_count shelf.new) result }
-    ensures out_cause { Caused Device.Out (O.fault_count out.old) (O.fault_count out.new)
-        result }
+    ensures out_cause { Caused (IsFailureOf Device.Out) (O.fault_count out.old)
+        (O.fault_count out.new) result }
 {
     publish(alloc, shelf, listed, &built.profiles)?;
     end_with_line(out, &built.report, ended_by(built.has_faults))
@@ -116,10 +118,10 @@ fn finish<R: Runner, H: Shelf, O: Sink>(
         (H.changes shelf.old) (H.changes shelf.new)) }
     ensures kind { IfErr result IsRoundEnd }
     ensures opened { H.opened shelf.new ≡ H.opened shelf.old }
-    ensures shelf_cause { Caused Device.Shelf (H.fault_count shelf.old)
+    ensures shelf_cause { Caused (IsFailureOf Device.Shelf) (H.fault_count shelf.old)
         (H.fault_count shelf.new) result }
-    ensures out_cause { Caused Device.Out (O.fault_count out.old) (O.fault_count out.new)
-        result }
+    ensures out_cause { Caused (IsFailureOf Device.Out) (O.fault_count out.old)
+        (O.fault_count out.new) result }
 {
     match reached {
         Reached::All => {
@@ -158,8 +160,8 @@ fn settle<R: Runner, S: Source, L: Ledger>(
     ensures perhaps { (S.coming source.new ≡ S.coming source.old) ⊎
         (IsPassed (S.coming source.old) (S.coming source.new)) }
     ensures opened { S.opened source.new ≡ S.opened source.old }
-    ensures cause { Caused Device.Source (S.fault_count source.old) (S.fault_count source.new)
-        result }
+    ensures cause { Caused (IsFailureOf Device.Source) (S.fault_count source.old)
+        (S.fault_count source.new) result }
 {
     match take_next(alloc, engine, runner, source, steps)? {
         Took::Failed => return Err(End::Source),
@@ -212,12 +214,12 @@ pub fn build_over<R: Runner, S: Source, H: Shelf, O: Sink, L: Ledger>(
         (λ e. TakesEarly e (S.coming source.old) (S.coming source.new)) }
     ensures source_opened { S.opened source.new ≡ S.opened source.old }
     ensures shelf_opened { H.opened shelf.new ≡ H.opened shelf.old }
-    ensures source_cause { Caused Device.Source (S.fault_count source.old)
+    ensures source_cause { Caused (IsFailureOf Device.Source) (S.fault_count source.old)
         (S.fault_count source.new) result }
-    ensures shelf_cause { Caused Device.Shelf (H.fault_count shelf.old)
+    ensures shelf_cause { Caused (IsFailureOf Device.Shelf) (H.fault_count shelf.old)
         (H.fault_count shelf.new) result }
-    ensures out_cause { Caused Device.Out (O.fault_count out.old) (O.fault_count out.new)
-        result }
+    ensures out_cause { Caused (IsFailureOf Device.Out) (O.fault_count out.old)
+        (O.fault_count out.new) result }
 {
     let mut engine = start(alloc, runner, limits(work), work.directories.as_slice())?;
     let reached = settle(alloc, &mut engine, runner, source, steps)?;

@@ -2,6 +2,7 @@ ghost use Rattle.std.specs.Prelude.{◌≡◌, IfOk, IfErr, OnOk, OnErr, Some, t
 ghost use Rattle.std.specs.List.Sorted.{IsSorted};
 ghost use Rattle.std.specs.Cmp.Lexicographic.{slice_cmp};
 ghost use Rattle.std.specs.Ordering.{nat_cmp};
+ghost use Rattle.outside.specs.Causes.{Caused};
 ghost use Rattle.outside.specs.Cells.{AreSame};
 ghost use Rattle.outside.specs.Contents.{Appends, AppendsPart};
 ghost use Rattle.publication.specs.Changing.{Makes, Begins, Tells};
@@ -9,7 +10,7 @@ ghost use Rattle.publication.specs.Listings.{Lists};
 ghost use Rattle.publication.specs.Stands.{Stands, untouched};
 ghost use Rattle.publication.specs.Troubles.{published};
 ghost use Rattle.publication.specs.Wants.{proper, wants_of};
-ghost use Rattle.site_build.specs.Ends.{IsEndOf, Caused, Stopped, OfSource, OfShelf, OfName, OfSink};
+ghost use Rattle.site_build.specs.Ends.{IsEndOf, IsFailureOf, Stopped, OfSource, OfShelf, OfName, OfSink};
 ghost use Rattle.site_build.specs.declared.ends.Device.{Device};
 
 use crate::ends::End;
@@ -24,8 +25,8 @@ pub fn open_source<S: Source>(source: &mut S, root: &str) -> Result<(), End>
     ensures refused { OnErr result (S.opened source.new ≡ S.opened source.old) }
     ensures coming { S.coming source.new ≡ S.coming source.old }
     ensures kind { IfErr result (IsEndOf OfSource) }
-    ensures cause { Caused Device.Source (S.fault_count source.old) (S.fault_count source.new)
-        result }
+    ensures cause { Caused (IsFailureOf Device.Source) (S.fault_count source.old)
+        (S.fault_count source.new) result }
 {
     match source.open_root(root) {
         Ok(()) => Ok(()),
@@ -41,8 +42,8 @@ pub fn open_shelf<H: Shelf>(shelf: &mut H, root: &str) -> Result<(), End>
     ensures same { AreSame (H.cell shelf.old) (H.cell shelf.new) }
     ensures changes { H.changes shelf.new ≡ H.changes shelf.old }
     ensures kind { IfErr result (IsEndOf OfShelf) }
-    ensures cause { Caused Device.Shelf (H.fault_count shelf.old) (H.fault_count shelf.new)
-        result }
+    ensures cause { Caused (IsFailureOf Device.Shelf) (H.fault_count shelf.old)
+        (H.fault_count shelf.new) result }
 {
     match shelf.open_root(root) {
         Ok(()) => Ok(()),
@@ -59,8 +60,8 @@ pub fn list_shelf<H: Shelf>(alloc: Global, shelf: &mut H) -> Result<Vec<Text>, E
     ensures same { AreSame (H.cell shelf.old) (H.cell shelf.new) }
     ensures opened { H.opened shelf.new ≡ H.opened shelf.old }
     ensures kind { IfErr result (IsEndOf OfShelf) }
-    ensures cause { Caused Device.Shelf (H.fault_count shelf.old) (H.fault_count shelf.new)
-        result }
+    ensures cause { Caused (IsFailureOf Device.Shelf) (H.fault_count shelf.old)
+        (H.fault_count shelf.new) result }
 {
     match listed(alloc, shelf) {
         Ok(names) => Ok(names),
@@ -78,10 +79,10 @@ pub fn publish<H: Shelf>(
 ) -> Result<(), End>
     requires proper { proper (wants_of profiles.now) ≡ true }
     requires listed { Lists listed.now (H.cell shelf.old) }
-    ensures ok { OnOk result
-        (Stands (published (wants_of profiles.now) [] untouched) (H.cell shelf.old) (H.cell shelf.new)) }
-    ensures err { IfErr result (λ e.
-        Stopped e (published (wants_of profiles.now) [] untouched) (H.cell shelf.old) (H.cell shelf.new)) }
+    ensures ok { OnOk result (Stands (published (wants_of profiles.now) [] untouched)
+        (H.cell shelf.old) (H.cell shelf.new)) }
+    ensures err { IfErr result (λ e. Stopped e (published (wants_of profiles.now) [] untouched)
+        (H.cell shelf.old) (H.cell shelf.new)) }
     ensures made { OnOk result (Tells (H.cell shelf.old) →
         Makes (wants_of profiles.now) listed.now (H.cell shelf.old) (H.cell shelf.new)
         (H.changes shelf.old) (H.changes shelf.new)) }
@@ -90,8 +91,8 @@ pub fn publish<H: Shelf>(
         (H.changes shelf.old) (H.changes shelf.new)) }
     ensures opened { H.opened shelf.new ≡ H.opened shelf.old }
     ensures kind { IfErr result (IsEndOf OfName) }
-    ensures cause { Caused Device.Shelf (H.fault_count shelf.old) (H.fault_count shelf.new)
-        result }
+    ensures cause { Caused (IsFailureOf Device.Shelf) (H.fault_count shelf.old)
+        (H.fault_count shelf.new) result }
 {
     match publish_until_failure(alloc, shelf, listed, profiles) {
         Ok(()) => Ok(()),
@@ -105,7 +106,8 @@ pub fn write<O: Sink>(out: &mut O, text: &[u8]) -> Result<(), End>
     ensures ok { OnOk result (Appends (O.held out.old) text.now (O.held out.new)) }
     ensures err { OnErr result (AppendsPart (O.held out.old) text.now (O.held out.new)) }
     ensures kind { IfErr result (IsEndOf OfSink) }
-    ensures cause { Caused Device.Out (O.fault_count out.old) (O.fault_count out.new) result }
+    ensures cause { Caused (IsFailureOf Device.Out) (O.fault_count out.old) (O.fault_count out.new)
+        result }
 {
     match out.write(text) {
         Ok(()) => Ok(()),

@@ -1,7 +1,8 @@
 ghost use Rattle.std.specs.Prelude.{◌≡◌, ◌≤◌, ◌⊎◌, IfOk, IfErr, OnOk, OnErr, IfSome, Some};
 ghost use Rattle.compiler.specs.Standing.{counts, HasSpentAtMost, SpendsAs};
+ghost use Rattle.outside.specs.Causes.{Caused};
 ghost use Rattle.publication.specs.Changing.{Tells};
-ghost use Rattle.site_build.specs.Ends.{Caused, Stopped};
+ghost use Rattle.site_build.specs.Ends.{IsFailureOf, Stopped};
 ghost use Rattle.site_build.specs.Session.{session_for, state_for, Finished, WritesEarly, TakesEarly, IsPassed, IsPerhapsOpened, Publishes, PublishesPart};
 ghost use Rattle.site_build.specs.declared.ends.Device.{Device};
 
@@ -59,11 +60,12 @@ pub fn build_site<R: Runner, S: Source, H: Shelf, O: Sink, L: Ledger>(
         (S.opened source.new) }
     ensures shelf_perhaps { IsPerhapsOpened work.now.out (H.opened shelf.old)
         (H.opened shelf.new) }
-    ensures source_cause { Caused Device.Source (S.fault_count source.old)
+    ensures source_cause { Caused (IsFailureOf Device.Source) (S.fault_count source.old)
         (S.fault_count source.new) result }
-    ensures shelf_cause { Caused Device.Shelf (H.fault_count shelf.old) (H.fault_count shelf.new)
-        result }
-    ensures out_cause { Caused Device.Out (O.fault_count out.old) (O.fault_count out.new) result }
+    ensures shelf_cause { Caused (IsFailureOf Device.Shelf) (H.fault_count shelf.old)
+        (H.fault_count shelf.new) result }
+    ensures out_cause { Caused (IsFailureOf Device.Out) (O.fault_count out.old)
+        (O.fault_count out.new) result }
 {
     open_source(source, work.source.as_str())?;
     open_shelf(shelf, work.out.as_str())?;

@@ -2,6 +2,7 @@ ghost use Rattle.std.specs.Prelude.{◌≡◌, ◌≤◌, ℕ, List, IfOk, OnOk,
 ghost use Rattle.compiler.specs.Compiler.{Compiled, compiler};
 ghost use Rattle.compiler.specs.Standing.{counts, IsIn, IsKept};
 ghost use Rattle.engine_turns.specs.States.{pictured};
+ghost use Rattle.outside.specs.Causes.{Caused};
 ghost use Rattle.outside.specs.Contents.{Appends, AppendsPart};
 ghost use Rattle.outside.specs.Lines.{NextLine};
 ghost use Rattle.outside.specs.declared.source.MemFile.{MemFile};
@@ -9,7 +10,7 @@ ghost use Rattle.pan_ast.specs.declared.work.Limits.{Limits};
 ghost use Rattle.publication.specs.Published.{Knows};
 ghost use Rattle.session.specs.Sessions.{started};
 ghost use Rattle.watch.specs.Steps.{spot};
-ghost use Rattle.watch.specs.Played.{Finished, Stopped, Caused, IsEndOf, reel};
+ghost use Rattle.watch.specs.Played.{Finished, Stopped, IsEndOf, reel};
 
 use crate::ends::End;
 use crate::step::{Step, work_on};
@@ -29,7 +30,8 @@ fn next_line<N: Lines>(lines: &mut N, into: &mut Vec<u8>) -> Result<bool, End>
         (N.left lines.new)) }
     ensures err { OnErr result (N.left lines.new ≡ N.left lines.old) }
     ensures kind { IfErr result (IsEndOf End.Lines) }
-    ensures cause { Caused End.Lines (N.fault_count lines.old) (N.fault_count lines.new) result }
+    ensures cause { Caused (λ e. e ≡ End.Lines) (N.fault_count lines.old) (N.fault_count lines.new)
+        result }
 {
     match lines.next(into) {
         Ok(more) => Ok(more),
@@ -42,7 +44,7 @@ fn write<O: Sink>(out: &mut O, text: &[u8]) -> Result<(), End>
     ensures ok { OnOk result (Appends (O.held out.old) text.now (O.held out.new)) }
     ensures err { OnErr result (AppendsPart (O.held out.old) text.now (O.held out.new)) }
     ensures kind { IfErr result (IsEndOf End.Out) }
-    ensures cause { Caused End.Out (O.fault_count out.old) (O.fault_count out.new) result }
+    ensures cause { Caused (λ e. e ≡ End.Out) (O.fault_count out.old) (O.fault_count out.new) result }
 {
     match out.write(text) {
         Ok(()) => Ok(()),
@@ -93,9 +95,10 @@ pub fn play<R: Runner, S: Source, H: Shelf, N: Lines, O: Sink, L: Ledger>(
         here)) }
     ensures source_opened { S.opened source.new ≡ S.opened source.old }
     ensures shelf_opened { H.opened shelf.new ≡ H.opened shelf.old }
-    ensures lines_cause { Caused End.Lines (N.fault_count lines.old) (N.fault_count lines.new)
+    ensures lines_cause { Caused (λ e. e ≡ End.Lines) (N.fault_count lines.old)
+        (N.fault_count lines.new) result }
+    ensures out_cause { Caused (λ e. e ≡ End.Out) (O.fault_count out.old) (O.fault_count out.new)
         result }
-    ensures out_cause { Caused End.Out (O.fault_count out.old) (O.fault_count out.new) result }
 {
     let mut line = Vec::new(alloc);
     let mut text = Vec::new(alloc);

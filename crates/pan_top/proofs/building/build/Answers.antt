@@ -2,11 +2,11 @@ use Rattle.std.proofs.Common.{inl, inr, refl}
 use Rattle.site_build.specs.Session.{WritesEarly, session_for}
 use Rattle.site_build.proofs.Finishing.{some_map}
 use Rattle.pan_top.specs.Builds.{Wrote}
-use Rattle.pan_top.proofs.Causing.{early_causes, out_rose, own_causes}
+use Rattle.pan_top.proofs.Counting.{counted_of}
 use Rattle.pan_top.proofs.building.build.Goals as goal
 
-pub returns-in-Ok-clause-call : goal.returns-in-Ok-clause-call
-returns-in-Ok-clause-call g c = λ lines count. record {
+pub returns-in-Ok : goal.returns-in-Ok
+returns-in-Ok g c = λ lines count. record {
   session = inl (record {
     ended = c.in-Ok.ended;
     is = c.after.ensures;
@@ -24,11 +24,8 @@ returns-in-Ok-clause-call g c = λ lines count. record {
   lines_count = refl;
 }
 
-pub returns-in-Ok-clause-causes : goal.returns-in-Ok-clause-causes
-returns-in-Ok-clause-causes g c = λ lines count. own_causes c.in-Ok.ended c.after.result _ _ c.after.ensures
-
-pub returns-in-Err-clause-call : goal.returns-in-Err-clause-call
-returns-in-Err-clause-call g c =
+pub returns-in-Err : goal.returns-in-Err
+returns-in-Err g c =
     let M = g.R.Runner.meaning in
     let w = c.args.work.now in
     let e = c.in-Err.end in
@@ -46,10 +43,10 @@ returns-in-Err-clause-call g c =
         taken = c.in-Err.ensures.pictures;
         source_opened = c.in-Err.ensures.source_perhaps;
         shelf_opened = c.in-Err.ensures.shelf_perhaps;
+        source_count = counted_of e _ _ c.in-Err.ensures.source_cause;
+        shelf_count = counted_of e _ _ c.in-Err.ensures.shelf_cause;
+        out_count = c.close_build.ensures.count (g.O.Sink.fault_count c.args.out.now) (counted_of e _ _ c.in-Err.ensures.out_cause);
       });
       lines = refl;
       lines_count = refl;
     }
-
-pub returns-in-Err-clause-causes : goal.returns-in-Err-clause-causes
-returns-in-Err-clause-causes g c = λ lines count. early_causes c.in-Err.end c.close_build.result _ _ c.close_build.ensures.status c.in-Err.ensures.source_cause.rose c.in-Err.ensures.shelf_cause.rose (λ is. out_rose (g.O.Sink.fault_count c.args.out.now) (g.O.Sink.fault_count c.build_site.new.out) (g.O.Sink.fault_count c.close_build.new.out) c.in-Err.ensures.out_cause.later c.close_build.ensures.later c.in-Err.ensures.out_cause.rose (c.close_build.ensures.cause is))

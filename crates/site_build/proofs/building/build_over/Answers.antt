@@ -1,12 +1,12 @@
 use Rattle.std.proofs.Common.{IfErr, IfSome, subst, rules}
-use Rattle.std.proofs.lemmas.Result.{IfOk-weaker}
+use Rattle.std.proofs.lemmas.Result.{IfOk-weaker, on_err_weaker, on_ok_weaker}
 use Rattle.publication.proofs.Planning.{on_err}
 use Rattle.compiler.specs.Compiler.{nothing}
 use Rattle.compiler.specs.Standing.{counts, HasSpentAtMost, IsIn}
 use Rattle.site_build.specs.Ends.{IsEndOf, OfSource, Stopped}
 use Rattle.site_build.specs.Rounds.{Reaches, MadeOver, BegunOver, session_at}
 use Rattle.site_build.specs.Session.{Finished, WritesEarly, limits_of, session_for, state_for}
-use Rattle.site_build.proofs.Ending.{source_stopped, uncaused_shelf, uncaused_out, uncaused_source, on_ok, if_err}
+use Rattle.site_build.proofs.Ending.{source_stopped, uncaused_shelf, uncaused_out, uncaused_source}
 use Rattle.site_build.proofs.Finishing.{comes_to, comes_ok, comes_err, spent_ok, spent_err, cut_none}
 use Rattle.site_build.proofs.Taking.{round_takes}
 use Rattle.site_build.proofs.building.build_over.Goals as goal
@@ -116,7 +116,7 @@ returns-clause-made g c =
     let held' = g.O.Sink.held c.finish.new.out in
     let changes = g.H.Shelf.changes c.args.shelf.now in
     let changes' = g.H.Shelf.changes c.finish.new.shelf in
-    on_ok c.finish.result c.finish.ensures.made (λ made told. comes_to M work how last before now (λ s. MadeOver s.wants c.args.listed.now old new changes changes') coming reaches (made told))
+    on_ok_weaker c.finish.result (λ made told. comes_to M work how last before now (λ s. MadeOver s.wants c.args.listed.now old new changes changes') coming reaches (made told)) c.finish.ensures.made
 
 pub returns-clause-begun : goal.returns-clause-begun
 returns-clause-begun g c =
@@ -137,7 +137,7 @@ returns-clause-begun g c =
     let held' = g.O.Sink.held c.finish.new.out in
     let changes = g.H.Shelf.changes c.args.shelf.now in
     let changes' = g.H.Shelf.changes c.finish.new.shelf in
-    if_err c.finish.result c.finish.ensures.begun (λ begun told. comes_to M work how last before now (λ s. BegunOver s.wants c.args.listed.now old new changes changes') coming reaches (begun told))
+    on_err_weaker c.finish.result (λ begun told. comes_to M work how last before now (λ s. BegunOver s.wants c.args.listed.now old new changes changes') coming reaches (begun told)) c.finish.ensures.begun
 
 pub returns-clause-spent : goal.returns-clause-spent
 returns-clause-spent g c =

@@ -9,7 +9,8 @@ use Rattle.session.specs.Sessions.{shown_of, deps_of, writes}
 use Rattle.session.specs.Texts.{about, outcome_text, deps_text}
 use Rattle.watch.proofs.Going.{tells_of, quits}
 use Rattle.watch.specs.Steps.{Worked}
-use Rattle.watch.proofs.Working.{if_err, worked_nothing}
+use Rattle.std.proofs.lemmas.Result.{on_err_weaker}
+use Rattle.watch.proofs.Working.{worked_nothing}
 use Rattle.watch.proofs.step.work_on.Goals as goal
 
 pub returns-in-Quit-clause-went : goal.returns-in-Quit-clause-went
@@ -61,10 +62,10 @@ returns-in_err-bad_line-in-BadLine-clause-work g c = on_err c.from_residual-in_e
     worked_nothing (compiler (g.R.Runner.meaning dirs limits) dirs) (order_of c.args.line.now) s began (counts (g.R.Runner.runs_of c.args.runner.now) c.args.steps.now) BadLine c.in-BadLine.ensures (λ line. record { in_runs = omega arith; in_steps = omega arith }) at.spent)
 
 pub returns-in-Scan-clause-work : goal.returns-in-Scan-clause-work
-returns-in-Scan-clause-work g c = if_err c.scan_line.result (λ work dirs limits s began at coming. subst (λ order. Worked (compiler (g.R.Runner.meaning dirs limits) dirs) order s began (counts (g.R.Runner.runs_of c.scan_line.new.runner) c.scan_line.new.steps)) c.in-Scan.ensures (work dirs limits s began at coming)) c.scan_line.ensures.work
+returns-in-Scan-clause-work g c = on_err_weaker c.scan_line.result (λ work dirs limits s began at coming. subst (λ order. Worked (compiler (g.R.Runner.meaning dirs limits) dirs) order s began (counts (g.R.Runner.runs_of c.scan_line.new.runner) c.scan_line.new.steps)) c.in-Scan.ensures (work dirs limits s began at coming)) c.scan_line.ensures.work
 
 pub returns-in-Turns-clause-work : goal.returns-in-Turns-clause-work
-returns-in-Turns-clause-work g c = if_err c.turn_line.result (λ work dirs limits s began at coming. subst (λ order. Worked (compiler (g.R.Runner.meaning dirs limits) dirs) order s began (counts (g.R.Runner.runs_of c.turn_line.new.runner) c.turn_line.new.steps)) c.in-Turns.ensures (work dirs limits s began at)) c.turn_line.ensures.work
+returns-in-Turns-clause-work g c = on_err_weaker c.turn_line.result (λ work dirs limits s began at coming. subst (λ order. Worked (compiler (g.R.Runner.meaning dirs limits) dirs) order s began (counts (g.R.Runner.runs_of c.turn_line.new.runner) c.turn_line.new.steps)) c.in-Turns.ensures (work dirs limits s began at)) c.turn_line.ensures.work
 
 pub returns-in-Build-clause-work : goal.returns-in-Build-clause-work
-returns-in-Build-clause-work g c = if_err c.build_line.result (λ work dirs limits s began at coming. subst (λ order. Worked (compiler (g.R.Runner.meaning dirs limits) dirs) order s began (counts (g.R.Runner.runs_of c.build_line.new.runner) c.build_line.new.steps)) c.in-Build.ensures (work dirs limits s began at coming)) c.build_line.ensures.work
+returns-in-Build-clause-work g c = on_err_weaker c.build_line.result (λ work dirs limits s began at coming. subst (λ order. Worked (compiler (g.R.Runner.meaning dirs limits) dirs) order s began (counts (g.R.Runner.runs_of c.build_line.new.runner) c.build_line.new.steps)) c.in-Build.ensures (work dirs limits s began at coming)) c.build_line.ensures.work

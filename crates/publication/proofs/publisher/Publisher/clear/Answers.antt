@@ -6,7 +6,8 @@ use Rattle.publication.specs.Wants.{wants_of, goes}
 use Rattle.publication.proofs.Proper.{and_left, and_right}
 use Rattle.publication.proofs.Clearing.{sweep_step, goes_own}
 use Rattle.publication.proofs.Logging.{removes_both}
-use Rattle.publication.proofs.Ending.{on_err, clearing_ended}
+use Rattle.publication.proofs.Planning.{on_err}
+use Rattle.publication.proofs.Ending.{clearing_ended}
 use Rattle.publication.proofs.publisher.Publisher.clear.Goals as goal
 
 pub sweep-requires-clause-own : goal.sweep-requires-clause-own
