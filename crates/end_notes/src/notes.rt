@@ -38,6 +38,7 @@ fn push_wrong(into: &mut Vec<u8>, wrong: &Wrong) -> Result<(), AllocError>
         Wrong::Extra(word) => push_parts(into, "one word too many: ", word.as_str()),
         Wrong::BadMode(word) => push_parts(into, "no such MODE: ", word.as_str()),
         Wrong::Empty(place) => push_parts(into, place_name(*place), " is empty"),
+        Wrong::NotUtf8 => into.extend_from_slice(b"a word is not UTF-8"),
         Wrong::Otherwise => into.extend_from_slice(b"the words are no command"),
     }
 }

@@ -26,6 +26,8 @@ pub enum Wrong {
     BadMode(Text),
     /// SOURCE or OUT is the empty word.
     Empty(Place),
+    /// A word is not UTF-8, so the words could not be read.
+    NotUtf8,
     /// Something else, as an option that is given twice, or a demo of no machines.
     Otherwise,
 }

@@ -32,21 +32,23 @@ fn run<L: Ledger>(rt: &HostRuntime, blank: Blank) -> Result<Status, AllocError>
     requires parts { blank.parts ≡ L.parts }
     requires some { 0 < blank.parts }
 {
-    let words = match words(rt) {
-        Ok(words) => words,
+    let read = match words(rt) {
+        Ok(words) => Some(words),
         Err(error) if error.kind() == io::ErrorKind::OutOfMemory => return Err(AllocError),
-        // A word that is not UTF-8 is no word of a command.
-        Err(_) => Vec::new(rt.alloc()),
+        Err(_) => None,
     };
+    let none = Vec::new(rt.alloc());
+    // Words of which one is not UTF-8 are no command.
+    let words = read.as_ref().unwrap_or(&none);
     let mut runner = Library::new(rt.alloc());
     let mut source = HostSource::new(rt.clone()?);
-    let mut shelf = HostShelf::new(rt.clone()?, asked_of(rt.alloc(), &words)?);
+    let mut shelf = HostShelf::new(rt.clone()?, asked_of(rt.alloc(), words)?);
     let mut lines = HostLines::new(rt.reader());
     let mut out = KeepingSink::new(rt.alloc(), HostSink::new(rt.stdout()));
     let mut steps = Steps::<L>::new(blank);
     let status = pan(
         rt.alloc(),
-        &words,
+        words,
         &mut runner,
         &mut source,
         &mut shelf,
@@ -55,11 +57,12 @@ fn run<L: Ledger>(rt: &HostRuntime, blank: Blank) -> Result<Status, AllocError>
         &mut steps,
     );
     let told = Told {
+        words: read.as_ref(),
         source: source.trouble(),
         shelf: shelf.trouble(),
         faults: out.fault_lines(),
     };
-    write_notes(rt, &words, status, &told);
+    write_notes(rt, status, &told);
     Ok(status)
 }
 

@@ -1,7 +1,7 @@
 use base::limits::MAX_FILE_BYTES;
 use base::{Bytes, Text};
 use command_words::{Command, read_command};
-use end_notes::{trouble_note, usage_note, wrong_of};
+use end_notes::{Wrong, trouble_note, usage_note, wrong_of};
 use fault_notes::{Colours, Repeated, file_in, note_of, report_of, rest_of};
 use outside::Trouble;
 use pan_top::Status;
@@ -11,9 +11,11 @@ use std::fs::File;
 use std::io::{IsTerminal, Read, Write};
 use std::{env, io};
 
-/// What the devices tell of a call that ended.
+/// What the words and the devices tell of a call that ended.
 #[derive(Drop)]
 pub struct Told<'a> {
+    /// The program's words; none where one of them is not UTF-8.
+    pub words: Option<&'a Vec<Text>>,
     /// Why the source failed last.
     pub source: Option<&'a Trouble>,
     /// Why the shelf failed last.
@@ -83,20 +85,28 @@ fn trouble_notes(rt: &HostRuntime, trouble: Option<&Trouble>) -> Result<Vec<u8>,
     trouble_note(rt.alloc(), trouble.path.as_str(), trouble.reason.as_str())
 }
 
-fn notes_on(
-    rt: &HostRuntime,
-    words: &[Text],
-    status: Status,
-    told: &Told<'_>,
-) -> Result<Vec<u8>, AllocError> {
-    match status {
-        Status::Usage => usage_note(rt.alloc(), &wrong_of(rt.alloc(), words)?),
-        Status::SourceFault => trouble_notes(rt, told.source),
-        Status::ShelfFault => trouble_notes(rt, told.shelf),
-        Status::SomeFaults => match read_command(rt.alloc(), words)? {
-            Some(Command::Build(work)) => fault_notes(rt, work.source.as_str(), told.faults),
-            _ => Ok(Vec::new(rt.alloc())),
-        },
+/// The notes on the faults of a build; nothing where the words are another command.
+fn build_notes(rt: &HostRuntime, words: &[Text], faults: &[Bytes]) -> Result<Vec<u8>, AllocError> {
+    match read_command(rt.alloc(), words)? {
+        Some(Command::Build(work)) => fault_notes(rt, work.source.as_str(), faults),
+        _ => Ok(Vec::new(rt.alloc())),
+    }
+}
+
+/// What is wrong with words that are no command.
+fn wrong_in(rt: &HostRuntime, words: Option<&Vec<Text>>) -> Result<Wrong, AllocError> {
+    match words {
+        Some(words) => wrong_of(rt.alloc(), words),
+        None => Ok(Wrong::NotUtf8),
+    }
+}
+
+fn notes_on(rt: &HostRuntime, status: Status, told: &Told<'_>) -> Result<Vec<u8>, AllocError> {
+    match (status, told.words) {
+        (Status::Usage, words) => usage_note(rt.alloc(), &wrong_in(rt, words)?),
+        (Status::SourceFault, _) => trouble_notes(rt, told.source),
+        (Status::ShelfFault, _) => trouble_notes(rt, told.shelf),
+        (Status::SomeFaults, Some(words)) => build_notes(rt, words, told.faults),
         _ => Ok(Vec::new(rt.alloc())),
     }
 }
@@ -104,12 +114,12 @@ fn notes_on(
 /// Writes to standard error what a reader wants to know of a call that ended: of a build the meaning and the place of
 /// each fault, of a failed device the path and the reason, of wrong words the word and the usage. Nothing where the
 /// variable PAN_NOTES is `off`, and where memory is wanting; the status stays as it is.
-pub fn write_notes(rt: &HostRuntime, words: &[Text], status: Status, told: &Told<'_>) {
+pub fn write_notes(rt: &HostRuntime, status: Status, told: &Told<'_>) {
     match variable(rt, "PAN_NOTES") {
         Ok(value) if value.as_str() != "off" => {}
         _ => return,
     }
-    if let Ok(notes) = notes_on(rt, words, status, told) {
+    if let Ok(notes) = notes_on(rt, status, told) {
         let _ = rt.stderr().write_all(&notes);
     }
 }
