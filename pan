@@ -21,8 +21,8 @@ has a profile, 1 where one has a fault, and more where something failed.
 
 These are the script's own, and stand first:
 
-  ./pan --try WORDS                   compiles the program without any proof, in five to ten minutes each time, and
-                                      runs it (a watcher's lines then come from a file: < FILE)
+  ./pan --try WORDS                   compiles the program without any proof, in three to ten minutes each time, and
+                                      runs it slowly (a watcher's lines then come from a file: < FILE)
   ./pan --build-only                  proves and builds the program, and runs nothing
   ./pan --version                     the kit that it is proved with
   ./pan --help                        this text
@@ -96,15 +96,23 @@ build() {
   trap - EXIT
 }
 
-# The program's folders as absolute paths: it is tried in a folder of its own.
+# The program's folders as absolute paths: it is tried in a folder of its own. A source that is missing is told before
+# the program is compiled.
 try() {
   local words=("$@") place
+  case ${1:-} in build | watch)
+    case ${2:-} in
+      '' | -*) ;;
+      *) if [ ! -d "$2" ]; then echo "source fault"; say "$2 is no folder"; exit 3; fi ;;
+    esac ;;
+  esac
   if [ "${1:-}" != demo ]; then
     for place in 1 2; do
       case ${words[place]:-} in '' | -* | /*) ;; *) words[place]=$PWD/${words[place]} ;; esac
     done
   fi
   say "this run is not proved: ./pan --build-only proves and builds the program"
+  say "compiling it without proofs takes some minutes; what it writes is shown when it has ended"
   cd "$top/crates/pan"
   exec rt try pan --seconds 600 -- "${words[@]}"
 }
@@ -121,9 +129,9 @@ has_mode() {
 case ${1:-} in
   --help) help; exit 0 ;;
   --version) need_rt; echo "pan, proved with $(rt version)"; exit 0 ;;
-  --try) need_rt; shift; try "$@" ;;
 esac
 if [ "${1:-}" != "--build-only" ] && ! has_mode "$@"; then echo "usage fault"; help >&2; exit 2; fi
+if [ "${1:-}" = "--try" ]; then need_rt; shift; try "$@"; fi
 if stale; then need_rt; build; fi
 if [ "${1:-}" = "--build-only" ]; then exit 0; fi
 exec "$program" "$@"
