@@ -1,4 +1,6 @@
 pub mod Loops
+pub mod Found
+pub mod Kept
 pub mod Replays
 pub mod Lawful
 pub mod Rows

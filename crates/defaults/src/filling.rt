@@ -1,6 +1,6 @@
-ghost use Rattle.std.specs.Prelude.{◌≡◌, ◌+◌, ◌++◌, ◌∷◌, [], OnOk, IfOk, Some};
+ghost use Rattle.std.specs.Prelude.{◌≡◌, ◌+◌, ◌++◌, ◌∷◌, [], OnOk, IfOk, Some, length, option_copied};
 ghost use Rattle.path_tree.specs.Children.{child_fields, child_items};
-ghost use Rattle.path_tree.specs.Find.{item_count, key_at, kind_of};
+ghost use Rattle.path_tree.specs.Find.{child, get, item_count, key_at, kind_of};
 ghost use Rattle.path_tree.specs.declared.kind.Kind.TheVariants as kind;
 ghost use Rattle.path_tree.specs.declared.path.Term.TheVariants as term;
 ghost use Rattle.type_defs.specs.Resolved.{fields_of};
@@ -8,10 +8,10 @@ ghost use Rattle.type_defs.specs.ResolvedSeen.{field_seen, resolved_seen, shape_
 ghost use Rattle.type_defs.specs.Tables.{all_seen};
 ghost use Rattle.defaults.specs.Filled.{fields_filled, filled, filled_inside, items_filled, values_filled, visited, where_dict};
 ghost use Rattle.defaults.specs.Fills.{Fills, target_store};
-ghost use Rattle.defaults.specs.Steps.{entry_filled};
+ghost use Rattle.defaults.specs.Steps.{IsKnown, entry_filled};
 
-use crate::putting::put_default;
-use crate::target::{Target, take_step};
+use crate::putting::{is_missing, put_missing};
+use crate::target::{Target, copied, take_step};
 use base::Steps;
 use pan_ast::{Failure, Place};
 use path_tree::{Kind, Term, Tree};
@@ -29,28 +29,38 @@ fn item_total(value: &Tree) -> usize
     }
 }
 
-/// Fills what stands at the path by a type, for a binding at the place.
+/// Fills what stands at the path by a type, for a binding at the place. What is found there comes
+/// along, so that no visit looks it up from the root.
 #[cycle(filling)]
-#[tactic(auto, using(type_defs::proofs::Shapes::seen_resolved))]
+#[tactic(auto, using(type_defs::proofs::Shapes::seen_resolved), unfolding(crate::specs::Filled::defaulted))]
 pub(crate) fn fill_value<L: Ledger>(
     alloc: Global,
     place: &Place,
     resolved: &Resolved,
+    found: Option<&Tree>,
     target: &mut Target,
     steps: &mut Steps<L>,
 ) -> Result<(), Failure>
+    requires found { option_copied found ≡ get target.now.path.items target.now.tree }
     ensures path { OnOk result (target.new.path.items ≡ target.old.path.items) }
     ensures fills { Fills result (target_store target.old) target.old.work
         (target_store target.new) target.new.work
         (filled place.now (resolved_seen resolved.now) target.old.path.items) }
     ensures counted { steps.new + target.new.work.left ≡ steps.old + target.old.work.left }
 {
-    put_default(alloc, place, &resolved.default, target)?;
-    let Some(value) = target.tree.get(&target.path) else {
-        return Ok(());
-    };
-    let value = value.copy()?;
-    fill_present(alloc, place, &resolved.shape, &value, target, steps)
+    if let Some(default) = &resolved.default {
+        if is_missing(found) {
+            put_missing(alloc, place, default, target)?;
+            let Some(value) = target.standing()? else {
+                return Ok(());
+            };
+            return fill_present(alloc, place, &resolved.shape, &value, target, steps);
+        }
+    }
+    match found {
+        None => Ok(()),
+        Some(value) => fill_present(alloc, place, &resolved.shape, value, target, steps),
+    }
 }
 
 /// Visits a value that is there.
@@ -63,6 +73,7 @@ fn fill_present<L: Ledger>(
     target: &mut Target,
     steps: &mut Steps<L>,
 ) -> Result<(), Failure>
+    requires standing { Some value.now ≡ get target.now.path.items target.now.tree }
     ensures path { OnOk result (target.new.path.items ≡ target.old.path.items) }
     ensures fills { Fills result (target_store target.old) target.old.work
         (target_store target.new) target.new.work (visited place.now
@@ -85,6 +96,7 @@ fn fill_shape<L: Ledger>(
     target: &mut Target,
     steps: &mut Steps<L>,
 ) -> Result<(), Failure>
+    requires standing { Some value.now ≡ get target.now.path.items target.now.tree }
     ensures path { OnOk result (target.new.path.items ≡ target.old.path.items) }
     ensures fills { Fills result (target_store target.old) target.old.work
         (target_store target.new) target.new.work
@@ -93,12 +105,9 @@ fn fill_shape<L: Ledger>(
 {
     match shape {
         Shape::Base(_) => Ok(()),
-        Shape::Named(inner) => fill_value(alloc, place, inner, target, steps),
-        Shape::Ranged(inner, _) => fill_value(alloc, place, inner, target, steps),
-        Shape::ListOf(inner, _) => {
-            let count = item_total(value);
-            fill_items(alloc, place, inner, count, target, steps)
-        }
+        Shape::Named(inner) => fill_value(alloc, place, inner, Some(value), target, steps),
+        Shape::Ranged(inner, _) => fill_value(alloc, place, inner, Some(value), target, steps),
+        Shape::ListOf(inner, _) => fill_items(alloc, place, inner, value, target, steps),
         Shape::DictOf(inner, _) => fill_dict(alloc, place, inner, value, target, steps),
         Shape::Link(_) => Ok(()),
         Shape::Record {
@@ -109,25 +118,30 @@ fn fill_shape<L: Ledger>(
     }
 }
 
+/// Fills the items of a value, the first first.
 #[cycle(filling)]
 #[tactic(auto, using(crate::proofs::Loops::items_more, crate::proofs::Loops::items_end))]
 fn fill_items<L: Ledger>(
     alloc: Global,
     place: &Place,
     inner: &Resolved,
-    count: usize,
+    value: &Tree,
     target: &mut Target,
     steps: &mut Steps<L>,
 ) -> Result<(), Failure>
+    requires standing { Some value.now ≡ get target.now.path.items target.now.tree }
     ensures path { OnOk result (target.new.path.items ≡ target.old.path.items) }
     ensures fills { Fills result (target_store target.old) target.old.work
-        (target_store target.new) target.new.work
-        (items_filled (filled place.now (resolved_seen inner.now)) target.old.path.items 0 count) }
+        (target_store target.new) target.new.work (items_filled
+        (filled place.now (resolved_seen inner.now)) target.old.path.items 0
+        (item_count (child_items value.now))) }
     ensures counted { steps.new + target.new.work.left ≡ steps.old + target.old.work.left }
 {
+    let count = item_total(value);
+    let mut whole = Some(value.copy()?);
     for i in 0..count {
         let term = index_term(i)?;
-        fill_below(alloc, place, inner, term, target, steps)?;
+        fill_below(alloc, place, inner, term, &mut whole, target, steps)?;
     }
     Ok(())
 }
@@ -142,16 +156,68 @@ fn index_term(i: usize) -> Result<Term, AllocError>
     }
 }
 
+/// The item of a list at an index.
+#[tactic(auto, using(crate::proofs::Found::an_item, crate::proofs::Found::no_item))]
+fn item_at(value: &Tree, i: u32) -> Option<&Tree>
+    ensures { option_copied result ≡ child (term.Index i) value.now }
+{
+    match value.kind() {
+        Kind::List => value.child_at(i as usize),
+        _ => None,
+    }
+}
+
+/// What a term finds in a value.
+fn found_in<'a>(value: &'a Tree, term: &Term) -> Option<&'a Tree>
+    ensures { option_copied result ≡ child term.now value.now }
+{
+    match term {
+        Term::Key(key) => value.field(key.as_str()),
+        Term::Index(i) => item_at(value, *i),
+    }
+}
+
+/// Goes one term below the path, to what stands there: in the value at the path where that is
+/// known, else from the root.
+#[tactic(auto, using(path_tree::proofs::Growing::get_push))]
+fn go_below(
+    whole: &Option<Tree>,
+    term: Term,
+    target: &mut Target,
+) -> Result<Option<Tree>, AllocError>
+    requires known { IsKnown whole.now target.now.path.items target.now.tree }
+    ensures path { OnOk result (target.new.path.items ≡ target.old.path.items ++ term ∷ []) }
+    ensures tree { target.new.tree ≡ target.old.tree }
+    ensures log { target.new.log ≡ target.old.log }
+    ensures work { target.new.work ≡ target.old.work }
+    ensures found { IfOk result (λ v. v
+        ≡ get (target.old.path.items ++ term ∷ []) target.old.tree) }
+{
+    match whole {
+        Some(value) => {
+            let found = copied(found_in(value, &term))?;
+            target.path.push(term)?;
+            Ok(found)
+        }
+        None => {
+            target.path.push(term)?;
+            target.standing()
+        }
+    }
+}
+
 /// Fills what stands one term below the path.
 #[cycle(filling)]
-fn fill_below<L: Ledger>(
+fn fill_term<L: Ledger>(
     alloc: Global,
     place: &Place,
     inner: &Resolved,
     term: Term,
+    whole: &Option<Tree>,
     target: &mut Target,
     steps: &mut Steps<L>,
 ) -> Result<(), Failure>
+    requires known { IsKnown whole.now target.now.path.items target.now.tree }
     ensures path { OnOk result (target.new.path.items ≡ target.old.path.items) }
     ensures fills { Fills result (target_store target.old) target.old.work
         (target_store target.new) target.new.work
@@ -159,9 +225,46 @@ fn fill_below<L: Ledger>(
     ensures counted { steps.new + target.new.work.left ≡ steps.old + target.old.work.left }
 {
     let length = target.path.len();
-    target.path.push(term)?;
-    fill_value(alloc, place, inner, target, steps)?;
+    let found = go_below(whole, term, target)?;
+    fill_value(alloc, place, inner, found.as_ref(), target, steps)?;
     target.path.truncate(length);
+    Ok(())
+}
+
+/// Forgets what stood at the path, where the log has grown. It is not looked up again, as it would
+/// be shared then, and each default that is put below would copy it.
+fn forget(whole: &mut Option<Tree>, logged: usize, target: &Target)
+    requires { length target.now.log.items ≡ logged
+        → IsKnown whole.now target.now.path.items target.now.tree }
+    ensures { IsKnown whole.new target.now.path.items target.now.tree }
+{
+    if target.log.len() != logged {
+        *whole = None;
+    }
+}
+
+/// Fills what stands one term below the path, where `whole` stands at the path, if it is known.
+#[cycle(filling)]
+fn fill_below<L: Ledger>(
+    alloc: Global,
+    place: &Place,
+    inner: &Resolved,
+    term: Term,
+    whole: &mut Option<Tree>,
+    target: &mut Target,
+    steps: &mut Steps<L>,
+) -> Result<(), Failure>
+    requires known { IsKnown whole.now target.now.path.items target.now.tree }
+    ensures path { OnOk result (target.new.path.items ≡ target.old.path.items) }
+    ensures known { OnOk result (IsKnown whole.new target.new.path.items target.new.tree) }
+    ensures fills { Fills result (target_store target.old) target.old.work
+        (target_store target.new) target.new.work
+        (filled place.now (resolved_seen inner.now) (target.old.path.items ++ term ∷ [])) }
+    ensures counted { steps.new + target.new.work.left ≡ steps.old + target.old.work.left }
+{
+    let logged = target.log.len();
+    fill_term(alloc, place, inner, term, whole, target, steps)?;
+    forget(whole, logged, target);
     Ok(())
 }
 
@@ -175,6 +278,7 @@ fn fill_dict<L: Ledger>(
     target: &mut Target,
     steps: &mut Steps<L>,
 ) -> Result<(), Failure>
+    requires standing { Some value.now ≡ get target.now.path.items target.now.tree }
     ensures path { OnOk result (target.new.path.items ≡ target.old.path.items) }
     ensures fills { Fills result (target_store target.old) target.old.work
         (target_store target.new) target.new.work
@@ -198,7 +302,8 @@ fn fill_values<L: Ledger>(
     target: &mut Target,
     steps: &mut Steps<L>,
 ) -> Result<(), Failure>
-    requires { kind_of value.now ≡ kind.Dict }
+    requires dict { kind_of value.now ≡ kind.Dict }
+    requires standing { Some value.now ≡ get target.now.path.items target.now.tree }
     ensures path { OnOk result (target.new.path.items ≡ target.old.path.items) }
     ensures fills { Fills result (target_store target.old) target.old.work
         (target_store target.new) target.new.work
@@ -206,8 +311,9 @@ fn fill_values<L: Ledger>(
         (child_fields value.now)) }
     ensures counted { steps.new + target.new.work.left ≡ steps.old + target.old.work.left }
 {
+    let mut whole = Some(value.copy()?);
     for i in 0..value.len() {
-        fill_entry(alloc, place, inner, value, i, target, steps)?;
+        fill_entry(alloc, place, inner, value, i, &mut whole, target, steps)?;
     }
     Ok(())
 }
@@ -221,10 +327,13 @@ fn fill_entry<L: Ledger>(
     inner: &Resolved,
     value: &Tree,
     i: usize,
+    whole: &mut Option<Tree>,
     target: &mut Target,
     steps: &mut Steps<L>,
 ) -> Result<(), Failure>
+    requires known { IsKnown whole.now target.now.path.items target.now.tree }
     ensures path { OnOk result (target.new.path.items ≡ target.old.path.items) }
+    ensures known { OnOk result (IsKnown whole.new target.new.path.items target.new.tree) }
     ensures fills { Fills result (target_store target.old) target.old.work
         (target_store target.new) target.new.work
         (entry_filled (filled place.now (resolved_seen inner.now)) target.old.path.items
@@ -235,7 +344,7 @@ fn fill_entry<L: Ledger>(
         return Ok(());
     };
     let term = Term::Key(key.share()?);
-    fill_below(alloc, place, inner, term, target, steps)
+    fill_below(alloc, place, inner, term, whole, target, steps)
 }
 
 #[cycle(filling)]
@@ -248,6 +357,7 @@ fn fill_record<L: Ledger>(
     target: &mut Target,
     steps: &mut Steps<L>,
 ) -> Result<(), Failure>
+    requires standing { Some value.now ≡ get target.now.path.items target.now.tree }
     ensures path { OnOk result (target.new.path.items ≡ target.old.path.items) }
     ensures fills { Fills result (target_store target.old) target.old.work
         (target_store target.new) target.new.work (where_dict value.now
@@ -255,7 +365,7 @@ fn fill_record<L: Ledger>(
     ensures counted { steps.new + target.new.work.left ≡ steps.old + target.old.work.left }
 {
     match value.kind() {
-        Kind::Dict => fill_fields(alloc, place, fields, target, steps),
+        Kind::Dict => fill_fields(alloc, place, fields, value, target, steps),
         _ => Ok(()),
     }
 }
@@ -266,17 +376,20 @@ fn fill_fields<L: Ledger>(
     alloc: Global,
     place: &Place,
     fields: &[RecordField],
+    value: &Tree,
     target: &mut Target,
     steps: &mut Steps<L>,
 ) -> Result<(), Failure>
+    requires standing { Some value.now ≡ get target.now.path.items target.now.tree }
     ensures path { OnOk result (target.new.path.items ≡ target.old.path.items) }
     ensures fills { Fills result (target_store target.old) target.old.work
         (target_store target.new) target.new.work
         (fields_filled place.now (fields_of (all_seen fields.now)) target.old.path.items) }
     ensures counted { steps.new + target.new.work.left ≡ steps.old + target.old.work.left }
 {
+    let mut whole = Some(value.copy()?);
     for field in fields {
-        fill_field(alloc, place, field, target, steps)?;
+        fill_field(alloc, place, field, &mut whole, target, steps)?;
     }
     Ok(())
 }
@@ -287,10 +400,13 @@ fn fill_field<L: Ledger>(
     alloc: Global,
     place: &Place,
     field: &RecordField,
+    whole: &mut Option<Tree>,
     target: &mut Target,
     steps: &mut Steps<L>,
 ) -> Result<(), Failure>
+    requires known { IsKnown whole.now target.now.path.items target.now.tree }
     ensures path { OnOk result (target.new.path.items ≡ target.old.path.items) }
+    ensures known { OnOk result (IsKnown whole.new target.new.path.items target.new.tree) }
     ensures fills { Fills result (target_store target.old) target.old.work
         (target_store target.new) target.new.work
         (filled place.now (field_seen field.now).resolved
@@ -298,5 +414,5 @@ fn fill_field<L: Ledger>(
     ensures counted { steps.new + target.new.work.left ≡ steps.old + target.old.work.left }
 {
     let term = Term::Key(field.key.share()?);
-    fill_below(alloc, place, &field.resolved, term, target, steps)
+    fill_below(alloc, place, &field.resolved, term, whole, target, steps)
 }

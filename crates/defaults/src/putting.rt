@@ -11,7 +11,7 @@ use std::alloc::{AllocError, Global};
 use type_defs::{DefaultValue, push_terms};
 
 /// Whether a value is absent or undef.
-fn is_missing(found: Option<&Tree>) -> bool
+pub(crate) fn is_missing(found: Option<&Tree>) -> bool
     ensures { result ≡ is_missing (option_copied found.entry) }
 {
     match found {
@@ -42,7 +42,7 @@ fn default_change(
 /// Puts a default where the value is missing, and logs it. A place to which no walk leads is left
 /// as it is.
 #[tactic(auto, unfolding(crate::specs::Filled::defaulted))]
-fn put_missing(
+pub(crate) fn put_missing(
     alloc: Global,
     place: &Place,
     default: &DefaultValue,
@@ -67,29 +67,5 @@ fn put_missing(
         Err(PutError::KeyInList) => Ok(()),
         Err(PutError::IndexInDict) => Ok(()),
         Err(PutError::Memory) => Err(Failure::Memory),
-    }
-}
-
-/// Puts the default of a type, if it has one, where the value is missing.
-#[tactic(auto, unfolding(crate::specs::Filled::defaulted))]
-pub(crate) fn put_default(
-    alloc: Global,
-    place: &Place,
-    default: &Option<DefaultValue>,
-    target: &mut Target,
-) -> Result<(), Failure>
-    ensures path { target.new.path ≡ target.old.path }
-    ensures work { target.new.work ≡ target.old.work }
-    ensures fills { Fills result (target_store target.old) target.old.work
-        (target_store target.new) target.new.work
-        (defaulted place.now default.now target.old.path.items) }
-{
-    let Some(default) = default else {
-        return Ok(());
-    };
-    if is_missing(target.tree.get(&target.path)) {
-        put_missing(alloc, place, default, target)
-    } else {
-        Ok(())
     }
 }

@@ -1,12 +1,13 @@
-ghost use Rattle.std.specs.Prelude.{◌≡◌, ◌+◌};
+ghost use Rattle.std.specs.Prelude.{◌≡◌, ◌+◌, IfOk, option_copied};
 ghost use Rattle.pan_ast.specs.Detail.{fault_at};
+ghost use Rattle.path_tree.specs.Find.{get};
 ghost use Rattle.defaults.specs.Filled.{visit};
 ghost use Rattle.defaults.specs.Fills.{Fills, IsFault, target_store};
 
 use base::Steps;
 use pan_ast::{Change, Code, Failure, Fault, Place, Work};
 use path_tree::{Term, Tree};
-use std::alloc::Global;
+use std::alloc::{AllocError, Global};
 use std::sync::ledger::Ledger;
 
 /// What is filled: the tree and the log of its changes, the path of the value that is filled now,
@@ -17,6 +18,25 @@ pub(crate) struct Target {
     pub(crate) log: Vec<Change>,
     pub(crate) path: Vec<Term>,
     pub(crate) work: Work,
+}
+
+/// A value that was found, as one of its own.
+pub(crate) fn copied(found: Option<&Tree>) -> Result<Option<Tree>, AllocError>
+    ensures { IfOk result (λ v. v ≡ option_copied found.entry) }
+{
+    match found {
+        Some(value) => Ok(Some(value.copy()?)),
+        None => Ok(None),
+    }
+}
+
+impl Target {
+    /// What stands at the path, looked up from the root.
+    pub(crate) fn standing(&self) -> Result<Option<Tree>, AllocError>
+        ensures { IfOk result (λ v. v ≡ get self.now.path.items self.now.tree) }
+    {
+        copied(self.tree.get(&self.path))
+    }
 }
 
 /// A fault at a place, or want of memory.
@@ -41,6 +61,7 @@ pub(crate) fn take_step<L: Ledger>(
     steps: &mut Steps<L>,
 ) -> Result<(), Failure>
     ensures path { target.new.path ≡ target.old.path }
+    ensures tree { target.new.tree ≡ target.old.tree }
     ensures fills { Fills result (target_store target.old) target.old.work
         (target_store target.new) target.new.work (visit place.now) }
     ensures counted { steps.new + target.new.work.left ≡ steps.old + target.old.work.left }

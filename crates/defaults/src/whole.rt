@@ -27,10 +27,12 @@ fn fill_bound<L: Ledger>(
 {
     target.path.clear();
     push_terms(&mut target.path, bound.terms.as_slice())?;
+    let found = target.standing()?;
     fill_value(
         alloc,
         &bound.place,
         bound.resolved.as_resolved(),
+        found.as_ref(),
         target,
         steps,
     )

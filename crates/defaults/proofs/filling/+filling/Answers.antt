@@ -1,7 +1,10 @@
-use Rattle.std.proofs.Common.{◌≡◌, ◌<◌, sym, ◌∙◌, rules, arith}
+use Rattle.std.proofs.Common.{◌≡◌, ◌<◌, OnOk, length, subst, sym, ◌∙◌, rules, arith}
 use Rattle.path_tree.specs.Find.{child_count}
 use Rattle.type_defs.proofs.Shapes.{seen_record}
+use Rattle.defaults.specs.Fills.{target_store}
+use Rattle.defaults.specs.Steps.{IsKnown}
 use Rattle.defaults.proofs.Loops.{values_on}
+use Rattle.defaults.proofs.Replays.{fill_unlogged}
 use Rattle.defaults.proofs.filling.+filling.Goals as goal
 
 pub fill_shape-returns-in-Record-clause-fills : goal.fill_shape-returns-in-Record-clause-fills
@@ -12,6 +15,16 @@ fill_values-loop-i-preserved g t c =
     let within : c.loop-i.i < child_count c.args.value.now = omega (arith, c.loop-i-test.true, c.len-i-end.ensures) in
     record {
       path = search rules;
-      fills = λ answers asked. sym (values_on _ _ answers _ _ c.loop-i.i c.args.value.now _ _ c.loop-i.target.path.items c.requires within c.loop-i.invariant.path (c.in_ok-fill_entry.ensures.fills answers asked)) ∙ c.loop-i.invariant.fills answers asked;
+      known = search rules;
+      fills = λ answers asked. sym (values_on _ _ answers _ _ c.loop-i.i c.args.value.now _ _ c.loop-i.target.path.items c.requires.dict within c.loop-i.invariant.path (c.in_ok-fill_entry.ensures.fills answers asked)) ∙ c.loop-i.invariant.fills answers asked;
       counted = search rules;
     }
+
+-- where the log has not grown, the tree is as before
+pub fill_below-forget-requires : goal.fill_below-forget-requires
+fill_below-forget-requires g t c logged =
+    let path : c.fill_term.new.target.path.items ≡ c.args.target.now.path.items = search rules in
+    let grown = fill_unlogged c.fill_term.result _ _ _ (target_store c.args.target.now) (target_store c.fill_term.new.target) _ _ c.fill_term.ensures.fills in
+    let same : length c.fill_term.new.target.log.items ≡ length c.args.target.now.log.items = search rules in
+    let tree : c.fill_term.new.target.tree ≡ c.args.target.now.tree = subst (λ r. OnOk r (length c.fill_term.new.target.log.items ≡ length c.args.target.now.log.items → c.fill_term.new.target.tree ≡ c.args.target.now.tree)) c.in_ok-fill_term.was grown same in
+    subst (λ ps. IsKnown c.args.whole.now ps c.fill_term.new.target.tree) (sym path) (subst (IsKnown c.args.whole.now c.args.target.now.path.items) (sym tree) c.requires.known)
