@@ -43,7 +43,7 @@ fn groups_in(
 {
     let Some(searcher) = patterns.kept(source)? else {
         let mut searcher = patterns.once(alloc, source)?;
-        return groups(alloc, &mut searcher, text);
+        return groups(alloc, &mut *searcher, text);
     };
     groups(alloc, searcher, text)
 }

@@ -39,7 +39,7 @@ fn matches_somewhere(
 {
     let Some(searcher) = patterns.kept(source)? else {
         let mut searcher = patterns.once(alloc, source)?;
-        return Ok(Tree::boolean(is_match(&mut searcher, text)));
+        return Ok(Tree::boolean(is_match(&mut *searcher, text)));
     };
     Ok(Tree::boolean(is_match(searcher, text)))
 }

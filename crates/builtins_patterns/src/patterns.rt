@@ -89,14 +89,17 @@ impl Patterns {
         Ok(self.searchers.get_mut(place))
     }
 
-    /// The pattern of a text with a matcher for one call. Errors as of `compiled`.
-    pub(crate) fn once(&mut self, alloc: Global, source: &str) -> Result<Searcher<'_>, Refused>
-        ensures ok { IfOk result (λ s. s ≡ source.now) }
+    /// The pattern of a text with a matcher for one call. A matcher takes some thousand bytes: boxed,
+    /// it takes none in the frame of a call that has one at hand. Errors as of `compiled`.
+    #[inline(never)]
+    pub(crate) fn once(&mut self, alloc: Global, source: &str) -> Result<Box<Searcher<'_>>, Refused>
+        ensures ok { IfOk result (λ s. s.value ≡ source.now) }
         ensures err { IfErr result
             (λ e. e ≢ Memory → (e ≡ BadPattern) × (pattern_of source.now ≡ None)) }
     {
         let pattern = self.pattern(source)?;
-        Ok(Searcher::new(alloc, source, pattern)?)
+        let searcher = Searcher::new(alloc, source, pattern)?;
+        Ok(Box::new(alloc, searcher)?)
     }
 
     // Its place among those with a matcher, where it is one of them.

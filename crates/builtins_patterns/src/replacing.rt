@@ -51,7 +51,7 @@ fn replaced(
 {
     let Some(searcher) = patterns.kept(source)? else {
         let mut searcher = patterns.once(alloc, source)?;
-        return replaced_by(alloc, &mut searcher, template, text);
+        return replaced_by(alloc, &mut *searcher, template, text);
     };
     replaced_by(alloc, searcher, template, text)
 }

@@ -56,7 +56,7 @@ fn split_at_all(
 {
     let Some(searcher) = patterns.kept(source)? else {
         let mut searcher = patterns.once(alloc, source)?;
-        return split_by(alloc, &mut searcher, None, text);
+        return split_by(alloc, &mut *searcher, None, text);
     };
     split_by(alloc, searcher, None, text)
 }
@@ -89,7 +89,7 @@ fn split_at_most(
 {
     let Some(searcher) = patterns.kept(source)? else {
         let mut searcher = patterns.once(alloc, source)?;
-        return split_by(alloc, &mut searcher, limit(most), text);
+        return split_by(alloc, &mut *searcher, limit(most), text);
     };
     split_by(alloc, searcher, limit(most), text)
 }
