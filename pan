@@ -21,8 +21,8 @@ has a profile, 1 where one has a fault, and more where something failed.
 
 These are the script's own, and stand first:
 
-  ./pan --try WORDS                   compiles the program without any proof, in three to ten minutes each time, and
-                                      runs it slowly (a watcher's lines then come from a file: < FILE)
+  ./pan --try WORDS                   compiles the program without any proof, in a minute or two each time, and runs it
+                                      slowly (a watcher's lines then come from a file: < FILE)
   ./pan --build-only                  proves and builds the program, and runs nothing
   ./pan --version                     the kit that it is proved with
   ./pan --help                        this text
@@ -112,7 +112,7 @@ try() {
     done
   fi
   say "this run is not proved: ./pan --build-only proves and builds the program"
-  say "compiling it without proofs takes some minutes; what it writes is shown when it has ended"
+  say "compiling it without proofs takes a minute or two; what it writes is shown when it has ended"
   cd "$top/crates/pan"
   exec rt try pan --seconds 600 -- "${words[@]}"
 }

@@ -1,7 +1,7 @@
 ghost use Rattle.object_meaning.specs.Meanings.{meaning_of};
 ghost use Rattle.object_meaning.proofs.BothLawful.{is_lawful};
 ghost use Rattle.runner.specs.Meaning.{counted};
-ghost use Rattle.std.specs.Prelude.{◌≡◌};
+ghost use Rattle.std.specs.Prelude.{◌≡◌, []};
 
 use crate::rest::Rest;
 use crate::runs::{Ran, build_in, check_in};
@@ -36,7 +36,11 @@ fn count_up(runs: u64) -> u64
 
 impl Library {
     /// An empty picture, no directories, and no runs yet.
-    pub fn new(alloc: Global) -> Library {
+    pub fn new(alloc: Global) -> Library
+        ensures picture { result.picture ≡ [] }
+        ensures dirs { result.dirs ≡ [] }
+        ensures runs { result.runs ≡ 0 }
+    {
         Library {
             alloc,
             picture: Picture::new(alloc),
