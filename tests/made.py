@@ -4,6 +4,7 @@
     tests/made.py [HISTORIES]      so many random histories of a watcher (200 unless told)
 
 - Four hundred objects that read each other in a chain, in a star and in a circle.
+- A long list, each item of which takes defaults, in a time that is no square of its length.
 - A watcher writes the text of a line before it reads the next one.
 - Random histories of a watcher: between its builds files come, go and change. After each build the folder has to
   hold what a build from scratch makes of the same source, and the faults have to be the same; an object is compiled
@@ -17,11 +18,14 @@ import re
 import subprocess
 import sys
 import tempfile
+import time
 from pathlib import Path
 
 TOP = Path(__file__).resolve().parent.parent
 PROGRAM = Path(os.environ.get("PAN", TOP / "crates" / "pan" / "out" / "pan")).resolve()
 OBJECTS = 400
+ITEMS = 40_000
+MOST_SECONDS = 5
 BUILDS = 6
 
 
@@ -64,6 +68,22 @@ def chain_star_and_circle(folder):
     yield "a circle", lines[-1] == f"objects {OBJECTS} ok 0 faults {OBJECTS} run {OBJECTS}"
     wanted = [f"fault {name} F31 {name}.pan:3:26 {names[(n + 1) % OBJECTS]}" for n, name in enumerate(names)]
     yield "each of a circle", lines[OBJECTS:-1] == wanted and not shelf
+
+
+def many_defaults(folder):
+    """Each item of a long list takes two defaults: in the square of its length that would be minutes."""
+    source, out = folder / "source", folder / "out"
+    write(source, "long.pan", f"""object template long;
+type item = {{ 'port' : long = 80 'name' : string = 'x' }};
+bind '/items' = item[];
+'/items' = {{ l = list(); for (i = 0; i < {ITEMS}; i = i + 8) for (j = 0; j < 8; j = j + 1) l[i + j] = dict(); l; }};
+""")
+    start = time.monotonic()
+    lines, shelf = build(source, out)
+    yield "a long list", lines[-1] == "objects 1 ok 1 faults 0 run 1"
+    item = b'{"name":"x","port":80}'
+    yield "each item of a long list", shelf.get("long.json") == b'{"items":[' + b",".join([item] * ITEMS) + b"]}\n"
+    yield f"a long list within {MOST_SECONDS} seconds", time.monotonic() - start < MOST_SECONDS
 
 
 class Watcher:
@@ -196,7 +216,7 @@ def main(words):
         print(f"no program at {PROGRAM}: build it, or name it in the variable PAN")
         return 2
     passed = failed = 0
-    for part in (chain_star_and_circle, answers_before_it_asks):
+    for part in (chain_star_and_circle, many_defaults, answers_before_it_asks):
         with tempfile.TemporaryDirectory() as room:
             for name, is_well in part(Path(room)):
                 passed, failed = passed + is_well, failed + (not is_well)
