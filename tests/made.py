@@ -71,7 +71,7 @@ def chain_star_and_circle(folder):
 
 
 def many_defaults(folder):
-    """Each item of a long list takes two defaults: in the square of its length that would be minutes."""
+    """Each item of a long list takes two defaults: in the square of its length that took half a minute."""
     source, out = folder / "source", folder / "out"
     write(source, "long.pan", f"""object template long;
 type item = {{ 'port' : long = 80 'name' : string = 'x' }};
