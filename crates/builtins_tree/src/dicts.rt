@@ -57,7 +57,7 @@ fn pairs_in(alloc: Global, args: &[Tree]) -> Result<Vec<Pair>, Refused>
         let Some((value, others)) = others.split_first() else {
             unreachable!();
         };
-        let key = match key_of(alloc, key) {
+        let key = match key_of(key) {
             Ok(key) => key,
             Err(error) => return Err(error),
         };
@@ -69,13 +69,16 @@ fn pairs_in(alloc: Global, args: &[Tree]) -> Result<Vec<Pair>, Refused>
 }
 
 /// A text as a key.
-fn key_of(alloc: Global, text: &Tree) -> Result<Key, Refused>
-    ensures ok { IfOk result (λ key. key ≡ unwrap_or (text_of text.now) []) }
+fn key_of(value: &Tree) -> Result<Key, Refused>
+    ensures ok { IfOk result (λ key. key ≡ unwrap_or (text_of value.now) []) }
     ensures key { IfOk result (λ key. is_key key ≡ true) }
     ensures err { IfErr result (λ e. e ≢ Memory → (e ≡ BadIndex)
-        × (is_key (unwrap_or (text_of text.now) []) ≡ false)) }
+        × (is_key (unwrap_or (text_of value.now) []) ≡ false)) }
 {
-    match Key::parse(alloc, text.as_text().unwrap_or("")) {
+    let Some(text) = value.text_handle() else {
+        return Err(Refused::BadIndex);
+    };
+    match Key::of_text(text) {
         Ok(key) => Ok(key),
         Err(KeyError::BadKey) => Err(Refused::BadIndex),
         Err(KeyError::Memory) => Err(Refused::Memory),

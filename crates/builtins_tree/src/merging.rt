@@ -11,7 +11,6 @@ ghost use Rattle.path_tree.specs.Refusals.{refusal};
 
 use crate::kinds::{is_dict, is_list};
 use crate::pairs::{Pair, dict_in_turn};
-use base::Text;
 use call_values::{child_count, push_children};
 use path_tree::{Kind, Refused, Tree};
 use std::alloc::{AllocError, Global};
@@ -103,7 +102,7 @@ fn are_distinct(alloc: Global, pairs: &[Pair]) -> Result<bool, AllocError>
 {
     let mut later = HashSet::new(alloc);
     for i in (0..pairs.len()).rev() {
-        let key = Text::new(alloc, pairs[i].key.as_str())?;
+        let key = pairs[i].key.text_handle().share()?;
         if !later.insert(key)? {
             return Ok(false);
         }

@@ -28,7 +28,7 @@ pub(crate) fn dict_of_pairs(alloc: Global, pairs: &[Pair]) -> Result<Tree, Refus
     requires { list_all has_value pairs.now ≡ true }
     ensures { Gives (λ t. t) refusal result (dict_of_pairs pairs.now) }
 {
-    let mut dict = Tree::empty_dict(alloc)?;
+    let mut dict = Tree::dict_with_room(alloc, pairs.len())?;
     for i in (0..pairs.len()).rev() {
         match put_new(alloc, &mut dict, &pairs[i]) {
             Ok(()) => (),
@@ -44,7 +44,7 @@ pub(crate) fn dict_in_turn(alloc: Global, pairs: &[Pair]) -> Result<Tree, Refuse
     requires { list_all has_value pairs.now ≡ true }
     ensures { Gives (λ t. t) refusal result (dict_in_turn pairs.now) }
 {
-    let mut dict = Tree::empty_dict(alloc)?;
+    let mut dict = Tree::dict_with_room(alloc, pairs.len())?;
     for pair in pairs {
         match put_new(alloc, &mut dict, pair) {
             Ok(()) => (),

@@ -9,7 +9,7 @@ ghost use Rattle.dml_leaves.specs.Changes.{IsChange, IsUnput};
 ghost use Rattle.dml_meaning.specs.Meaning.{apply_index};
 ghost use Rattle.dml_world.specs.Exits.{Follows};
 
-use base::Steps;
+use base::{Steps, Text};
 use dml_meaning::Test;
 use dml_world::leaf::{fault, passes, take_step};
 use dml_world::{Exit, Live, World};
@@ -35,10 +35,10 @@ impl From<AllocError> for Unchanged {
     }
 }
 
-fn key_term(alloc: Global, text: &str) -> Result<Option<Term>, AllocError>
+fn key_term(text: &Text) -> Result<Option<Term>, AllocError>
     ensures { IfOk result (λ m. m ≡ key_term text.now) }
 {
-    match Key::parse(alloc, text) {
+    match Key::of_text(text) {
         Ok(key) => Ok(Some(Term::Key(key))),
         Err(KeyError::BadKey) => Ok(None),
         Err(KeyError::Memory) => Err(AllocError),
@@ -82,15 +82,11 @@ fn number_term(number: i64, reached: Option<&Tree>) -> Option<Term>
 
 /// The term that an index stands for, at the value reached so far.
 #[tactic(auto, using(crate::proofs::Trees::other_term))]
-pub fn term_for(
-    alloc: Global,
-    index: &Tree,
-    reached: Option<&Tree>,
-) -> Result<Option<Term>, AllocError>
+pub fn term_for(index: &Tree, reached: Option<&Tree>) -> Result<Option<Term>, AllocError>
     ensures { IfOk result (λ m. m ≡ term_for index.now (option_copied reached.entry)) }
 {
-    if let Some(text) = index.as_text() {
-        return key_term(alloc, text);
+    if let Some(text) = index.text_handle() {
+        return key_term(text);
     }
     match index.as_long() {
         Some(number) => Ok(number_term(number, reached)),
@@ -100,14 +96,10 @@ pub fn term_for(
 
 /// What is at an index.
 #[tactic(auto, using(path_tree::proofs::Growing::get_one))]
-pub fn at_index<'a>(
-    alloc: Global,
-    index: &Tree,
-    value: &'a Tree,
-) -> Result<Option<&'a Tree>, AllocError>
+pub fn at_index<'a>(index: &Tree, value: &'a Tree) -> Result<Option<&'a Tree>, AllocError>
     ensures { IfOk result (λ t. option_copied t ≡ at_index index.now value.now) }
 {
-    match term_for(alloc, index, Some(value))? {
+    match term_for(index, Some(value))? {
         None => Ok(None),
         Some(term) => {
             let terms = [term];
@@ -123,7 +115,7 @@ fn terms_for(alloc: Global, keys: &[Tree], value: &Tree) -> Result<Option<Vec<Te
 {
     let mut terms = Vec::new(alloc);
     'keys: for key in keys {
-        let Some(term) = term_for(alloc, key, value.get(&terms))? else {
+        let Some(term) = term_for(key, value.get(&terms))? else {
             return Ok(None);
         };
         terms.push(term)?;
@@ -221,7 +213,7 @@ pub fn apply_index<W: World, L: Ledger>(
     ensures counted { steps.new + live.new.work.left ≡ steps.old + live.old.work.left }
 {
     take_step(alloc, place, live, world, steps)?;
-    match at_index(alloc, index, value)? {
+    match at_index(index, value)? {
         Some(found) => Ok(found.copy()?),
         None => Err(fault(alloc, Code::BadIndex, place)),
     }

@@ -204,7 +204,7 @@ fn set_key<W: World>(
     ensures { Follows (λ t. t) result W.answers live.now (W.asked world.now) live.now
         (W.asked world.now) (set_key place.now value.now made key.now) }
 {
-    match Key::parse(alloc, key.as_str()) {
+    match Key::of_text(key) {
         Ok(term) => {
             let terms = [Term::Key(term)];
             let value = value.copy()?;

@@ -131,7 +131,7 @@ pub fn reach_index<W: World, L: Ledger>(
     let Some(value) = value else {
         return Ok(None);
     };
-    match at_index(alloc, index, &value)? {
+    match at_index(index, &value)? {
         Some(found) => Ok(Some(found.copy()?)),
         None => Ok(None),
     }

@@ -29,14 +29,14 @@ use path_tree::{Key, KeyError};
 use std::alloc::{AllocError, Global};
 
 /// The key that the token of a text is, or None where it is none.
-fn key_of(alloc: Global, token: &Token) -> Result<Option<Key>, AllocError>
+fn key_of(token: &Token) -> Result<Option<Key>, AllocError>
     ensures { IfOk result (λ o. MatchOption o (is_key_text token.now ≡ false)
         (λ k. (is_key_text token.now ≡ true) × (k ≡ token.now.value))) }
 {
     if !Sort::Text.is(token.sort()) {
         return Ok(None);
     }
-    match Key::parse(alloc, token.value().as_str()) {
+    match Key::of_text(token.value()) {
         Ok(key) => Ok(Some(key)),
         Err(KeyError::BadKey) => Ok(None),
         Err(KeyError::Memory) => Err(AllocError),
@@ -275,7 +275,7 @@ fn field(alloc: Global, depth: usize, tokens: &[Token]) -> Result<(Field, &[Toke
             rest,
         ));
     }
-    let Some(key) = key_of(alloc, first)? else {
+    let Some(key) = key_of(first)? else {
         return Err(Stopped::Bad(tokens));
     };
     let (mark, rest) = expect(Expected::Mark, rest)?;

@@ -98,6 +98,19 @@ impl Key {
         Ok(Key { text })
     }
 
+    /// The same of a text in memory, which the key shares.
+    pub fn of_text(text: &Text) -> Result<Key, KeyError>
+        ensures value { IfOk result (λ k. k ≡ text.now) }
+        ensures ok { OnOk result (is_key text.now ≡ true) }
+        ensures bad { IsErrOf result KeyError.BadKey ↔ (is_key text.now ≡ false) }
+    {
+        if !is_key(text.as_str().as_bytes()) {
+            return Err(KeyError::BadKey);
+        }
+        let text = text.share()?;
+        Ok(Key { text })
+    }
+
     /// The key of bytes that are those of a key, and stand in a text from `start` on. It shares the
     /// text's memory.
     pub(crate) fn in_text(whole: &Text, start: usize, bytes: &[u8]) -> Result<Key, AllocError>
@@ -117,6 +130,13 @@ impl Key {
         ensures utf8 { IsUtf8 self.now }
     {
         self.text.as_str()
+    }
+
+    /// The same text as one that can be shared.
+    pub fn text_handle(&self) -> &Text
+        ensures { result.now ≡ self.now }
+    {
+        &self.text
     }
 
     /// The same key, with its text shared.

@@ -184,6 +184,21 @@ impl Tree {
         })
     }
 
+    /// The same with room for so many fields, which are put into it without a move of the others in
+    /// memory.
+    pub fn dict_with_room(alloc: Global, room: usize) -> Result<Tree, AllocError>
+        ensures { IfOk result (λ t. t ≡ plain.dict plain.no_fields) }
+    {
+        let dict = Dict {
+            entries: Vec::with_capacity(alloc, room)?,
+            size: 1,
+            height: 1,
+        };
+        Ok(Tree {
+            node: Node::Dict(Rc::new(alloc, dict)?),
+        })
+    }
+
     /// A list without items.
     pub fn empty_list(alloc: Global) -> Result<Tree, AllocError>
         ensures { IfOk result (λ t. t ≡ plain.list plain.no_items) }
@@ -371,7 +386,8 @@ impl Tree {
         }
     }
 
-    fn child(&self, term: &Term) -> Option<&Tree>
+    /// What a term finds. `None` exactly where it finds nothing. It is smaller than the tree.
+    pub fn child(&self, term: &Term) -> Option<&Tree>
         ensures value { option_copied result ≡ child term.now self.now }
         ensures smaller { IfSome result (λ t. tree_size t.now < tree_size self.now) }
     {
