@@ -1,5 +1,4 @@
 pub mod Loops
-pub mod Found
 pub mod Kept
 pub mod Replays
 pub mod Lawful

@@ -1,6 +1,6 @@
 ghost use Rattle.std.specs.Prelude.{◌≡◌, ◌+◌, ◌++◌, ◌∷◌, [], OnOk, IfOk, Some, length, option_copied};
 ghost use Rattle.path_tree.specs.Children.{child_fields, child_items};
-ghost use Rattle.path_tree.specs.Find.{child, get, item_count, key_at, kind_of};
+ghost use Rattle.path_tree.specs.Find.{get, item_count, key_at, kind_of};
 ghost use Rattle.path_tree.specs.declared.kind.Kind.TheVariants as kind;
 ghost use Rattle.path_tree.specs.declared.path.Term.TheVariants as term;
 ghost use Rattle.type_defs.specs.Resolved.{fields_of};
@@ -156,27 +156,6 @@ fn index_term(i: usize) -> Result<Term, AllocError>
     }
 }
 
-/// The item of a list at an index.
-#[tactic(auto, using(crate::proofs::Found::an_item, crate::proofs::Found::no_item))]
-fn item_at(value: &Tree, i: u32) -> Option<&Tree>
-    ensures { option_copied result ≡ child (term.Index i) value.now }
-{
-    match value.kind() {
-        Kind::List => value.child_at(i as usize),
-        _ => None,
-    }
-}
-
-/// What a term finds in a value.
-fn found_in<'a>(value: &'a Tree, term: &Term) -> Option<&'a Tree>
-    ensures { option_copied result ≡ child term.now value.now }
-{
-    match term {
-        Term::Key(key) => value.field(key.as_str()),
-        Term::Index(i) => item_at(value, *i),
-    }
-}
-
 /// Goes one term below the path, to what stands there: in the value at the path where that is
 /// known, else from the root.
 #[tactic(auto, using(path_tree::proofs::Growing::get_push))]
@@ -195,7 +174,7 @@ fn go_below(
 {
     match whole {
         Some(value) => {
-            let found = copied(found_in(value, &term))?;
+            let found = copied(value.child(&term))?;
             target.path.push(term)?;
             Ok(found)
         }

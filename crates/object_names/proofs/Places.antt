@@ -7,7 +7,7 @@ use Rattle.load_path.specs.Pictures.{is_below}
 use Rattle.object_names.specs.Objects.{stands_in, begins_above, are_rising}
 use Rattle.object_names.specs.Finding.{place_in, is_same, with_object}
 use Rattle.std.proofs.lemmas.Slice.Eq.{bytes_eq-Decides}
-use Rattle.object_names.proofs.Order.{below_chain, below_differs, above_differs, else_above}
+use Rattle.load_path.proofs.Order.{below_chain, below_differs, above_differs, else_above}
 
 pub first_true : (a b : Bool) → a && b ≡ true → a ≡ true
 first_true true b is = refl
