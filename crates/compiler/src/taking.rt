@@ -1,5 +1,5 @@
-ghost use Rattle.std.specs.Prelude.{◌≡◌, ◌≤◌, ◌⊎◌, ◌+◌, List, ℕ, IfOk, OnOk, OnErr, Some, length, option_map};
-ghost use Rattle.outside.specs.Causes.{Rose};
+ghost use Rattle.std.specs.Prelude.{◌≡◌, ◌≤◌, ◌⊎◌, ◌+◌, List, ℕ, IfOk, OnOk, OnErr, Ok, Some, length, option_map};
+ghost use Rattle.outside.specs.Causes.{Counted};
 ghost use Rattle.pan_ast.specs.declared.work.Limits.{Limits};
 ghost use Rattle.engine_turns.specs.States.{pictured};
 ghost use Rattle.scans.specs.Outcomes.{IsPassed, IsPerhapsPassed};
@@ -87,13 +87,8 @@ pub fn take_next<R: Runner, S: Source, L: Ledger>(
         → IsPassed (S.coming source.old) (S.coming source.new)) }
     ensures perhaps { IsPerhapsPassed (S.coming source.old) (S.coming source.new) }
     ensures opened { S.opened source.new ≡ S.opened source.old }
-    ensures later { S.fault_count source.old ≤ S.fault_count source.new }
-    ensures rose { IfOk result (λ how. how ≡ Took.Failed
-        → Rose (S.fault_count source.old) (S.fault_count source.new)) }
-    ensures once { S.fault_count source.new ≤ S.fault_count source.old + 1 }
-    ensures same { IfOk result (λ how. (how ≡ Took.Failed → ⊥)
-        → S.fault_count source.new ≡ S.fault_count source.old) }
-    ensures wanting { OnErr result (S.fault_count source.new ≡ S.fault_count source.old) }
+    ensures count { Counted (result ≡ Ok Took.Failed) (S.fault_count source.old)
+        (S.fault_count source.new) }
 {
     match scan(alloc, source) {
         Ok(picture) => take(alloc, engine, runner, picture, steps),

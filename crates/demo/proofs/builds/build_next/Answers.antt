@@ -1,4 +1,4 @@
-use Rattle.std.proofs.Common.{[], Some, ap, subst, arith}
+use Rattle.std.proofs.Common.{[], Ok, Some, ap, subst, arith}
 use Rattle.outside.specs.Causes.{Rose}
 use Rattle.publication.proofs.Planning.{on_err}
 use Rattle.session.specs.Sessions.{built}
@@ -10,7 +10,7 @@ use Rattle.demo.proofs.Going.{take_spends, take_exceeds, cut_turning, turns_spen
 use Rattle.demo.proofs.builds.build_next.Goals as goal
 
 pub unreachable-requires : goal.unreachable-requires
-unreachable-requires g c = let rose : Rose 0 0 = c.in_ok-take_next.ensures.rose c.in-Failed.is in omega (arith, rose)
+unreachable-requires g c = let rose : Rose 0 0 = c.in_ok-take_next.ensures.count.rose (ap Ok c.in-Failed.is) in omega (arith, rose)
 
 pub returns-in_err-take_next-clause-cut : goal.returns-in_err-take_next-clause-cut
 returns-in_err-take_next-clause-cut g c = on_err c.from_residual.result (λ dirs limits s start at told. c.in_err-take_next.ensures.cut dirs limits s start at (ap Some told) (built (compiler (g.R.Runner.meaning dirs limits) dirs) []) (build_rises (compiler (g.R.Runner.meaning dirs limits) dirs)))

@@ -13,20 +13,20 @@ pub returns-in-Failed-clause-went : goal.returns-in-Failed-clause-went
 returns-in-Failed-clause-went g c =
     let text : c.extend_from_slice.new.self.items ≡ codes "source fault\n" = search rules in
     λ dirs limits s start began at.
-    scan_failed (compiler (g.R.Runner.meaning dirs limits) dirs) dirs limits s _ _ _ _ c.args.has_faults.now _ _ _ _ (g.H.Shelf.fault_count c.args.shelf.now) (g.H.Shelf.cell c.args.shelf.now) start began Build _ _ (λ line scan. refl) at (subst (λ how. TakesNext (compiler (g.R.Runner.meaning dirs limits) dirs) dirs limits s how c.take_next.new.engine.core began (counts (g.R.Runner.runs_of c.take_next.new.runner) c.take_next.new.steps) (g.S.Source.coming c.take_next.new.source) (g.S.Source.fault_count c.args.source.now) (g.S.Source.fault_count c.take_next.new.source)) c.in-Failed.is (c.in_ok-take_next.ensures.took dirs limits s began at.engine at.coming)) c.take_next.ensures.later text
+    scan_failed (compiler (g.R.Runner.meaning dirs limits) dirs) dirs limits s _ _ _ _ c.args.has_faults.now _ _ _ _ (g.H.Shelf.fault_count c.args.shelf.now) (g.H.Shelf.cell c.args.shelf.now) start began Build _ _ (λ line scan. refl) at (subst (λ how. TakesNext (compiler (g.R.Runner.meaning dirs limits) dirs) dirs limits s how c.take_next.new.engine.core began (counts (g.R.Runner.runs_of c.take_next.new.runner) c.take_next.new.steps) (g.S.Source.coming c.take_next.new.source) (g.S.Source.fault_count c.args.source.now) (g.S.Source.fault_count c.take_next.new.source)) c.in-Failed.is (c.in_ok-take_next.ensures.took dirs limits s began at.engine at.coming)) c.take_next.ensures.count.later text
 
 pub returns-in-SpendsNumbers-clause-went : goal.returns-in-SpendsNumbers-clause-went
 returns-in-SpendsNumbers-clause-went g c = λ dirs limits s start began at.
-    scan_spends (compiler (g.R.Runner.meaning dirs limits) dirs) dirs limits s _ _ _ _ c.args.has_faults.now _ _ _ _ (g.H.Shelf.fault_count c.args.shelf.now) (g.H.Shelf.cell c.args.shelf.now) start began Build _ _ (λ line scan. refl) (subst (λ how. TakesNext (compiler (g.R.Runner.meaning dirs limits) dirs) dirs limits s how c.take_next.new.engine.core began (counts (g.R.Runner.runs_of c.take_next.new.runner) c.take_next.new.steps) (g.S.Source.coming c.take_next.new.source) (g.S.Source.fault_count c.args.source.now) (g.S.Source.fault_count c.take_next.new.source)) c.in-SpendsNumbers.is (c.in_ok-take_next.ensures.took dirs limits s began at.engine at.coming)) c.take_next.ensures.later
+    scan_spends (compiler (g.R.Runner.meaning dirs limits) dirs) dirs limits s _ _ _ _ c.args.has_faults.now _ _ _ _ (g.H.Shelf.fault_count c.args.shelf.now) (g.H.Shelf.cell c.args.shelf.now) start began Build _ _ (λ line scan. refl) (subst (λ how. TakesNext (compiler (g.R.Runner.meaning dirs limits) dirs) dirs limits s how c.take_next.new.engine.core began (counts (g.R.Runner.runs_of c.take_next.new.runner) c.take_next.new.steps) (g.S.Source.coming c.take_next.new.source) (g.S.Source.fault_count c.args.source.now) (g.S.Source.fault_count c.take_next.new.source)) c.in-SpendsNumbers.is (c.in_ok-take_next.ensures.took dirs limits s began at.engine at.coming)) c.take_next.ensures.count.later
 
 pub returns-in-IsTooMuch-clause-went : goal.returns-in-IsTooMuch-clause-went
 returns-in-IsTooMuch-clause-went g c = λ dirs limits s start began at.
-    scan_exceeds (compiler (g.R.Runner.meaning dirs limits) dirs) dirs limits s _ _ _ _ c.args.has_faults.now _ _ _ _ (g.H.Shelf.fault_count c.args.shelf.now) (g.H.Shelf.cell c.args.shelf.now) start began Build _ _ (λ line scan. refl) (subst (λ how. TakesNext (compiler (g.R.Runner.meaning dirs limits) dirs) dirs limits s how c.take_next.new.engine.core began (counts (g.R.Runner.runs_of c.take_next.new.runner) c.take_next.new.steps) (g.S.Source.coming c.take_next.new.source) (g.S.Source.fault_count c.args.source.now) (g.S.Source.fault_count c.take_next.new.source)) c.in-IsTooMuch.is (c.in_ok-take_next.ensures.took dirs limits s began at.engine at.coming)) c.take_next.ensures.later
+    scan_exceeds (compiler (g.R.Runner.meaning dirs limits) dirs) dirs limits s _ _ _ _ c.args.has_faults.now _ _ _ _ (g.H.Shelf.fault_count c.args.shelf.now) (g.H.Shelf.cell c.args.shelf.now) start began Build _ _ (λ line scan. refl) (subst (λ how. TakesNext (compiler (g.R.Runner.meaning dirs limits) dirs) dirs limits s how c.take_next.new.engine.core began (counts (g.R.Runner.runs_of c.take_next.new.runner) c.take_next.new.steps) (g.S.Source.coming c.take_next.new.source) (g.S.Source.fault_count c.args.source.now) (g.S.Source.fault_count c.take_next.new.source)) c.in-IsTooMuch.is (c.in_ok-take_next.ensures.took dirs limits s began at.engine at.coming)) c.take_next.ensures.count.later
 
 pub returns-then-not-branch-clause-went : goal.returns-then-not-branch-clause-went
 returns-then-not-branch-clause-went g c = λ dirs limits s start began at.
     let t = (subst (λ how. TakesNext (compiler (g.R.Runner.meaning dirs limits) dirs) dirs limits s how c.take_next.new.engine.core began (counts (g.R.Runner.runs_of c.take_next.new.runner) c.take_next.new.steps) (g.S.Source.coming c.take_next.new.source) (g.S.Source.fault_count c.args.source.now) (g.S.Source.fault_count c.take_next.new.source)) c.in-Taken.is (c.in_ok-take_next.ensures.took dirs limits s began at.engine at.coming)) in
-    build_spends g.R.Runner.meaning dirs limits s c.args.engine.now.core c.take_next.new.engine.core c.make_turns.new.engine.core c.make_turns.new.engine.core _ _ c.args.has_faults.now c.args.has_faults.now _ _ _ _ _ (g.H.Shelf.fault_count c.args.shelf.now) 0 c.turns_left-left.result (g.H.Shelf.cell c.args.shelf.now) (g.H.Shelf.cell c.args.shelf.now) start began _ t c.take_next.ensures.later c.turns_left-left.ensures (subst (λ all. MakesTurns (compiler (g.R.Runner.meaning dirs limits) dirs) dirs limits c.turns_left-left.result t.state all c.make_turns.new.engine.core began (counts (g.R.Runner.runs_of c.make_turns.new.runner) c.make_turns.new.steps)) c.if-not-branch.true (c.in_ok-make_turns.ensures.made dirs limits t.state began t.stands))
+    build_spends g.R.Runner.meaning dirs limits s c.args.engine.now.core c.take_next.new.engine.core c.make_turns.new.engine.core c.make_turns.new.engine.core _ _ c.args.has_faults.now c.args.has_faults.now _ _ _ _ _ (g.H.Shelf.fault_count c.args.shelf.now) 0 c.turns_left-left.result (g.H.Shelf.cell c.args.shelf.now) (g.H.Shelf.cell c.args.shelf.now) start began _ t c.take_next.ensures.count.later c.turns_left-left.ensures (subst (λ all. MakesTurns (compiler (g.R.Runner.meaning dirs limits) dirs) dirs limits c.turns_left-left.result t.state all c.make_turns.new.engine.core began (counts (g.R.Runner.runs_of c.make_turns.new.runner) c.make_turns.new.steps)) c.if-not-branch.true (c.in_ok-make_turns.ensures.made dirs limits t.state began t.stands))
 
 pub returns-clause-went : goal.returns-clause-went
 returns-clause-went g c = λ dirs limits s start began at.
@@ -34,7 +34,7 @@ returns-clause-went g c = λ dirs limits s start began at.
     let made = (subst (λ all. MakesTurns (compiler (g.R.Runner.meaning dirs limits) dirs) dirs limits c.turns_left-left.result t.state all c.make_turns.new.engine.core began (counts (g.R.Runner.runs_of c.make_turns.new.runner) c.make_turns.new.steps)) c.if-not-branch.false (c.in_ok-make_turns.ensures.made dirs limits t.state began t.stands)) in
     let settled = c.make_turns.new.engine.core in
     let forgot = forgotten_in g.R.Runner.meaning settled c.forget_runs.new.self.core c.forget_runs.ensures.files c.forget_runs.ensures.dirs c.forget_runs.ensures.limits c.forget_runs.ensures.state dirs limits made.state.engine made.stands.engine in
-    built_whole g.R.Runner.meaning dirs limits s c.args.engine.now.core c.take_next.new.engine.core settled c.forget_runs.new.self.core _ _ c.args.has_faults.now c.publish_built.new.has_faults _ _ _ _ _ (g.H.Shelf.fault_count c.args.shelf.now) (g.H.Shelf.fault_count c.publish_built.new.shelf) c.turns_left-left.result (g.H.Shelf.cell c.args.shelf.now) (g.H.Shelf.cell c.publish_built.new.shelf) start began c.publish_built.new.text.items at t c.take_next.ensures.later c.turns_left-left.ensures made c.in_ok-publish_built.ensures.done forgot c.publish_built.ensures.later
+    built_whole g.R.Runner.meaning dirs limits s c.args.engine.now.core c.take_next.new.engine.core settled c.forget_runs.new.self.core _ _ c.args.has_faults.now c.publish_built.new.has_faults _ _ _ _ _ (g.H.Shelf.fault_count c.args.shelf.now) (g.H.Shelf.fault_count c.publish_built.new.shelf) c.turns_left-left.result (g.H.Shelf.cell c.args.shelf.now) (g.H.Shelf.cell c.publish_built.new.shelf) start began c.publish_built.new.text.items at t c.take_next.ensures.count.later c.turns_left-left.ensures made c.in_ok-publish_built.ensures.done forgot c.publish_built.ensures.later
 
 pub returns-in_err-publish_built-clause-cut : goal.returns-in_err-publish_built-clause-cut
 returns-in_err-publish_built-clause-cut g c = on_err c.from_residual-in_err-publish_built.result (λ dirs limits s start began at.
