@@ -15,14 +15,14 @@ pub struct Itself {
     pub looks: u64,
 }
 
-impl<L: Ledger> Evaluator<L> for Itself {
+impl Evaluator for Itself {
     ghost means = { means };
 
     ghost answers = { λ k. None };
 
     ghost asked = { λ s. [] };
 
-    fn value(
+    fn value<L: Ledger>(
         &mut self,
         _alloc: Global,
         _template: &Name,

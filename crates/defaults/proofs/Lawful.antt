@@ -1,5 +1,5 @@
 -- Each filling is a lawful run: it asks nothing, and fails with faults of its own.
-use Rattle.std.proofs.Common.{ℕ, zero, suc, ◌+◌, ◌++◌, List, [], ◌∷◌, Option, Some, None, Result, Ok, Err}
+use Rattle.std.proofs.Common.{◌≤◌, ℕ, zero, suc, ◌+◌, ◌++◌, List, [], ◌∷◌, Option, Some, None, Result, Ok, Err}
 use Rattle.path_tree.specs.Plain.{Plain, dict, Fields as Values, no_fields, field}
 use Rattle.path_tree.specs.Children.{child_fields, child_items}
 use Rattle.path_tree.specs.Find.{get, item_count}
@@ -10,6 +10,10 @@ use Rattle.path_tree.specs.declared.path.Term.{Term}
 use Rattle.pan_ast.specs.declared.change.Change.{Change}
 use Rattle.pan_ast.specs.declared.place.Place.{Place}
 use Rattle.questions.specs.declared.key.Key.{Key}
+use Rattle.questions.specs.Contents.{Answers}
+use Rattle.questions.specs.Run.{Meter}
+use Rattle.questions.specs.Told.{meter_of}
+use Rattle.questions.proofs.Runs.{left_within}
 use Rattle.questions.proofs.Lawful.{Lawful, lawful_bind, lawful_give, lawful_fail, lawful_now, lawful_become, lawful_cond, lawful_step}
 use Rattle.type_defs.specs.Bindings.{Bound}
 use Rattle.type_defs.specs.Resolved.{Resolved, Known, Shape, OfBase, Named, Ranged, ListOf, DictOf, Link, Record, Choice, Fields, none, more}
@@ -81,3 +85,7 @@ module _ (may : Key → Type 0) where
   pub all_lawful : (bs : List Bound) → Lawful may 0 (all_filled bs)
   all_lawful [] = search pieces
   all_lawful (b ∷ bs) = let next = all_lawful bs in search (pieces, filled_lawful)
+
+-- filling leaves no more work than it began with
+pub all_leave : (bs : List Bound) (o : Answers) (s : Store) (m : Meter) → (meter_of (all_filled bs o s m)).left ≤ m.left
+all_leave bs o s m = left_within (λ k. Unit {0}) (all_filled bs) (all_lawful (λ k. Unit {0}) bs) o s m

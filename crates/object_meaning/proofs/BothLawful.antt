@@ -1,5 +1,5 @@
 -- Builds and checks are lawful runs, and so their laws hold.
-use Rattle.std.proofs.Common.{◌≡◌, ◌≢◌, refl, ℕ, List, false}
+use Rattle.std.proofs.Common.{◌≡◌, ◌≢◌, ◌≤◌, refl, ℕ, List, false}
 use Rattle.path_tree.specs.Paths.{path_text}
 use Rattle.pan_ast.specs.declared.fault.Code.{Code}
 use Rattle.pan_ast.specs.declared.fault.Code.TheVariants as code
@@ -7,9 +7,11 @@ use Rattle.pan_ast.specs.declared.work.Limits.{Limits}
 use Rattle.pan_template.specs.TemplateOf.{template_of}
 use Rattle.questions.specs.declared.key.Key.{Key}
 use Rattle.questions.specs.Laws.{MayAsk, is_circular}
-use Rattle.questions.specs.Told.{IsRanBy, IsWorkOf, IsEnd}
+use Rattle.questions.specs.Contents.{Answers}
+use Rattle.questions.specs.Run.{Meter}
+use Rattle.questions.specs.Told.{IsRanBy, IsWorkOf, IsEnd, meter_of}
 use Rattle.questions.proofs.Lawful.{Lawful, lawful_scoped}
-use Rattle.questions.proofs.Runs.{run_laws, ran_is, work_is}
+use Rattle.questions.proofs.Runs.{left_within, run_laws, ran_is, work_is}
 use Rattle.dml_meaning.specs.declared.limits.TheConstants.{MAX_OPEN_ITEMS}
 use Rattle.dml_meaning.specs.Laws.{IsReading}
 use Rattle.dml_meaning.proofs.Leaves.{look_at_lawful, pieces}
@@ -60,6 +62,10 @@ means_lawful may site w b =
 tested_lawful : (may : Key → Type 0) (site : Site) → Suits may site → (b : Built Rest) → Lawful may 0 (check_run site b)
 unfolding check_run
 tested_lawful may site w b = checked_lawful may (means_of site b) (means_lawful may site w b) b.rest.header b.tree b.rest.bindings b.rest.valids
+
+-- a check leaves no more work than it began with
+pub check_leaves : (site : Site) → IsReading site.reading → (b : Built Rest) (o : Answers) (m : Meter) → (meter_of (check_run site b o tt m)).left ≤ m.left
+check_leaves site r b o m = left_within (MayAsk site.object) (check_run site b) (tested_lawful (MayAsk site.object) site (suits site r) b) o tt m
 
 -- the laws of both
 

@@ -76,7 +76,7 @@ fn value_of(looked: Looked) -> Option<Tree>
     }
 }
 
-impl<'a, W: World, T: Tested, L: Ledger> Evaluator<L> for Tester<'a, W, T> {
+impl<'a, W: World, T: Tested> Evaluator for Tester<'a, W, T> {
     ghost means = { case_means T.case W.reading W.calls };
 
     ghost answers = { W.answers };
@@ -84,7 +84,7 @@ impl<'a, W: World, T: Tested, L: Ledger> Evaluator<L> for Tester<'a, W, T> {
     ghost asked = { λ t. W.asked t.world };
 
     #[tactic(auto, using(crate::proofs::Stopping::stops))]
-    fn value(
+    fn value<L: Ledger>(
         &mut self,
         alloc: Global,
         template: &Name,

@@ -27,7 +27,7 @@ use type_defs::{Range, RecordField, Resolved, Shape};
 /// Checks a value by a type, for a binding at the place: the first fault, in order.
 #[cycle(checking)]
 #[tactic(auto, using(type_defs::proofs::Shapes::seen_resolved))]
-pub(crate) fn check_value<L: Ledger, E: Evaluator<L>>(
+pub(crate) fn check_value<L: Ledger, E: Evaluator>(
     alloc: Global,
     place: &Place,
     resolved: &Resolved,
@@ -51,7 +51,7 @@ pub(crate) fn check_value<L: Ledger, E: Evaluator<L>>(
 
 #[cycle(checking)]
 #[tactic(auto, using(type_defs::proofs::Shapes::shapes))]
-fn check_shape<L: Ledger, E: Evaluator<L>>(
+fn check_shape<L: Ledger, E: Evaluator>(
     alloc: Global,
     place: &Place,
     shape: &Shape,
@@ -94,7 +94,7 @@ fn check_shape<L: Ledger, E: Evaluator<L>>(
 }
 
 #[cycle(checking)]
-fn check_ranged<L: Ledger, E: Evaluator<L>>(
+fn check_ranged<L: Ledger, E: Evaluator>(
     alloc: Global,
     place: &Place,
     inner: &Resolved,
@@ -119,7 +119,7 @@ fn check_ranged<L: Ledger, E: Evaluator<L>>(
 
 #[cycle(checking)]
 #[tactic(auto, using(crate::proofs::Walking::list_is, crate::proofs::Walking::no_list))]
-fn check_list<L: Ledger, E: Evaluator<L>>(
+fn check_list<L: Ledger, E: Evaluator>(
     alloc: Global,
     place: &Place,
     inner: &Resolved,
@@ -145,7 +145,7 @@ fn check_list<L: Ledger, E: Evaluator<L>>(
 
 #[cycle(checking)]
 #[tactic(auto, using(crate::proofs::Walking::items_start, crate::proofs::Walking::items_more, crate::proofs::Walking::items_end))]
-fn check_items<L: Ledger, E: Evaluator<L>>(
+fn check_items<L: Ledger, E: Evaluator>(
     alloc: Global,
     place: &Place,
     inner: &Resolved,
@@ -168,7 +168,7 @@ fn check_items<L: Ledger, E: Evaluator<L>>(
 
 #[cycle(checking)]
 #[tactic(auto, unfolding(crate::specs::Walks::item_run))]
-fn check_item<L: Ledger, E: Evaluator<L>>(
+fn check_item<L: Ledger, E: Evaluator>(
     alloc: Global,
     place: &Place,
     inner: &Resolved,
@@ -194,7 +194,7 @@ fn check_item<L: Ledger, E: Evaluator<L>>(
 
 #[cycle(checking)]
 #[tactic(auto, using(crate::proofs::Walking::dict_is, crate::proofs::Walking::no_dict))]
-fn check_dict<L: Ledger, E: Evaluator<L>>(
+fn check_dict<L: Ledger, E: Evaluator>(
     alloc: Global,
     place: &Place,
     inner: &Resolved,
@@ -220,7 +220,7 @@ fn check_dict<L: Ledger, E: Evaluator<L>>(
 
 #[cycle(checking)]
 #[tactic(auto, using(crate::proofs::Walking::fields_start, crate::proofs::Walking::values_more, crate::proofs::Walking::values_end))]
-fn check_entries<L: Ledger, E: Evaluator<L>>(
+fn check_entries<L: Ledger, E: Evaluator>(
     alloc: Global,
     place: &Place,
     inner: &Resolved,
@@ -243,7 +243,7 @@ fn check_entries<L: Ledger, E: Evaluator<L>>(
 
 #[cycle(checking)]
 #[tactic(auto, unfolding(crate::specs::Walks::value_run))]
-fn check_entry<L: Ledger, E: Evaluator<L>>(
+fn check_entry<L: Ledger, E: Evaluator>(
     alloc: Global,
     place: &Place,
     inner: &Resolved,
@@ -271,7 +271,7 @@ fn check_entry<L: Ledger, E: Evaluator<L>>(
 }
 
 #[cycle(checking)]
-fn check_link<L: Ledger, E: Evaluator<L>>(
+fn check_link<L: Ledger, E: Evaluator>(
     alloc: Global,
     place: &Place,
     inner: &Resolved,
@@ -294,7 +294,7 @@ fn check_link<L: Ledger, E: Evaluator<L>>(
 
 #[cycle(checking)]
 #[tactic(auto, using(crate::proofs::Walking::record_is, crate::proofs::Walking::no_record))]
-fn check_record<L: Ledger, E: Evaluator<L>>(
+fn check_record<L: Ledger, E: Evaluator>(
     alloc: Global,
     place: &Place,
     extensible: bool,
@@ -321,7 +321,7 @@ fn check_record<L: Ledger, E: Evaluator<L>>(
 
 #[cycle(checking)]
 #[tactic(auto, using(crate::proofs::Walking::typed_more))]
-fn check_fields<L: Ledger, E: Evaluator<L>>(
+fn check_fields<L: Ledger, E: Evaluator>(
     alloc: Global,
     place: &Place,
     fields: &[RecordField],
@@ -345,7 +345,7 @@ fn check_fields<L: Ledger, E: Evaluator<L>>(
 /// A field of a record that is there.
 #[cycle(checking)]
 #[tactic(auto, unfolding(crate::specs::Check::field_run))]
-fn check_present<L: Ledger, E: Evaluator<L>>(
+fn check_present<L: Ledger, E: Evaluator>(
     alloc: Global,
     place: &Place,
     key: &Key,
@@ -368,7 +368,7 @@ fn check_present<L: Ledger, E: Evaluator<L>>(
 
 #[cycle(checking)]
 #[tactic(auto, using(type_defs::proofs::Shapes::seen_field))]
-fn check_field<L: Ledger, E: Evaluator<L>>(
+fn check_field<L: Ledger, E: Evaluator>(
     alloc: Global,
     place: &Place,
     field: &RecordField,

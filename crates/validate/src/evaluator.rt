@@ -14,7 +14,7 @@ use std::sync::ledger::Ledger;
 
 /// What evaluates items and looks at paths, for one object whose tree, globals and functions stay
 /// as they are. The means and the answers belong to the type, what was asked to the value.
-pub trait Evaluator<L: Ledger> {
+pub trait Evaluator {
     /// What items give, and what stands at paths.
     ghost means: { Means };
 
@@ -25,7 +25,7 @@ pub trait Evaluator<L: Ledger> {
     ghost asked: { Self → List Key };
 
     /// The value of an item of a template, where SELF is fixed.
-    fn value(
+    fn value<L: Ledger>(
         &mut self,
         alloc: Global,
         template: &Name,

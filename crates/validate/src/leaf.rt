@@ -44,7 +44,7 @@ pub(crate) fn fault(alloc: Global, code: Code, place: &Place) -> Stop
 
 /// The step of a visit, for a binding at the place.
 #[tactic(auto, unfolding(crate::specs::Check::visit))]
-pub(crate) fn take_step<L: Ledger, E: Evaluator<L>>(
+pub(crate) fn take_step<L: Ledger, E: Evaluator>(
     alloc: Global,
     place: &Place,
     evaluator: &E,

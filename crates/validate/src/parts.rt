@@ -27,7 +27,7 @@ use std::sync::ledger::Ledger;
 use type_defs::{Base, RecordField};
 
 /// A value and a type that the language gives.
-pub(crate) fn check_base<L: Ledger, E: Evaluator<L>>(
+pub(crate) fn check_base<E: Evaluator>(
     alloc: Global,
     place: &Place,
     base: Base,
@@ -46,7 +46,7 @@ pub(crate) fn check_base<L: Ledger, E: Evaluator<L>>(
 }
 
 /// A value and the texts that it may be.
-pub(crate) fn check_choice<L: Ledger, E: Evaluator<L>>(
+pub(crate) fn check_choice<E: Evaluator>(
     alloc: Global,
     place: &Place,
     texts: &[Text],
@@ -69,7 +69,7 @@ pub(crate) fn check_choice<L: Ledger, E: Evaluator<L>>(
 
 /// What `with` tests, of a value.
 #[tactic(auto, unfolding(crate::specs::Check::condition_run))]
-fn check_test<L: Ledger, E: Evaluator<L>>(
+fn check_test<L: Ledger, E: Evaluator>(
     alloc: Global,
     place: &Place,
     item: &Item,
@@ -94,7 +94,7 @@ fn check_test<L: Ledger, E: Evaluator<L>>(
 
 /// What `with` tests, where it is written.
 #[tactic(auto, unfolding(crate::specs::Check::condition_run))]
-pub(crate) fn check_condition<L: Ledger, E: Evaluator<L>>(
+pub(crate) fn check_condition<L: Ledger, E: Evaluator>(
     alloc: Global,
     place: &Place,
     condition: &Option<Rc<Item>>,
@@ -117,7 +117,7 @@ pub(crate) fn check_condition<L: Ledger, E: Evaluator<L>>(
 
 /// The value behind a link.
 #[tactic(auto, unfolding(crate::specs::Check::target_run))]
-pub(crate) fn link_target<L: Ledger, E: Evaluator<L>>(
+pub(crate) fn link_target<E: Evaluator>(
     alloc: Global,
     place: &Place,
     value: &Tree,
@@ -138,7 +138,7 @@ pub(crate) fn link_target<L: Ledger, E: Evaluator<L>>(
 
 /// A field of a record that is not there.
 #[tactic(auto, unfolding(crate::specs::Check::field_run))]
-pub(crate) fn check_absent<L: Ledger, E: Evaluator<L>>(
+pub(crate) fn check_absent<E: Evaluator>(
     alloc: Global,
     key: &Key,
     required: bool,
@@ -157,7 +157,7 @@ pub(crate) fn check_absent<L: Ledger, E: Evaluator<L>>(
 }
 
 /// Checks that a dict has no key but those of fields.
-pub(crate) fn check_no_other<L: Ledger, E: Evaluator<L>>(
+pub(crate) fn check_no_other<E: Evaluator>(
     alloc: Global,
     fields: &[RecordField],
     value: &Tree,
