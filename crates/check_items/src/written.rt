@@ -7,6 +7,7 @@ ghost use Rattle.path_tree.specs.Refusals.{refusal};
 ghost use Rattle.pan_ast.specs.Failures.{fault_of};
 ghost use Rattle.pan_ast.specs.TemplatesSeen.{template_seen};
 ghost use Rattle.pan_template.specs.TemplateOf.{template_of};
+ghost use Rattle.pan_template.proofs.Files.{not_circular};
 ghost use Rattle.questions.specs.declared.key.Key.TheVariants.{Under};
 ghost use Rattle.questions.specs.Contents.{is_among, with_key};
 ghost use Rattle.questions.specs.Keys.{key_eq};
@@ -225,6 +226,8 @@ impl World for Written {
     ghost calls = { value_calls };
 
     ghost call_of = { call_of };
+
+    ghost plain = { record { plain = not_circular } };
 
     fn file(&mut self, alloc: Global, name: &Text) -> Result<Seen, AllocError> {
         add_key(&mut self.asked, Key::File(name.share()?))?;

@@ -1,5 +1,5 @@
 ghost use Rattle.std.specs.Prelude.{[], None};
-ghost use Rattle.check_types.specs.Itself.{means};
+ghost use Rattle.check_types.specs.Itself.{means, means_leave};
 
 use base::Steps;
 use pan_ast::{Item, Place, Work};
@@ -21,6 +21,8 @@ impl Evaluator for Itself {
     ghost answers = { λ k. None };
 
     ghost asked = { λ s. [] };
+
+    ghost leaves = { means_leave };
 
     fn value<L: Ledger>(
         &mut self,

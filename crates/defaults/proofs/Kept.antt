@@ -14,7 +14,7 @@ use Rattle.questions.specs.Contents.{Answers}
 use Rattle.questions.specs.Run.{Meter, Outcome, Done, Returned, Failed, Asks, then, ◌>>=◌, stepped}
 use Rattle.type_defs.specs.Bindings.{Bound}
 use Rattle.type_defs.specs.Resolved.{Resolved, Known, Shape, OfBase, Named, Ranged, ListOf, DictOf, Link, Record, Choice, Fields, none, more}
-use Rattle.defaults.specs.Filled.{Store, Fill, leave, default_change, is_missing, put_end, put_default, defaulted, items_filled, values_filled, where_dict, visit, visited, filled, filled_inside, fields_filled, all_filled}
+use Rattle.defaults.specs.Filled.{Store, Fill, leave, default_change, is_missing, put_end, defaulted, items_filled, values_filled, where_dict, visit, visited, filled, filled_inside, fields_filled, all_filled}
 
 -- the store after a default was put
 abbrev pub with_default : Place → List Term → Plain → Store → Plain → Store

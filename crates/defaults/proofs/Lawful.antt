@@ -1,19 +1,15 @@
 -- Each filling is a lawful run: it asks nothing, and fails with faults of its own.
-use Rattle.std.proofs.Common.{◌≤◌, ℕ, zero, suc, ◌+◌, ◌++◌, List, [], ◌∷◌, Option, Some, None, Result, Ok, Err}
+use Rattle.std.proofs.Common.{ℕ, zero, suc, ◌+◌, List, [], ◌∷◌, Option, Some, None, Result, Ok, Err}
 use Rattle.path_tree.specs.Plain.{Plain, dict, Fields as Values, no_fields, field}
 use Rattle.path_tree.specs.Children.{child_fields, child_items}
-use Rattle.path_tree.specs.Find.{get, item_count}
-use Rattle.path_tree.specs.Put.{put}
+use Rattle.path_tree.specs.Find.{item_count}
 use Rattle.path_tree.specs.declared.path.PutError.{PutError}
 use Rattle.path_tree.specs.declared.path.PutError.TheVariants.{TooLarge, TooHigh}
 use Rattle.path_tree.specs.declared.path.Term.{Term}
 use Rattle.pan_ast.specs.declared.change.Change.{Change}
 use Rattle.pan_ast.specs.declared.place.Place.{Place}
 use Rattle.questions.specs.declared.key.Key.{Key}
-use Rattle.questions.specs.Contents.{Answers}
-use Rattle.questions.specs.Run.{Meter}
-use Rattle.questions.specs.Told.{meter_of}
-use Rattle.questions.proofs.Runs.{left_within}
+use Rattle.questions.proofs.Runs.{Leaves, left_within}
 use Rattle.questions.proofs.Lawful.{Lawful, lawful_bind, lawful_give, lawful_fail, lawful_now, lawful_become, lawful_cond, lawful_step}
 use Rattle.type_defs.specs.Bindings.{Bound}
 use Rattle.type_defs.specs.Resolved.{Resolved, Known, Shape, OfBase, Named, Ranged, ListOf, DictOf, Link, Record, Choice, Fields, none, more}
@@ -86,6 +82,32 @@ module _ (may : Key → Type 0) where
   all_lawful [] = search pieces
   all_lawful (b ∷ bs) = let next = all_lawful bs in search (pieces, filled_lawful)
 
--- filling leaves no more work than it began with
-pub all_leave : (bs : List Bound) (o : Answers) (s : Store) (m : Meter) → (meter_of (all_filled bs o s m)).left ≤ m.left
-all_leave bs o s m = left_within (λ k. Unit {0}) (all_filled bs) (all_lawful (λ k. Unit {0}) bs) o s m
+-- no filling leaves more work than it began with
+nothing : Key → Type 0
+nothing k = Unit {0}
+
+pub defaulted_leaves : (p : Place) (d : Option Plain) (ms : List Term) → Leaves (defaulted p d ms)
+defaulted_leaves p d ms = left_within nothing 0 _ (defaulted_lawful nothing p d ms)
+
+pub items_leave : (p : Place) (t : Resolved) (ms : List Term) (i n : ℕ) → Leaves (items_filled (filled p t) ms i n)
+items_leave p t ms i n = left_within nothing 0 _ (items_lawful nothing (filled p t) (filled_lawful nothing p t) ms i n)
+
+pub values_leave : (p : Place) (t : Resolved) (ms : List Term) (fs : Values) → Leaves (values_filled (filled p t) ms fs)
+values_leave p t ms fs = left_within nothing 0 _ (values_lawful nothing (filled p t) (filled_lawful nothing p t) ms fs)
+
+pub visit_leaves : (p : Place) → Leaves (visit p)
+visit_leaves p = left_within nothing 0 _ (visit_lawful nothing p)
+
+pub filled_leaves : (p : Place) (t : Resolved) (ms : List Term) → Leaves (filled p t ms)
+filled_leaves p t ms = left_within nothing 0 _ (filled_lawful nothing p t ms)
+
+pub inside_leaves : (p : Place) (s : Shape) (ms : List Term) (v : Plain) → Leaves (filled_inside p s ms v)
+inside_leaves p s ms v = left_within nothing 0 _ (inside_lawful nothing p s ms v)
+
+pub fields_leave : (p : Place) (fs : Fields) (ms : List Term) → Leaves (fields_filled p fs ms)
+fields_leave p fs ms = left_within nothing 0 _ (fields_lawful nothing p fs ms)
+
+pub all_leave : (bs : List Bound) → Leaves (all_filled bs)
+all_leave bs = left_within nothing 0 _ (all_lawful nothing bs)
+
+pub ruleset leaving = (defaulted_leaves, items_leave, values_leave, visit_leaves, filled_leaves, inside_leaves, fields_leave, all_leave)

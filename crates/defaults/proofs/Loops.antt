@@ -1,7 +1,7 @@
 -- The parts of a value that are filled, one after the other.
-use Rattle.std.proofs.Common.{◌≡◌, ◌≢◌, ◌≤◌, ℕ, zero, suc, ◌+◌, ◌-◌, ◌<◌, List, [], ◌∷◌, ◌++◌, Option, Some, None, length, drop, get_or, refl, ap, subst, sym, ◌∙◌, arith}
+use Rattle.std.proofs.Common.{◌≡◌, ◌≤◌, ℕ, suc, ◌+◌, ◌-◌, ◌<◌, List, [], ◌∷◌, ◌++◌, Option, Some, None, length, drop, get_or, Err, refl, ap, subst, sym, ◌∙◌, arith}
 use Rattle.std.proofs.lemmas.List.{drop_more}
-use Rattle.path_tree.specs.Plain.{Plain, dict, list, text, long, boolean, undef, null, no_fields}
+use Rattle.path_tree.specs.Plain.{Plain, dict, list, text, long, boolean, undef, null}
 use Rattle.path_tree.specs.Children.{child_fields, fields_from}
 use Rattle.path_tree.specs.Find.{child_at, child_count, key_at, kind_of}
 use Rattle.path_tree.specs.declared.kind.Kind.TheVariants as kind
@@ -10,7 +10,11 @@ use Rattle.path_tree.specs.declared.path.Term.TheVariants as term
 use Rattle.path_tree.proofs.Children.{all_fields, dict_child, dict_end, dict_key, dict_step}
 use Rattle.pan_ast.specs.declared.place.Place.{Place}
 use Rattle.questions.specs.Contents.{Answers}
-use Rattle.questions.specs.Run.{Meter, Done, then}
+use Rattle.questions.specs.Run.{Meter, Outcome, Done, then}
+use Rattle.questions.specs.Told.{LeavesAtMost}
+use Rattle.pan_ast.specs.declared.failure.Failure.{Failure}
+use Rattle.pan_ast.specs.declared.failure.Failure.TheVariants as failure
+use Rattle.dml_meaning.proofs.Leaving.{then_leaves}
 use Rattle.type_defs.specs.declared.bindings.Bound.{Bound as RBound}
 use Rattle.type_defs.specs.declared.resolved.RecordField.{RecordField as RField}
 use Rattle.type_defs.specs.BindingsSeen.{bound_seen, bounds_seen}
@@ -18,7 +22,9 @@ use Rattle.type_defs.specs.Resolved.{fields_of}
 use Rattle.type_defs.specs.ResolvedSeen.{field_seen}
 use Rattle.type_defs.specs.Tables.{all_seen}
 use Rattle.defaults.specs.Filled.{Store, Fill, all_filled, fields_filled, filled, items_filled, values_filled, where_dict}
+use Rattle.defaults.specs.Fills.{Comes}
 use Rattle.defaults.specs.Steps.{entry_filled}
+use Rattle.defaults.proofs.Lawful.{all_leave, fields_leave}
 
 module _ (f : List Term → Fill) (ms : List Term) (o : Answers) (s : Store) (m : Meter) where
   pub items_more : (i n : ℕ) → i < n → items_filled f ms i (n - i) o s m ≡ then (f (ms ++ term.Index i ∷ []) o s m) (λ _. items_filled f ms (i + 1) (n - (i + 1)) o)
@@ -84,3 +90,14 @@ fields_more p fs i f ms o s m h is = ap (λ r. fields_filled p (fields_of (all_s
 
 pub bounds_more : (bs : List RBound) (i : ℕ) (b : RBound) (o : Answers) (s : Store) (m : Meter) → i < length bs → b ≡ get_or bs i b → all_filled (bounds_seen (drop i bs)) o s m ≡ then (filled (bound_seen b).place (bound_seen b).resolved (bound_seen b).terms o s m) (λ _. all_filled (bounds_seen (drop (i + 1) bs)) o)
 bounds_more bs i b o s m h is = ap (λ r. all_filled (bounds_seen r) o s m) (drop_more bs i b h ∙ ap (λ r. r ∷ drop (i + 1) bs) (sym is))
+
+-- an early end in front of more
+comes_then : (x : Failure) (s : Store) (m : Meter) (z : Outcome Store (Unit {0})) (f : Unit {0} → Store → Meter → Outcome Store (Unit {0})) → ((u : Unit {0}) (t : Store) (n : Meter) → LeavesAtMost n.left (f u t n)) → Comes {X = Unit {0}} (Err x) s m z → Comes {X = Unit {0}} (Err x) s m (then z f)
+comes_then failure.Memory s m z f k h = then_leaves m.left z f k h
+comes_then (failure.Fault d) s m z f k h = ap (λ w. then w f) h
+
+pub fields_stop : (x : Failure) (p : Place) (fs : List RField) (i : ℕ) (f : RField) (ms : List Term) (o : Answers) (s t : Store) (m n : Meter) → i < length fs → f ≡ get_or fs i f → Comes {X = Unit {0}} (Err x) t n (filled p (field_seen f).resolved (ms ++ term.Key (field_seen f).key ∷ []) o s m) → Comes {X = Unit {0}} (Err x) t n (fields_filled p (fields_of (all_seen (drop i fs))) ms o s m)
+fields_stop x p fs i f ms o s t m n h is k = rw (fields_more p fs i f ms o s m h is) (comes_then x t n (filled p (field_seen f).resolved (ms ++ term.Key (field_seen f).key ∷ []) o s m) (λ _. fields_filled p (fields_of (all_seen (drop (i + 1) fs))) ms o) (λ _. fields_leave p (fields_of (all_seen (drop (i + 1) fs))) ms o) k)
+
+pub bounds_stop : (x : Failure) (bs : List RBound) (i : ℕ) (b : RBound) (o : Answers) (s t : Store) (m n : Meter) → i < length bs → b ≡ get_or bs i b → Comes {X = Unit {0}} (Err x) t n (filled (bound_seen b).place (bound_seen b).resolved (bound_seen b).terms o s m) → Comes {X = Unit {0}} (Err x) t n (all_filled (bounds_seen (drop i bs)) o s m)
+bounds_stop x bs i b o s t m n h is k = rw (bounds_more bs i b o s m h is) (comes_then x t n (filled (bound_seen b).place (bound_seen b).resolved (bound_seen b).terms o s m) (λ _. all_filled (bounds_seen (drop (i + 1) bs)) o) (λ _. all_leave (bounds_seen (drop (i + 1) bs)) o) k)

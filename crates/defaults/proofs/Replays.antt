@@ -1,5 +1,5 @@
 -- A filling keeps that the log gives the tree; where the log has not grown, the tree is as before.
-use Rattle.std.proofs.Common.{◌≡◌, ◌≤◌, ◌∙◌, ap, refl, subst, ℕ, ◌+◌, ◌++◌, List, [], ◌∷◌, Some, None, Result, Ok, Err, OnOk, length, arith}
+use Rattle.std.proofs.Common.{◌≡◌, ◌≤◌, ◌∙◌, ap, refl, subst, List, [], ◌∷◌, Some, None, Result, Ok, Err, OnOk, length, arith}
 use Rattle.std.proofs.lemmas.List.{length-append}
 use Rattle.path_tree.specs.Plain.{Plain, dict, no_fields}
 use Rattle.path_tree.specs.Put.{put}

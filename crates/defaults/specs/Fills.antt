@@ -9,6 +9,7 @@ use Rattle.pan_ast.specs.declared.work.Work.{Work}
 use Rattle.questions.specs.Contents.{Answers}
 use Rattle.questions.specs.declared.key.Key.{Key}
 use Rattle.questions.specs.Run.{Meter, Outcome, Done, Failed}
+use Rattle.questions.specs.Told.{LeavesAtMost}
 use Rattle.pan_ast.specs.declared.fault.Fault.{Fault}
 use Rattle.defaults.specs.declared.target.Target.{Target}
 use Rattle.defaults.specs.Filled.{Store, Fill}
@@ -19,11 +20,12 @@ store tree log = record { tree = tree; log = log.items }
 abbrev pub meter : Work → List Key → Meter
 meter work asked = record { left = work.left; asked = asked }
 
+-- what it gives, with what is left; at want of memory the run leaves no more
 abbrev pub Comes : {X : Type 0} → Result X Failure → Store → Meter → Outcome Store (Unit {0})
     → Type 0
 Comes (Ok x) s m o = o ≡ Done tt s m
 Comes (Err (failure.Fault f)) s m o = o ≡ Failed f m
-Comes (Err failure.Memory) s m o = Unit {0}
+Comes (Err failure.Memory) s m o = LeavesAtMost m.left o
 
 -- whatever the run is told, and whatever was asked before it
 abbrev pub Fills : {X : Type 0} → Result X Failure → Store → Work → Store → Work → Fill → Type 0

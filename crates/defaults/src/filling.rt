@@ -32,7 +32,7 @@ fn item_total(value: &Tree) -> usize
 /// Fills what stands at the path by a type, for a binding at the place. What is found there comes
 /// along, so that no visit looks it up from the root.
 #[cycle(filling)]
-#[tactic(auto, using(type_defs::proofs::Shapes::seen_resolved), unfolding(crate::specs::Filled::defaulted))]
+#[tactic(auto, using(type_defs::proofs::Shapes::seen_resolved, crate::proofs::Lawful::leaving), unfolding(crate::specs::Filled::defaulted))]
 pub(crate) fn fill_value<L: Ledger>(
     alloc: Global,
     place: &Place,
@@ -65,6 +65,7 @@ pub(crate) fn fill_value<L: Ledger>(
 
 /// Visits a value that is there.
 #[cycle(filling)]
+#[tactic(auto, using(crate::proofs::Lawful::leaving))]
 fn fill_present<L: Ledger>(
     alloc: Global,
     place: &Place,
@@ -120,7 +121,7 @@ fn fill_shape<L: Ledger>(
 
 /// Fills the items of a value, the first first.
 #[cycle(filling)]
-#[tactic(auto, using(crate::proofs::Loops::items_more, crate::proofs::Loops::items_end))]
+#[tactic(auto, using(crate::proofs::Loops::items_more, crate::proofs::Loops::items_end, crate::proofs::Lawful::leaving))]
 fn fill_items<L: Ledger>(
     alloc: Global,
     place: &Place,
@@ -187,6 +188,7 @@ fn go_below(
 
 /// Fills what stands one term below the path.
 #[cycle(filling)]
+#[tactic(auto, using(crate::proofs::Lawful::leaving))]
 fn fill_term<L: Ledger>(
     alloc: Global,
     place: &Place,
@@ -272,7 +274,7 @@ fn fill_dict<L: Ledger>(
 }
 
 #[cycle(filling)]
-#[tactic(auto, using(crate::proofs::Loops::values_start, crate::proofs::Loops::values_more, crate::proofs::Loops::values_end))]
+#[tactic(auto, using(crate::proofs::Loops::values_start, crate::proofs::Loops::values_more, crate::proofs::Loops::values_end, crate::proofs::Lawful::leaving))]
 fn fill_values<L: Ledger>(
     alloc: Global,
     place: &Place,
@@ -299,7 +301,7 @@ fn fill_values<L: Ledger>(
 
 /// Fills the value of the i-th key.
 #[cycle(filling)]
-#[tactic(auto, unfolding(crate::specs::Steps::entry_filled))]
+#[tactic(auto, using(crate::proofs::Lawful::leaving), unfolding(crate::specs::Steps::entry_filled))]
 fn fill_entry<L: Ledger>(
     alloc: Global,
     place: &Place,
@@ -350,7 +352,7 @@ fn fill_record<L: Ledger>(
 }
 
 #[cycle(filling)]
-#[tactic(auto, using(crate::proofs::Loops::fields_more))]
+#[tactic(auto, using(crate::proofs::Loops::fields_more, crate::proofs::Lawful::leaving))]
 fn fill_fields<L: Ledger>(
     alloc: Global,
     place: &Place,
@@ -374,7 +376,7 @@ fn fill_fields<L: Ledger>(
 }
 
 #[cycle(filling)]
-#[tactic(auto, using(type_defs::proofs::Shapes::seen_field))]
+#[tactic(auto, using(type_defs::proofs::Shapes::seen_field, crate::proofs::Lawful::leaving))]
 fn fill_field<L: Ledger>(
     alloc: Global,
     place: &Place,

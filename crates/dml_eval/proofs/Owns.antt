@@ -159,7 +159,7 @@ statements_more including go a ss i s t o e m h is = ap (λ xs. statements_from 
 
 -- a structure template that is included
 
-one_include : (n : ℕ) (go : Means) (a : Around) (p : Place) (x : List ℕ) (t : Plain) (o : Answers) (e : Env) (m : Meter) → 0 < n → included n go a p x t o e m ≡ then (still (structure_named a p x) o e m) (λ z. statements_from (included (n - 1) go) go (in_template (in_include a) z.name) z.statements t o)
+pub one_include : (n : ℕ) (go : Means) (a : Around) (p : Place) (x : List ℕ) (t : Plain) (o : Answers) (e : Env) (m : Meter) → 0 < n → included n go a p x t o e m ≡ then (still (structure_named a p x) o e m) (λ z. statements_from (included (n - 1) go) go (in_template (in_include a) z.name) z.statements t o)
 unfolding included
 one_include zero go a p x t o e m h = absurd (omega arith)
 one_include (suc n) go a p x t o e m h = let k : suc n - 1 ≡ n = omega arith in rw k refl

@@ -61,6 +61,7 @@ pub(crate) fn run_own<W: World, L: Ledger>(
 
 /// A built-in function of the values of its arguments.
 #[cycle(eval)]
+#[tactic(auto, using(dml_meaning::proofs::Leaving::leaving))]
 fn run_evaluated<W: World, L: Ledger>(
     alloc: Global,
     place: &Place,
@@ -159,7 +160,7 @@ fn run_exists<W: World, L: Ledger>(
 
 /// Whether an argument leads to something, or is a path that does.
 #[cycle(eval)]
-#[tactic(auto, using(crate::proofs::Owns::exists_items, pan_ast::proofs::Places::item_place_seen))]
+#[tactic(auto, using(crate::proofs::Owns::exists_items, pan_ast::proofs::Places::item_place_seen, dml_meaning::proofs::Leaving::leaving))]
 fn exists_item<W: World, L: Ledger>(
     alloc: Global,
     place: &Place,
@@ -216,7 +217,7 @@ fn run_delete<W: World, L: Ledger>(
 
 /// What an argument leads to goes, where it is written as a reference.
 #[cycle(eval)]
-#[tactic(auto, using(crate::proofs::Owns::delete_items, pan_ast::proofs::Places::item_place_seen))]
+#[tactic(auto, using(crate::proofs::Owns::delete_items, pan_ast::proofs::Places::item_place_seen, dml_meaning::proofs::Leaving::leaving))]
 fn delete_item<W: World, L: Ledger>(
     alloc: Global,
     place: &Place,
@@ -248,7 +249,7 @@ fn delete_item<W: World, L: Ledger>(
 /// `append` and `prepend` of two arguments: the first one is changed where it is a reference that
 /// may be, and else copied.
 #[cycle(eval)]
-#[tactic(auto, using(crate::proofs::Owns::extends, pan_ast::proofs::Places::item_place_seen))]
+#[tactic(auto, using(crate::proofs::Owns::extends, pan_ast::proofs::Places::item_place_seen, dml_meaning::proofs::Leaving::leaving))]
 fn run_extend<W: World, L: Ledger>(
     alloc: Global,
     place: &Place,
@@ -298,6 +299,7 @@ fn run_extend<W: World, L: Ledger>(
 
 /// A copy of a list takes a value.
 #[cycle(eval)]
+#[tactic(auto, using(dml_meaning::proofs::Leaving::leaving))]
 fn run_copy<W: World, L: Ledger>(
     alloc: Global,
     place: &Place,
@@ -322,6 +324,7 @@ fn run_copy<W: World, L: Ledger>(
 
 /// What a reference leads to takes a value; the place `at` is that of the reference as an item.
 #[cycle(eval)]
+#[tactic(auto, using(dml_meaning::proofs::Leaving::leaving))]
 fn run_change<W: World, L: Ledger>(
     alloc: Global,
     place: &Place,

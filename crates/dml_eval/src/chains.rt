@@ -106,7 +106,7 @@ pub(crate) fn run_chain<W: World, L: Ledger>(
 
 /// The left operand of a chain, and its first step.
 #[cycle(eval)]
-#[tactic(auto, unfolding(dml_meaning::specs::Meaning::steps_run))]
+#[tactic(auto, using(dml_meaning::proofs::Leaving::leaving), unfolding(dml_meaning::specs::Meaning::steps_run))]
 fn start<'a, W: World, L: Ledger>(
     alloc: Global,
     chain: Chain<'a>,
@@ -145,6 +145,7 @@ fn start<'a, W: World, L: Ledger>(
 
 /// A chain that waited goes on with the value that it waited for.
 #[cycle(eval)]
+#[tactic(auto, using(dml_meaning::proofs::Leaving::leaving))]
 fn take_up<'a, W: World, L: Ledger>(
     alloc: Global,
     waiting: Waiting<'a>,
@@ -219,7 +220,7 @@ fn run_step<'a, W: World, L: Ledger>(
 
 /// An index.
 #[cycle(eval)]
-#[tactic(auto, unfolding(dml_meaning::specs::Meaning::step_run))]
+#[tactic(auto, using(dml_meaning::proofs::Leaving::leaving), unfolding(dml_meaning::specs::Meaning::step_run))]
 fn run_index<'a, W: World, L: Ledger>(
     alloc: Global,
     place: &'a Place,
@@ -247,7 +248,7 @@ fn run_index<'a, W: World, L: Ledger>(
 
 /// An operator and its right operand.
 #[cycle(eval)]
-#[tactic(auto, using(dml_meaning::proofs::Chains::then_then), unfolding(dml_meaning::specs::Meaning::step_run))]
+#[tactic(auto, using(dml_meaning::proofs::Chains::then_then, dml_meaning::proofs::Leaving::leaving), unfolding(dml_meaning::specs::Meaning::step_run))]
 fn run_binary<'a, W: World, L: Ledger>(
     alloc: Global,
     place: &'a Place,
@@ -290,7 +291,7 @@ fn run_binary<'a, W: World, L: Ledger>(
 
 /// `&&`: where the left side is true, the right side decides.
 #[cycle(eval)]
-#[tactic(auto, using(dml_world::proofs::Booleans::boths), unfolding(dml_meaning::specs::Meaning::step_run))]
+#[tactic(auto, using(dml_world::proofs::Booleans::boths, dml_meaning::proofs::Leaving::leaving), unfolding(dml_meaning::specs::Meaning::step_run))]
 fn run_both<'a, W: World, L: Ledger>(
     alloc: Global,
     place: &'a Place,
@@ -323,7 +324,7 @@ fn run_both<'a, W: World, L: Ledger>(
 
 /// `||`: where the left side is false, the right side decides.
 #[cycle(eval)]
-#[tactic(auto, using(dml_world::proofs::Booleans::eithers), unfolding(dml_meaning::specs::Meaning::step_run))]
+#[tactic(auto, using(dml_world::proofs::Booleans::eithers, dml_meaning::proofs::Leaving::leaving), unfolding(dml_meaning::specs::Meaning::step_run))]
 fn run_either<'a, W: World, L: Ledger>(
     alloc: Global,
     place: &'a Place,
@@ -356,7 +357,7 @@ fn run_either<'a, W: World, L: Ledger>(
 
 /// The operand that decides.
 #[cycle(eval)]
-#[tactic(auto, using(dml_meaning::proofs::Chains::then_then))]
+#[tactic(auto, using(dml_meaning::proofs::Chains::then_then, dml_meaning::proofs::Leaving::leaving))]
 fn run_second<'a, W: World, L: Ledger>(
     alloc: Global,
     place: &'a Place,

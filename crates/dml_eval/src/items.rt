@@ -19,7 +19,7 @@ use std::sync::ledger::Ledger;
 
 /// An item, where `room` more may be open.
 #[cycle(eval)]
-#[tactic(auto, using(pan_ast::proofs::Places::item_place_seen), unfolding(dml_meaning::specs::Meaning::eval))]
+#[tactic(auto, using(pan_ast::proofs::Places::item_place_seen, dml_meaning::proofs::Leaving::leaving), unfolding(dml_meaning::specs::Meaning::eval))]
 pub(crate) fn open_item<W: World, L: Ledger>(
     alloc: Global,
     item: &Item,
@@ -120,7 +120,7 @@ fn run_item<W: World, L: Ledger>(
 
 /// Items in turn: the value of the last one.
 #[cycle(eval)]
-#[tactic(auto, using(crate::proofs::Lists::items), unfolding(dml_meaning::specs::Meaning::block_from))]
+#[tactic(auto, using(crate::proofs::Lists::items, dml_meaning::proofs::Leaving::leaving), unfolding(dml_meaning::specs::Meaning::block_from))]
 fn run_block<W: World, L: Ledger>(
     alloc: Global,
     items: &[Item],
@@ -144,7 +144,7 @@ fn run_block<W: World, L: Ledger>(
 
 /// The values of items, in order.
 #[cycle(eval)]
-#[tactic(auto, using(crate::proofs::Lists::items), unfolding(dml_meaning::specs::Meaning::values_from))]
+#[tactic(auto, using(crate::proofs::Lists::items, dml_meaning::proofs::Leaving::leaving), unfolding(dml_meaning::specs::Meaning::values_from))]
 pub(crate) fn open_values<W: World, L: Ledger>(
     alloc: Global,
     items: &[Item],
@@ -197,6 +197,7 @@ pub(crate) fn holds<W: World, L: Ledger>(
 
 /// A choice without another side.
 #[cycle(eval)]
+#[tactic(auto, using(dml_meaning::proofs::Leaving::leaving))]
 fn run_if<W: World, L: Ledger>(
     alloc: Global,
     condition: &Item,
@@ -222,6 +223,7 @@ fn run_if<W: World, L: Ledger>(
 
 /// A choice.
 #[cycle(eval)]
+#[tactic(auto, using(dml_meaning::proofs::Leaving::leaving))]
 fn run_if_else<W: World, L: Ledger>(
     alloc: Global,
     condition: &Item,
@@ -249,7 +251,7 @@ fn run_if_else<W: World, L: Ledger>(
 
 /// An assignment: first whether the name may be changed.
 #[cycle(eval)]
-#[tactic(auto, using(pan_ast::proofs::Forms::seen_reference), unfolding(dml_meaning::specs::Meaning::assign_run))]
+#[tactic(auto, using(pan_ast::proofs::Forms::seen_reference, dml_meaning::proofs::Leaving::leaving), unfolding(dml_meaning::specs::Meaning::assign_run))]
 fn run_assign<W: World, L: Ledger>(
     alloc: Global,
     reference: &Reference,
@@ -285,7 +287,7 @@ fn run_assign<W: World, L: Ledger>(
 
 /// The indexes, the right side, and then the change.
 #[cycle(eval)]
-#[tactic(auto, unfolding(dml_meaning::specs::Meaning::set_run))]
+#[tactic(auto, using(dml_meaning::proofs::Leaving::leaving), unfolding(dml_meaning::specs::Meaning::set_run))]
 fn run_set<W: World, L: Ledger>(
     alloc: Global,
     place: &Place,

@@ -20,7 +20,7 @@ use std::sync::ledger::Ledger;
 
 /// One turn of a `while`, where `left` more may be made: its value, or none where the loop is over.
 #[cycle(eval)]
-#[tactic(auto, unfolding(dml_meaning::specs::Meaning::while_turn))]
+#[tactic(auto, using(dml_meaning::proofs::Leaving::leaving), unfolding(dml_meaning::specs::Meaning::while_turn))]
 fn turn_while<W: World, L: Ledger>(
     alloc: Global,
     left: u64,
@@ -51,7 +51,7 @@ fn turn_while<W: World, L: Ledger>(
 
 /// The turns of a `while`: the value of the last one.
 #[cycle(eval)]
-#[tactic(auto, using(crate::proofs::Lists::while_more), unfolding(dml_meaning::specs::Meaning::while_turns))]
+#[tactic(auto, using(crate::proofs::Lists::while_more, dml_meaning::proofs::Leaving::leaving), unfolding(dml_meaning::specs::Meaning::while_turns))]
 pub(crate) fn run_while<W: World, L: Ledger>(
     alloc: Global,
     place: &Place,
@@ -82,7 +82,7 @@ pub(crate) fn run_while<W: World, L: Ledger>(
 
 /// One turn of a `for`, with its step.
 #[cycle(eval)]
-#[tactic(auto, unfolding(dml_meaning::specs::Meaning::for_turn))]
+#[tactic(auto, using(dml_meaning::proofs::Leaving::leaving), unfolding(dml_meaning::specs::Meaning::for_turn))]
 fn turn_for<W: World, L: Ledger>(
     alloc: Global,
     left: u64,
@@ -114,7 +114,7 @@ fn turn_for<W: World, L: Ledger>(
 
 /// The turns of a `for`: the value of the last one.
 #[cycle(eval)]
-#[tactic(auto, using(crate::proofs::Lists::for_more), unfolding(dml_meaning::specs::Meaning::for_turns))]
+#[tactic(auto, using(crate::proofs::Lists::for_more, dml_meaning::proofs::Leaving::leaving), unfolding(dml_meaning::specs::Meaning::for_turns))]
 fn turns_for<W: World, L: Ledger>(
     alloc: Global,
     place: &Place,
@@ -146,7 +146,7 @@ fn turns_for<W: World, L: Ledger>(
 
 /// A `for`: its first item, then its turns.
 #[cycle(eval)]
-#[tactic(auto, unfolding(dml_meaning::specs::Meaning::item_run))]
+#[tactic(auto, using(dml_meaning::proofs::Leaving::leaving), unfolding(dml_meaning::specs::Meaning::item_run))]
 pub(crate) fn run_for<W: World, L: Ledger>(
     alloc: Global,
     place: &Place,
@@ -174,7 +174,7 @@ pub(crate) fn run_for<W: World, L: Ledger>(
 
 /// A `foreach`: what it walks, then its turns.
 #[cycle(eval)]
-#[tactic(auto, unfolding(dml_meaning::specs::Meaning::item_run))]
+#[tactic(auto, using(dml_meaning::proofs::Leaving::leaving), unfolding(dml_meaning::specs::Meaning::item_run))]
 pub(crate) fn run_foreach<W: World, L: Ledger>(
     alloc: Global,
     place: &Place,
@@ -201,7 +201,7 @@ pub(crate) fn run_foreach<W: World, L: Ledger>(
 
 /// One turn of a `foreach`, over the child at a place.
 #[cycle(eval)]
-#[tactic(auto, unfolding(dml_meaning::specs::Meaning::pair_turn))]
+#[tactic(auto, using(dml_meaning::proofs::Leaving::leaving), unfolding(dml_meaning::specs::Meaning::pair_turn))]
 fn turn_pair<W: World, L: Ledger>(
     alloc: Global,
     i: usize,
@@ -232,7 +232,7 @@ fn turn_pair<W: World, L: Ledger>(
 
 /// The turns of a `foreach`: the value of the last one.
 #[cycle(eval)]
-#[tactic(auto, using(crate::proofs::Lists::pairs), unfolding(dml_meaning::specs::Meaning::each_of, dml_meaning::specs::Meaning::pair_turns))]
+#[tactic(auto, using(crate::proofs::Lists::pairs, dml_meaning::proofs::Leaving::leaving), unfolding(dml_meaning::specs::Meaning::each_of, dml_meaning::specs::Meaning::pair_turns))]
 fn walk<W: World, L: Ledger>(
     alloc: Global,
     place: &Place,

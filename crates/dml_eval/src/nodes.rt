@@ -94,7 +94,7 @@ pub(crate) fn run_operand<'a, W: World, L: Ledger>(
 
 /// An operator before its operand, where `room` more may be open.
 #[cycle(eval)]
-#[tactic(auto, unfolding(dml_meaning::specs::Meaning::eval))]
+#[tactic(auto, using(dml_meaning::proofs::Leaving::leaving), unfolding(dml_meaning::specs::Meaning::eval))]
 fn open_sign<W: World, L: Ledger>(
     alloc: Global,
     place: &Place,

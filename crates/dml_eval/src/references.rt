@@ -20,7 +20,7 @@ use std::sync::ledger::Ledger;
 /// An argument that is a reference, where `room` more items may be open; the place is that of the
 /// argument as an item.
 #[cycle(eval)]
-#[tactic(auto, unfolding(dml_meaning::specs::Meaning::eval, dml_meaning::specs::Meaning::reach_run))]
+#[tactic(auto, using(dml_meaning::proofs::Leaving::leaving), unfolding(dml_meaning::specs::Meaning::eval, dml_meaning::specs::Meaning::reach_run))]
 pub(crate) fn open_reference<W: World, L: Ledger>(
     alloc: Global,
     purpose: &Purpose<'_>,
@@ -64,7 +64,7 @@ fn is_lost(value: &Option<Tree>, all: bool) -> bool
 /// The indexes of a reference, as many as are looked at: all, or up to the first that finds
 /// nothing.
 #[cycle(eval)]
-#[tactic(auto, using(crate::proofs::Reaching::reaches), unfolding(dml_meaning::specs::Meaning::reach_from))]
+#[tactic(auto, using(crate::proofs::Reaching::reaches, dml_meaning::proofs::Leaving::leaving), unfolding(dml_meaning::specs::Meaning::reach_from))]
 fn reach_from<W: World, L: Ledger>(
     alloc: Global,
     all: bool,
@@ -100,7 +100,7 @@ fn reach_from<W: World, L: Ledger>(
 
 /// What an argument leads to, where it is written as a reference, or its value.
 #[cycle(eval)]
-#[tactic(auto, using(crate::proofs::Owns::values, pan_ast::proofs::Places::item_place_seen))]
+#[tactic(auto, using(crate::proofs::Owns::values, pan_ast::proofs::Places::item_place_seen, dml_meaning::proofs::Leaving::leaving))]
 pub(crate) fn value_or_nothing<W: World, L: Ledger>(
     alloc: Global,
     item: &Item,

@@ -2,3 +2,4 @@ pub mod Trees
 pub mod Indexed
 pub mod Weights
 pub mod KeyValues
+pub mod Stopping

@@ -1,31 +1,27 @@
 -- The laws of an item's evaluation as questions and answers.
-use Rattle.std.proofs.Common.{◌≤◌, Bool, refl}
-use Rattle.path_tree.specs.Plain.{Plain}
+use Rattle.std.proofs.Common.{◌≡◌, ◌≢◌, false, refl}
 use Rattle.pan_ast.specs.Syntax.{Item}
-use Rattle.questions.specs.Laws.{MayAsk}
-use Rattle.questions.specs.Contents.{Answers}
-use Rattle.questions.specs.Run.{Meter}
-use Rattle.questions.specs.Told.{RunLaws, IsRanBy, IsWorkOf, IsEnd, meter_of, work_of}
+use Rattle.pan_ast.specs.declared.fault.Code.{Code}
+use Rattle.pan_ast.specs.declared.fault.Code.TheVariants as code
+use Rattle.questions.specs.Laws.{MayAsk, is_circular}
+use Rattle.questions.specs.Told.{RunLaws, IsRanBy, IsWorkOf, IsEnd, work_of}
 use Rattle.questions.proofs.Lawful.{Lawful}
-use Rattle.questions.proofs.Runs.{left_within, run_laws, ran_is, work_is}
-use Rattle.dml_meaning.specs.declared.limits.TheConstants.{MAX_OPEN_ITEMS}
+use Rattle.questions.proofs.Runs.{run_laws, ran_is, work_is}
 use Rattle.dml_meaning.specs.Run.{Env}
 use Rattle.dml_meaning.specs.Around.{Around}
 use Rattle.dml_meaning.specs.Laws.{IsReading, item_ending, is_circular_end, item_meaning, item_told, evaluated}
-use Rattle.dml_meaning.specs.Meaning.{dml_run, eval}
 use Rattle.dml_meaning.proofs.Leaves.{Fits}
-use Rattle.dml_meaning.proofs.Create.{dml_lawful}
 use Rattle.dml_meaning.proofs.Items.{eval_lawful}
 
+pub code_plain : (c : Code) → c ≢ code.Circular → is_circular c ≡ false
+code_plain code.Circular h = absurd (h refl)
+code_plain _ h = refl
+
 pub fits : (a : Around) → IsReading a.reading → Fits (MayAsk a.object) a
-fits a w = record { file = λ f. tt; other = λ o ms e. e; plain = w.plain }
+fits a w = record { file = λ f. tt; other = λ o ms e. e; plain = λ f bs d e. code_plain d.code (w.plain f bs d e) }
 
 pub item_is_lawful : (a : Around) → IsReading a.reading → (i : Item) → Lawful (MayAsk a.object) 0 (item_meaning a i)
 item_is_lawful a w i = (eval_lawful (MayAsk a.object) 1000).opens a (fits a w) i
-
--- DML leaves no more work than it began with
-pub dml_leaves : (a : Around) → IsReading a.reading → (fixed : Bool) (s : Plain) (i : Item) (o : Answers) (m : Meter) → (meter_of (dml_run {S = Unit {0}} (eval MAX_OPEN_ITEMS) a fixed s i o tt m)).left ≤ m.left
-dml_leaves a w fixed s i o m = left_within (MayAsk a.object) (dml_run (eval MAX_OPEN_ITEMS) a fixed s i) (dml_lawful (MayAsk a.object) (eval MAX_OPEN_ITEMS) (eval_lawful (MayAsk a.object) MAX_OPEN_ITEMS) a (fits a w) fixed s i) o tt m
 
 ends : IsEnd item_ending is_circular_end
 ends = record { done = λ t e. refl; returned = λ t e. refl; failed = λ f. refl }

@@ -64,7 +64,7 @@ next_lawful : (may : Key → Type 0) (next : Look (Option Present)) (x : Option 
 next_lawful may next (Some x) h = search pieces
 next_lawful may next None h = h
 
-first_lawful : (may : Key → Type 0) → ((f : List ℕ) → may (File f)) → (p : Place) (fs : List (List ℕ)) → Lawful may 0 (first_present p fs)
+pub first_lawful : (may : Key → Type 0) → ((f : List ℕ) → may (File f)) → (p : Place) (fs : List (List ℕ)) → Lawful may 0 (first_present p fs)
 unfolding first_present
 first_lawful may ok p [] = search pieces
 first_lawful may ok p (f ∷ fs) = let next = first_lawful may ok p fs in search (pieces, tried_lawful, next_lawful)

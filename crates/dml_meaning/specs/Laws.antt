@@ -1,7 +1,8 @@
 -- What the laws of runs are said of.
-use Rattle.std.specs.Prelude.{◌≡◌, ℕ, List, Bool, false, Result, Ok, Err}
+use Rattle.std.specs.Prelude.{◌≡◌, ◌≢◌, ℕ, List, Bool, false, Result, Ok, Err}
 use Rattle.path_tree.specs.Plain.{Plain}
 use Rattle.pan_ast.specs.declared.fault.Fault.{Fault}
+use Rattle.pan_ast.specs.declared.fault.Code.TheVariants.{Circular}
 use Rattle.pan_ast.specs.Templates.{Template}
 use Rattle.pan_ast.specs.Syntax.{Item}
 use Rattle.questions.specs.declared.key.Key.{Key}
@@ -18,7 +19,7 @@ use Rattle.dml_meaning.specs.declared.limits.TheConstants.{MAX_OPEN_ITEMS}
 -- no file's fault is that of a circular object
 pub record IsReading (reading : List ℕ → List ℕ → Result Template Fault) : Type 0 where
   pub plain : (file bytes : List ℕ) (fault : Fault) → reading file bytes ≡ Err fault
-      → is_circular fault.code ≡ false
+      → fault.code ≢ Circular
 
 -- an item's evaluation as a run that is told a list of pairs: its value with what stands then, or
 -- its fault

@@ -13,7 +13,12 @@ use Rattle.dml_meaning.specs.Values.{is_list}
 use Rattle.dml_meaning.specs.Lookups.{Present, Long, Whole, present, tried, or_next, first_present, texts_in, with_text, load_path}
 use Rattle.dml_world.specs.declared.world.Seen.{Seen}
 use Rattle.dml_world.specs.declared.world.Seen.TheVariants as seen
+use Rattle.questions.specs.Told.{LeavesAtMost}
+use Rattle.dml_meaning.proofs.Leaving.{first_leaves, then_leaves}
 use Rattle.dml_world.specs.Answers.{seen_of, bytes_in}
+use Rattle.dml_world.specs.declared.stop.Stop.{Stop}
+use Rattle.dml_world.specs.declared.stop.Stop.TheVariants as stop
+use Rattle.dml_world.specs.Exits.{Stops}
 
 -- what comes of an answer that is known
 abbrev with_answer : Option Content → Key → List ℕ → Meter → Outcome (Unit {0}) (Option Present)
@@ -43,6 +48,16 @@ pub ruleset tries = (missing_answer, there_answer, long_answer)
 pub first_more : (p : Place) (fs : List (List ℕ)) (i : ℕ) (f : List ℕ) (o : Answers) (s : Unit {0}) (m : Meter) → i < length fs → f ≡ get_or fs i f → first_present p (drop i fs) o s m ≡ then (tried p f o s m) (λ x. or_next (first_present p (drop (i + 1) fs)) x o)
 unfolding first_present
 first_more p fs i f o s m h is = ap (λ xs. first_present p xs o s m) (drop_more fs i f h ∙ ap (λ x. x ∷ drop (i + 1) fs) (sym is))
+
+next_leaves : (p : Place) (fs : List (List ℕ)) (x : Option Present) (o : Answers) (s : Unit {0}) (m : Meter) → LeavesAtMost m.left (or_next (first_present p fs) x o s m)
+next_leaves p fs (Some x) o s m = omega arith
+next_leaves p fs None o s m = first_leaves p fs o s m
+
+-- where the file at a place is not told
+pub first_stops : (x : Stop) (p : Place) (fs : List (List ℕ)) (i : ℕ) (f : List ℕ) (o : Answers) (s : Unit {0}) (m n : Meter) → i < length fs → f ≡ get_or fs i f → Stops x n (tried p f o s m) → Stops x n (first_present p (drop i fs) o s m)
+first_stops stop.Memory p fs i f o s m n h is k = rw (first_more p fs i f o s m h is) (then_leaves n.left (tried p f o s m) (λ y. or_next (first_present p (drop (i + 1) fs)) y o) (λ y. next_leaves p (drop (i + 1) fs) y o) k)
+first_stops (stop.Fault d) p fs i f o s m n h is k = first_more p fs i f o s m h is ∙ ap (λ z. then z (λ y. or_next (first_present p (drop (i + 1) fs)) y o)) k
+first_stops (stop.Need q) p fs i f o s m n h is k = first_more p fs i f o s m h is ∙ ap (λ z. then z (λ y. or_next (first_present p (drop (i + 1) fs)) y o)) k
 
 -- the texts of a list from a place on
 abbrev pub texts_from : ℕ → Plain → List (List ℕ)

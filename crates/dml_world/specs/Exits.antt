@@ -9,6 +9,7 @@ use Rattle.questions.specs.declared.key.Key.{Key}
 use Rattle.questions.specs.declared.key.Key.TheVariants.{Under}
 use Rattle.questions.specs.Contents.{Answers}
 use Rattle.questions.specs.Run.{Meter, Outcome, Done, Returned, Failed, Asks, fault_at}
+use Rattle.questions.specs.Told.{LeavesAtMost}
 use Rattle.dml_meaning.specs.Run.{Env, Run, Look}
 use Rattle.dml_meaning.specs.Meaning.{code_of}
 use Rattle.dml_world.specs.declared.stop.Stop.{Stop}
@@ -20,9 +21,9 @@ use Rattle.dml_world.specs.Seen.{env, meter}
 
 -- A run without state.
 
--- the run has no value, with what is left; want of memory is free
+-- the run has no value, with what is left; at want of memory the run leaves no more
 abbrev pub Stops : {S Y : Type 0} → Stop → Meter → Outcome S Y → Type 0
-Stops stop.Memory m o = Unit {0}
+Stops stop.Memory m o = LeavesAtMost m.left o
 Stops (stop.Fault f) m o = o ≡ Failed f.value m
 Stops (stop.Need q) m o = o ≡ Asks (Under q.value.object q.value.terms) m
 
@@ -43,9 +44,9 @@ exit_of (stop.Fault f) = exit.Fault f
 exit_of (stop.Need q) = exit.Need q
 exit_of stop.Memory = exit.Memory
 
--- an early end, with what is left
+-- an early end, with what is left; at want of memory the run leaves no more
 abbrev pub Ends : {Y : Type 0} → Exit → Env → Meter → Outcome Env Y → Type 0
-Ends exit.Memory e m o = Unit {0}
+Ends exit.Memory e m o = LeavesAtMost m.left o
 Ends (exit.Fault f) e m o = o ≡ Failed f.value m
 Ends (exit.Need q) e m o = o ≡ Asks (Under q.value.object q.value.terms) m
 Ends (exit.Return t) e m o = o ≡ Returned t e m

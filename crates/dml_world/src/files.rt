@@ -139,6 +139,7 @@ fn candidates_of<W: World>(
 
 /// The file of a template, by the template's name (Pan Book, "Template Loading"). Each file that is
 /// asked costs a step. A text that is no template name has no file, and none is asked.
+#[tactic(auto, using(dml_meaning::proofs::Leaving::first_leaves))]
 pub fn find_template_file<W: World, L: Ledger>(
     alloc: Global,
     place: &Place,
@@ -164,6 +165,7 @@ pub fn find_template_file<W: World, L: Ledger>(
 
 /// A file by its name, looked for as a template is. A text that is no file name has no file, and
 /// none is asked.
+#[tactic(auto, using(dml_meaning::proofs::Leaving::first_leaves))]
 pub fn find_file<W: World, L: Ledger>(
     alloc: Global,
     place: &Place,

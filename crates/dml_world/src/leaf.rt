@@ -145,7 +145,7 @@ pub fn take_step<W: World, L: Ledger>(
 }
 
 /// Some steps of work, at a place.
-#[tactic(auto, using(crate::proofs::Working::steps_more), unfolding(dml_meaning::specs::Meaning::steps))]
+#[tactic(auto, using(crate::proofs::Working::steps_more, dml_meaning::proofs::Leaving::steps_leave), unfolding(dml_meaning::specs::Meaning::steps))]
 pub fn take_steps<W: World, L: Ledger>(
     alloc: Global,
     count: usize,

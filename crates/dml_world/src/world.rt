@@ -8,6 +8,7 @@ ghost use Rattle.pan_ast.specs.Templates.{Template};
 ghost use Rattle.questions.specs.declared.key.Key.{Key};
 ghost use Rattle.questions.specs.declared.key.Key.TheVariants.{File};
 ghost use Rattle.questions.specs.Contents.{Answers, with_key};
+ghost use Rattle.dml_meaning.specs.Laws.{IsReading};
 ghost use Rattle.dml_world.specs.Answers.{IsFileFault, IsSeen, TellsValue, bytes_of, text_read};
 ghost use Rattle.pan_ast.specs.TemplatesSeen.{template_seen};
 
@@ -74,6 +75,9 @@ pub trait World {
     ghost calls: { List ℕ → Option (List Plain → Result Plain Refused) };
 
     ghost call_of: { Self.Call → List Plain → Result Plain Refused };
+
+    /// No file reads as the fault of a circular object.
+    ghost plain: { IsReading reading };
 
     /// Whether a file is there.
     fn file(&mut self, alloc: Global, name: &Text) -> Result<Seen, AllocError>

@@ -1,26 +1,24 @@
 -- Builds and checks are lawful runs, and so their laws hold.
-use Rattle.std.proofs.Common.{◌≡◌, ◌≢◌, ◌≤◌, refl, ℕ, List, false}
+use Rattle.std.proofs.Common.{refl, ℕ, List, true}
 use Rattle.path_tree.specs.Paths.{path_text}
-use Rattle.pan_ast.specs.declared.fault.Code.{Code}
-use Rattle.pan_ast.specs.declared.fault.Code.TheVariants as code
 use Rattle.pan_ast.specs.declared.work.Limits.{Limits}
 use Rattle.pan_template.specs.TemplateOf.{template_of}
 use Rattle.questions.specs.declared.key.Key.{Key}
-use Rattle.questions.specs.Laws.{MayAsk, is_circular}
-use Rattle.questions.specs.Contents.{Answers}
-use Rattle.questions.specs.Run.{Meter}
-use Rattle.questions.specs.Told.{IsRanBy, IsWorkOf, IsEnd, meter_of}
+use Rattle.questions.specs.Laws.{MayAsk}
+use Rattle.questions.specs.Told.{IsRanBy, IsWorkOf, IsEnd}
 use Rattle.questions.proofs.Lawful.{Lawful, lawful_scoped}
-use Rattle.questions.proofs.Runs.{left_within, run_laws, ran_is, work_is}
+use Rattle.questions.proofs.Runs.{run_laws, ran_is, work_is}
 use Rattle.dml_meaning.specs.declared.limits.TheConstants.{MAX_OPEN_ITEMS}
 use Rattle.dml_meaning.specs.Laws.{IsReading}
 use Rattle.dml_meaning.proofs.Leaves.{look_at_lawful, pieces}
+use Rattle.dml_meaning.proofs.Leaving.{dml_leaves, look_at_leaves}
 use Rattle.dml_meaning.proofs.Create.{dml_lawful}
 use Rattle.dml_meaning.proofs.Items.{eval_lawful}
 use Rattle.defaults.proofs.Lawful.{all_lawful}
 use Rattle.template_meaning.specs.Program.{Site, no_program}
 use Rattle.template_meaning.proofs.EachStatement.{Suits}
 use Rattle.template_meaning.proofs.OfObjects.{object_lawful, suits}
+use Rattle.validate.specs.Means.{LeaveNoMore}
 use Rattle.validate.proofs.Lawful.{LawfulMeans, checked_lawful}
 use Rattle.runner.specs.Ends.{is_circular_end, is_circular_verdict}
 use Rattle.runner.specs.Meaning.{IsLawful}
@@ -31,13 +29,9 @@ use Rattle.object_meaning.specs.Checks.{around_built, means_of, check_run, check
 use Rattle.object_meaning.specs.Meanings.{meaning_of}
 use Rattle.pan_template.proofs.Files.{not_circular}
 
-code_plain : (c : Code) → c ≢ code.Circular → is_circular c ≡ false
-code_plain code.Circular h = absurd (h refl)
-code_plain _ h = refl
-
 -- no file's fault is that of a circular object
 reading : IsReading template_of
-reading = record { plain = λ file bytes f e. code_plain f.code (not_circular file bytes f e) }
+reading = record { plain = not_circular }
 
 -- builds
 
@@ -59,13 +53,16 @@ means_lawful may site w b =
       look = λ p path. look_at_lawful may (around_built site b site.object) w p (path_text path) path.anchor path.terms;
     }
 
+-- and leave no more work than they began with, wherever no file's fault is that of a circular object
+pub tests_leave : (site : Site) → IsReading site.reading → (b : Built Rest) → LeaveNoMore (means_of site b)
+tests_leave site w b = record {
+  dml = λ template i v. dml_leaves (around_built site b template) w MAX_OPEN_ITEMS true v i;
+  look = λ p path. look_at_leaves (around_built site b site.object) w p (path_text path) path.anchor path.terms;
+}
+
 tested_lawful : (may : Key → Type 0) (site : Site) → Suits may site → (b : Built Rest) → Lawful may 0 (check_run site b)
 unfolding check_run
 tested_lawful may site w b = checked_lawful may (means_of site b) (means_lawful may site w b) b.rest.header b.tree b.rest.bindings b.rest.valids
-
--- a check leaves no more work than it began with
-pub check_leaves : (site : Site) → IsReading site.reading → (b : Built Rest) (o : Answers) (m : Meter) → (meter_of (check_run site b o tt m)).left ≤ m.left
-check_leaves site r b o m = left_within (MayAsk site.object) (check_run site b) (tested_lawful (MayAsk site.object) site (suits site r) b) o tt m
 
 -- the laws of both
 

@@ -1,11 +1,9 @@
-ghost use Rattle.std.specs.Prelude.{◌≡◌, ◌+◌, ◌≤◌, Err};
-ghost use Rattle.dml_meaning.specs.Laws.{IsReading};
+ghost use Rattle.std.specs.Prelude.{◌≡◌, ◌+◌};
+ghost use Rattle.dml_world.specs.Seen.{meter};
 ghost use Rattle.object_meaning.specs.Checks.{check_run};
 ghost use Rattle.object_run.specs.Testing.{case_of, case_site};
-ghost use Rattle.questions.specs.Told.{meter_of};
 ghost use Rattle.template_run.specs.Seen.{site_of};
-ghost use Rattle.validate.specs.Exits.{Gives, meter};
-ghost use Rattle.validate.specs.declared.stop.Stop.TheVariants.{Memory};
+ghost use Rattle.validate.specs.Exits.{Gives};
 
 use crate::rest::Rest;
 use crate::tester::{Tested, Tester};
@@ -26,9 +24,8 @@ pub(crate) struct Tests<W> {
     pub world: W,
 }
 
-/// Checks what was built, in a world. Where memory is wanting, the work is as before: so no less is
-/// left than the check leaves.
-#[tactic(auto, using(object_meaning::proofs::BothLawful::check_leaves), unfolding(object_meaning::specs::Checks::check_run))]
+/// Checks what was built, in a world.
+#[tactic(auto, unfolding(object_meaning::specs::Checks::check_run))]
 pub(crate) fn check_object<T: Tested, W: World, L: Ledger>(
     alloc: Global,
     site: &Site<'_>,
@@ -41,10 +38,6 @@ pub(crate) fn check_object<T: Tested, W: World, L: Ledger>(
     ensures gives { Gives (λ x. x) result.end W.answers work.old (W.asked world) work.new
         (W.asked result.world) (check_run (site_of site.now W.reading W.calls) built.now) }
     ensures counted { steps.new + work.new.left ≡ steps.old + work.old.left }
-    ensures before { result.end ≡ Err Memory → work.new ≡ work.old }
-    ensures memory { result.end ≡ Err Memory → IsReading W.reading
-        → (meter_of (check_run (site_of site.now W.reading W.calls) built.now W.answers tt
-        (meter work.old (W.asked world)))).left ≤ work.new.left }
 {
     let rest = &built.rest;
     let mut tester: Tester<'_, W, T> = Tester {

@@ -1,6 +1,7 @@
 ghost use Rattle.std.specs.Prelude.{◌≡◌, ◌+◌, IfOk};
 ghost use Rattle.questions.specs.declared.key.Key.TheVariants.{Under};
-ghost use Rattle.object_run.specs.Testing.{IsStopOf, case_means, case_of};
+ghost use Rattle.object_run.specs.Testing.{IsStopOf, case_means, case_of, case_site};
+ghost use Rattle.object_meaning.proofs.BothLawful.{tests_leave};
 ghost use Rattle.dml_world.specs.Answers.{looked_of};
 ghost use Rattle.validate.specs.Means.{value_there};
 ghost use Rattle.object_run.specs.TestingSets.{IsCase-prop};
@@ -82,6 +83,8 @@ impl<'a, W: World, T: Tested> Evaluator for Tester<'a, W, T> {
     ghost answers = { W.answers };
 
     ghost asked = { λ t. W.asked t.world };
+
+    ghost leaves = { tests_leave (case_site T.case W.reading W.calls) W.plain T.case.built };
 
     #[tactic(auto, using(crate::proofs::Stopping::stops))]
     fn value<L: Ledger>(

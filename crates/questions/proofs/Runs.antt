@@ -10,7 +10,7 @@ use Rattle.questions.specs.Contents.{Content, Answers, answer_in, with_key, is_c
 use Rattle.questions.specs.Run.{Meter, noted, Outcome, Done, Returned, Failed, Asks, Run}
 use Rattle.asking.specs.Asked.{AreAsked, read_on, Answer, Ends, Word, Tells, Needs, Ran, Finished, Stops, Lost, ran, with_word, run_next, next_told, word_told, told_in}
 use Rattle.asking.specs.Asked as asked
-use Rattle.questions.specs.Told.{keys_of, Ending, meter_of, answer_by, whole, work_of, content_of, answers_of, number_of, numbered, ran_by, IsPlainList, RunLaws, IsEnd, IsRanBy, IsWorkOf, more_than_asked}
+use Rattle.questions.specs.Told.{keys_of, Ending, meter_of, LeavesAtMost, answer_by, whole, work_of, content_of, answers_of, number_of, numbered, ran_by, IsPlainList, RunLaws, IsEnd, IsRanBy, IsWorkOf, more_than_asked}
 use Rattle.questions.proofs.Process.{Process, Over, Question, walk, walk_on, held, EndsCircular, Either, IsLawful}
 use Rattle.questions.proofs.Lawful.{Lawful}
 use Rattle.questions.proofs.Told.{Extends, StopsAt, is_asking, stops_at, ends_later, same_end, asked_stays, fault_plain}
@@ -278,5 +278,8 @@ pub asks_unknown : {S X : Type 0} → (may : Key → Type 0) (r : Run S X) → L
 asks_unknown may r law o s m k n e = (stops_at may (held m) (law.process s m) m o k n (law.law (held m) s m (omega arith)) (sym (law.is o s m) ∙ e)).unknown
 
 -- a run leaves no more work than it began with
-pub left_within : {S X : Type 0} → (may : Key → Type 0) (r : Run S X) → Lawful may 0 r → (o : Answers) (s : S) (m : Meter) → (meter_of (r o s m)).left ≤ m.left
-left_within may r law o s m = subst (λ z. (meter_of z).left ≤ m.left) (sym (law.is o s m)) (ends_later may (held m) (law.process s m) m o (law.law (held m) s m (omega arith))).0
+abbrev pub Leaves : {S X : Type 0} → Run S X → Type 0
+Leaves {S} r = (o : Answers) (s : S) (m : Meter) → LeavesAtMost m.left (r o s m)
+
+pub left_within : {S X : Type 0} → (may : Key → Type 0) (credit : ℕ) (r : Run S X) → Lawful may credit r → Leaves r
+left_within may credit r law o s m = subst (LeavesAtMost m.left) (sym (law.is o s m)) (ends_later may (held m + credit) (law.process s m) m o (law.law (held m + credit) s m (omega arith))).0

@@ -20,6 +20,10 @@ meter_of (Returned t s m) = m
 meter_of (Failed f m) = m
 meter_of (Questions k m) = m
 
+-- an outcome that leaves no more work than this
+abbrev pub LeavesAtMost : {S X : Type 0} → ℕ → Outcome S X → Type 0
+LeavesAtMost n z = (meter_of z).left ≤ n
+
 -- what a run ends in: by its value and last state, by what it returned, or by its fault
 pub record Ending (S X R : Type 0) : Type 0 where
   pub done : X → S → R

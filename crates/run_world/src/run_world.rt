@@ -1,5 +1,6 @@
 ghost use Rattle.std.specs.Prelude.{◌≡◌, ℕ, List, Option, IfOk};
 ghost use Rattle.pan_template.specs.TemplateOf.{template_of};
+ghost use Rattle.pan_template.proofs.Files.{not_circular};
 ghost use Rattle.questions.specs.Told.{answers_of};
 ghost use Rattle.read_sets.specs.Items.{keys_in};
 ghost use Rattle.runner.specs.Words.{words};
@@ -64,6 +65,8 @@ impl<'a, K: Known, T: Words> World for RunWorld<'a, K, T> {
     ghost calls = { value_calls };
 
     ghost call_of = { call_of };
+
+    ghost plain = { record { plain = not_circular } };
 
     fn file(&mut self, alloc: Global, name: &Text) -> Result<Seen, AllocError> {
         let number = self.known.file_number(name.as_str());

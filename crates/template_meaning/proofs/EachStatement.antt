@@ -32,7 +32,7 @@ use Rattle.template_meaning.specs.Statements.{Run, Prefixed, dml_in, or_fail_abo
 abbrev pub Suits : (Key → Type 0) → Site → Type 0
 Suits may site = FitsFor may site.object site.reading
 
-dml_in_lawful : (may : Key → Type 0) (site : Site) → Suits may site → (n : Inside) (fixed : Bool) (t : Plain) (i : Item) → Lawful may 0 (dml_in site n fixed t i)
+pub dml_in_lawful : (may : Key → Type 0) (site : Site) → Suits may site → (n : Inside) (fixed : Bool) (t : Plain) (i : Item) → Lawful may 0 (dml_in site n fixed t i)
 unfolding dml_in
 dml_in_lawful may site w n fixed t i =
     let go = eval_lawful may MAX_OPEN_ITEMS in
@@ -51,15 +51,15 @@ unchanged_lawful may p d (Err (assign_error.Put put_error.TooLarge)) = search pi
 unchanged_lawful may p d (Err (assign_error.Put put_error.TooHigh)) = search pieces
 unchanged_lawful may p d (Err _) = search pieces
 
-put_lawful : (may : Key → Type 0) (p : Place) (d : List ℕ) (last : Bool) (ms : List Term) (v : Plain) → Lawful may 0 (put_run p d last ms v)
+pub put_lawful : (may : Key → Type 0) (p : Place) (d : List ℕ) (last : Bool) (ms : List Term) (v : Plain) → Lawful may 0 (put_run p d last ms v)
 unfolding put_run
 put_lawful may p d last ms v = search (pieces, unchanged_lawful)
 
-assign_terms_lawful : (may : Key → Type 0) (site : Site) → Suits may site → (n : Inside) (p : Place) (last : Bool) (d : List ℕ) (conditional : Bool) (i : Item) (ms : List Term) → Lawful may 0 (assign_terms site n p last d conditional i ms)
+pub assign_terms_lawful : (may : Key → Type 0) (site : Site) → Suits may site → (n : Inside) (p : Place) (last : Bool) (d : List ℕ) (conditional : Bool) (i : Item) (ms : List Term) → Lawful may 0 (assign_terms site n p last d conditional i ms)
 unfolding assign_terms
 assign_terms_lawful may site w n p last d conditional i ms = search (pieces, dml_in_lawful, put_lawful) depth 10
 
-assign_lawful : (may : Key → Type 0) (site : Site) → Suits may site → (n : Inside) (q : Prefixed) (p : Place) (last : Bool) (d : List ℕ) (conditional : Bool) (i : Item) → Lawful may 0 (assign_run site n q p last d conditional i)
+pub assign_lawful : (may : Key → Type 0) (site : Site) → Suits may site → (n : Inside) (q : Prefixed) (p : Place) (last : Bool) (d : List ℕ) (conditional : Bool) (i : Item) → Lawful may 0 (assign_run site n q p last d conditional i)
 unfolding assign_run
 assign_lawful may site w n q p last d conditional i = search (pieces, terms_lawful, assign_terms_lawful)
 
@@ -68,30 +68,30 @@ unset_lawful may p x (Ok g) = search pieces
 unset_lawful may p x (Err set_error.Automatic) = search pieces
 unset_lawful may p x (Err _) = search pieces
 
-set_lawful : (may : Key → Type 0) (p : Place) (last : Bool) (x : List ℕ) (v : Plain) → Lawful may 0 (set_run p last x v)
+pub set_lawful : (may : Key → Type 0) (p : Place) (last : Bool) (x : List ℕ) (v : Plain) → Lawful may 0 (set_run p last x v)
 unfolding set_run
 set_lawful may p last x v = search (pieces, unset_lawful)
 
-global_lawful : (may : Key → Type 0) (site : Site) → Suits may site → (n : Inside) (p : Place) (last : Bool) (x : List ℕ) (conditional : Bool) (i : Item) → Lawful may 0 (variable_value site n p last x conditional i)
+pub global_lawful : (may : Key → Type 0) (site : Site) → Suits may site → (n : Inside) (p : Place) (last : Bool) (x : List ℕ) (conditional : Bool) (i : Item) → Lawful may 0 (variable_value site n p last x conditional i)
 unfolding variable_value
 global_lawful may site w n p last x conditional i = search (pieces, dml_in_lawful, set_lawful)
 
-variable_lawful : (may : Key → Type 0) (site : Site) → Suits may site → (n : Inside) (p : Place) (last : Bool) (x : List ℕ) (conditional : Bool) (i : Item) → Lawful may 0 (variable_run site n p last x conditional i)
+pub variable_lawful : (may : Key → Type 0) (site : Site) → Suits may site → (n : Inside) (p : Place) (last : Bool) (x : List ℕ) (conditional : Bool) (i : Item) → Lawful may 0 (variable_run site n p last x conditional i)
 unfolding variable_run
 variable_lawful may site w n p last x conditional i = search (pieces, global_lawful)
 
-function_lawful : (may : Key → Type 0) (site : Site) (p : Place) (f : List ℕ) (body : Item) → Lawful may 0 (function_run site p f body)
+pub function_lawful : (may : Key → Type 0) (site : Site) (p : Place) (f : List ℕ) (body : Item) → Lawful may 0 (function_run site p f body)
 unfolding function_run
 function_lawful may site p f body = search pieces
 
 null_lawful : (may : Key → Type 0) (p : Place) (v : Plain) → Lawful may 0 (no_null p v)
 null_lawful may p v = search pieces
 
-default_lawful : (may : Key → Type 0) (site : Site) → Suits may site → (n : Inside) (i : Item) → Lawful may 0 (default_run site n i)
+pub default_lawful : (may : Key → Type 0) (site : Site) → Suits may site → (n : Inside) (i : Item) → Lawful may 0 (default_run site n i)
 unfolding default_run
 default_lawful may site w n i = search (pieces, dml_in_lawful, null_lawful)
 
-defaults_lawful : (may : Key → Type 0) (site : Site) → Suits may site → (n : Inside) (is : List Item) (done : List Plain) → Lawful may 0 (defaults_run site n is done)
+pub defaults_lawful : (may : Key → Type 0) (site : Site) → Suits may site → (n : Inside) (is : List Item) (done : List Plain) → Lawful may 0 (defaults_run site n is done)
 unfolding defaults_run
 defaults_lawful may site w n [] done = search pieces
 defaults_lawful may site w n (i ∷ is) done =
@@ -106,19 +106,19 @@ no_type_lawful may q (Err (type_error.BadRange p)) = search pieces
 no_type_lawful may q (Err (type_error.TooDeep p)) = search pieces
 no_type_lawful may q (Err type_error.Memory) = search pieces
 
-type_lawful : (may : Key → Type 0) (site : Site) → Suits may site → (n : Inside) (p : Place) (full : FullType) → Lawful may 0 (type_run site n p full)
+pub type_lawful : (may : Key → Type 0) (site : Site) → Suits may site → (n : Inside) (p : Place) (full : FullType) → Lawful may 0 (type_run site n p full)
 unfolding type_run
 type_lawful may site w n p full = search (pieces, defaults_lawful, no_type_lawful)
 
-define_lawful : (may : Key → Type 0) (site : Site) → Suits may site → (n : Inside) (p : Place) (x : List ℕ) (full : FullType) → Lawful may 0 (define_run site n p x full)
+pub define_lawful : (may : Key → Type 0) (site : Site) → Suits may site → (n : Inside) (p : Place) (x : List ℕ) (full : FullType) → Lawful may 0 (define_run site n p x full)
 unfolding define_run
 define_lawful may site w n p x full = search (pieces, type_lawful)
 
-bind_lawful : (may : Key → Type 0) (site : Site) → Suits may site → (n : Inside) (q : Prefixed) (p : Place) (d : List ℕ) (full : FullType) → Lawful may 0 (bind_run site n q p d full)
+pub bind_lawful : (may : Key → Type 0) (site : Site) → Suits may site → (n : Inside) (q : Prefixed) (p : Place) (d : List ℕ) (full : FullType) → Lawful may 0 (bind_run site n q p d full)
 unfolding bind_run
 bind_lawful may site w n q p d full = search (pieces, terms_lawful, type_lawful)
 
-valid_lawful : (may : Key → Type 0) (n : Inside) (q : Prefixed) (p : Place) (d : List ℕ) (i : Item) → Lawful may 0 (valid_run n q p d i)
+pub valid_lawful : (may : Key → Type 0) (n : Inside) (q : Prefixed) (p : Place) (d : List ℕ) (i : Item) → Lawful may 0 (valid_run n q p d i)
 unfolding valid_run
 valid_lawful may n q p d i = search (pieces, terms_lawful)
 
@@ -134,11 +134,11 @@ by_lawful : (may : Key → Type 0) (including : Includes) → LawfulIncludes may
 by_lawful may including k n p v (Some name) = k n p name
 by_lawful may including k n p v None = search pieces
 
-include_lawful : (may : Key → Type 0) (including : Includes) → LawfulIncludes may including → (site : Site) → Suits may site → (n : Inside) (p : Place) (i : Item) → Lawful may 0 (include_run including site n p i)
+pub include_lawful : (may : Key → Type 0) (including : Includes) → LawfulIncludes may including → (site : Site) → Suits may site → (n : Inside) (p : Place) (i : Item) → Lawful may 0 (include_run including site n p i)
 unfolding include_run
 include_lawful may including k site w n p i = search (pieces, dml_in_lawful, by_lawful)
 
-form_lawful : (may : Key → Type 0) (including : Includes) → LawfulIncludes may including → (site : Site) → Suits may site → (n : Inside) (q : Prefixed) (p : Place) (form : StatementForm) → Lawful may 0 (form_run including site n q p form)
+pub form_lawful : (may : Key → Type 0) (including : Includes) → LawfulIncludes may including → (site : Site) → Suits may site → (n : Inside) (q : Prefixed) (p : Place) (form : StatementForm) → Lawful may 0 (form_run including site n q p form)
 unfolding form_run
 form_lawful may including k site w n q p (Assign last d conditional i) = search (pieces, assign_lawful)
 form_lawful may including k site w n q p (Variable last x conditional i) = search (pieces, variable_lawful)
@@ -149,7 +149,7 @@ form_lawful may including k site w n q p (Valid d i) = search (pieces, valid_law
 form_lawful may including k site w n q p (Include i) = search (pieces, include_lawful)
 form_lawful may including k site w n q p (Prefix d) = prefix_lawful may p d
 
-statement_lawful : (may : Key → Type 0) (including : Includes) → LawfulIncludes may including → (site : Site) → Suits may site → (n : Inside) (q : Prefixed) (s : Statement) → Lawful may 0 (statement_run including site n q s)
+pub statement_lawful : (may : Key → Type 0) (including : Includes) → LawfulIncludes may including → (site : Site) → Suits may site → (n : Inside) (q : Prefixed) (s : Statement) → Lawful may 0 (statement_run including site n q s)
 unfolding statement_run
 statement_lawful may including k site w n q s = search (pieces, form_lawful)
 
@@ -162,7 +162,7 @@ statements_lawful may including k site w n q (s ∷ ss) =
 
 -- Templates that are included.
 
-starts_lawful : (may : Key → Type 0) (k : TemplateKind) (name : List ℕ) → Lawful may 0 (starts k name)
+pub starts_lawful : (may : Key → Type 0) (k : TemplateKind) (name : List ℕ) → Lawful may 0 (starts k name)
 unfolding starts
 starts_lawful may k name = search pieces
 
@@ -172,7 +172,7 @@ where_lawful may body b h = search pieces
 named_in_lawful : (may : Key → Type 0) (site : Site) → Suits may site → (n : Inside) (p : Place) (name : List ℕ) → Lawful may 0 (named_in site n p name)
 named_in_lawful may site w n p name = search (pieces, lawful_still, template_lawful)
 
-template_run_lawful : (may : Key → Type 0) (including : Includes) → LawfulIncludes may including → (site : Site) → Suits may site → (n : Inside) (p : Place) (name : List ℕ) (z : Template) → Lawful may 0 (template_run including site n p name z)
+pub template_run_lawful : (may : Key → Type 0) (including : Includes) → LawfulIncludes may including → (site : Site) → Suits may site → (n : Inside) (p : Place) (name : List ℕ) (z : Template) → Lawful may 0 (template_run including site n p name z)
 unfolding template_run
 template_run_lawful may including k site w n p name z = search (pieces, starts_lawful, where_lawful, statements_lawful)
 

@@ -1,2 +1,3 @@
 pub mod EachStatement
 pub mod OfObjects
+pub mod Leaving

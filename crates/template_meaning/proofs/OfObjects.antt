@@ -1,15 +1,14 @@
 -- The run of an object's statements is lawful, and so its laws hold.
-use Rattle.std.proofs.Common.{◌≤◌, refl}
+use Rattle.std.proofs.Common.{refl}
 use Rattle.questions.specs.declared.key.Key.{Key}
 use Rattle.questions.specs.Laws.{MayAsk}
-use Rattle.questions.specs.Contents.{Answers}
-use Rattle.questions.specs.Run.{Meter}
-use Rattle.questions.specs.Told.{RunLaws, IsRanBy, IsWorkOf, IsEnd, meter_of, work_of}
+use Rattle.questions.specs.Told.{RunLaws, IsRanBy, IsWorkOf, IsEnd, work_of}
 use Rattle.questions.proofs.Lawful.{Lawful, lawful_still}
-use Rattle.questions.proofs.Runs.{left_within, run_laws, ran_is, work_is}
+use Rattle.questions.proofs.Runs.{run_laws, ran_is, work_is}
 use Rattle.dml_meaning.specs.declared.limits.TheConstants.{MAX_INCLUDES}
 use Rattle.dml_meaning.specs.Laws.{IsReading}
 use Rattle.dml_meaning.proofs.Leaves.{pieces, template_lawful}
+use Rattle.dml_meaning.proofs.Evaluated.{code_plain}
 use Rattle.template_meaning.specs.Program.{Site, no_program}
 use Rattle.template_meaning.specs.Objects.{object_run}
 use Rattle.template_meaning.specs.Laws.{object_ending, is_circular_made, object_told, object_made}
@@ -22,14 +21,10 @@ object_lawful may site w =
     search (pieces, lawful_still, template_lawful, statements_lawful) depth 10
 
 pub suits : (site : Site) → IsReading site.reading → Suits (MayAsk site.object) site
-suits site w = record { file = λ f. tt; other = λ o ms e. e; plain = w.plain }
+suits site w = record { file = λ f. tt; other = λ o ms e. e; plain = λ f bs d e. code_plain d.code (w.plain f bs d e) }
 
 object_is_lawful : (site : Site) → IsReading site.reading → Lawful (MayAsk site.object) 0 (object_run site)
 object_is_lawful site w = object_lawful (MayAsk site.object) site (suits site w)
-
--- a run leaves no more work than it began with
-pub object_leaves : (site : Site) → IsReading site.reading → (o : Answers) (m : Meter) → (meter_of (object_run site o no_program m)).left ≤ m.left
-object_leaves site w o m = left_within (MayAsk site.object) (object_run site) (object_is_lawful site w) o no_program m
 
 ends : (site : Site) → IsEnd (object_ending site) is_circular_made
 ends site = record { done = λ p s. refl; returned = λ t s. refl; failed = λ f. refl }

@@ -94,7 +94,7 @@ fn is_final(alloc: Global, place: &Place, terms: &[Term]) -> Stop
 }
 
 /// An assignment to terms.
-#[tactic(auto, unfolding(template_meaning::specs::Statements::assign_terms))]
+#[tactic(auto, using(template_meaning::proofs::Leaving::leaving), unfolding(template_meaning::specs::Statements::assign_terms))]
 fn assign_at<W: World, L: Ledger>(
     alloc: Global,
     assignment: Assignment<'_>,
@@ -137,7 +137,7 @@ fn assign_at<W: World, L: Ledger>(
 
 /// An assignment (Pan Book, "Statements"): its path, whether that is final, whether it is set
 /// already, its DML, and the change.
-#[tactic(auto, unfolding(template_meaning::specs::Statements::assign_run))]
+#[tactic(auto, using(template_meaning::proofs::Leaving::leaving), unfolding(template_meaning::specs::Statements::assign_run))]
 pub(crate) fn assign<W: World, L: Ledger>(
     alloc: Global,
     assignment: Assignment<'_>,

@@ -22,7 +22,7 @@ use std::sync::ledger::Ledger;
 use type_defs::{Bound, SharedType, Valid};
 
 /// A function statement (Pan Book, "Functions"): the name is not taken yet.
-#[tactic(auto, using(crate::proofs::Refused::defined_ends), unfolding(template_meaning::specs::Statements::function_run))]
+#[tactic(auto, using(crate::proofs::Refused::defined_ends, template_meaning::proofs::Leaving::leaving), unfolding(template_meaning::specs::Statements::function_run))]
 pub(crate) fn define_function<W: World>(
     alloc: Global,
     place: &Place,
@@ -70,7 +70,7 @@ fn name_type<W: World>(
 }
 
 /// A type statement (Pan Book, "Types").
-#[tactic(auto, unfolding(template_meaning::specs::Statements::define_run))]
+#[tactic(auto, using(template_meaning::proofs::Leaving::leaving), unfolding(template_meaning::specs::Statements::define_run))]
 pub(crate) fn define_type<W: World, L: Ledger>(
     alloc: Global,
     place: &Place,
@@ -99,6 +99,7 @@ pub(crate) fn define_type<W: World, L: Ledger>(
 }
 
 /// Binds a type to terms.
+#[tactic(auto, using(template_meaning::proofs::Leaving::leaving))]
 fn bind_type<W: World>(
     place: &Place,
     terms: Seq<Term>,
@@ -121,7 +122,7 @@ fn bind_type<W: World>(
 }
 
 /// A bind statement (Pan Book, "Binding").
-#[tactic(auto, unfolding(template_meaning::specs::Statements::bind_run))]
+#[tactic(auto, using(template_meaning::proofs::Leaving::leaving), unfolding(template_meaning::specs::Statements::bind_run))]
 pub(crate) fn bind<W: World, L: Ledger>(
     alloc: Global,
     place: &Place,
@@ -149,6 +150,7 @@ pub(crate) fn bind<W: World, L: Ledger>(
 }
 
 /// Adds what is to hold at terms.
+#[tactic(auto, using(template_meaning::proofs::Leaving::leaving))]
 fn want_valid<W: World>(
     place: &Place,
     body: &Rc<Item>,
@@ -174,7 +176,7 @@ fn want_valid<W: World>(
 }
 
 /// A valid statement (Pan Book, "Validation").
-#[tactic(auto, unfolding(template_meaning::specs::Statements::valid_run))]
+#[tactic(auto, using(template_meaning::proofs::Leaving::leaving), unfolding(template_meaning::specs::Statements::valid_run))]
 pub(crate) fn add_valid<W: World>(
     alloc: Global,
     place: &Place,

@@ -16,7 +16,7 @@ use std::alloc::Global;
 use std::sync::ledger::Ledger;
 
 /// The value of the DML of a statement, whose SELF begins with a value.
-#[tactic(auto, unfolding(template_meaning::specs::Statements::dml_in))]
+#[tactic(auto, using(template_meaning::proofs::Leaving::leaving), unfolding(template_meaning::specs::Statements::dml_in))]
 pub(crate) fn run_in<W: World, L: Ledger>(
     alloc: Global,
     item: &Item,

@@ -1,9 +1,6 @@
-ghost use Rattle.std.specs.Prelude.{◌≡◌, ◌+◌, ◌<◌, ◌≤◌, Err, IfOk};
-ghost use Rattle.dml_meaning.specs.Laws.{IsReading};
+ghost use Rattle.std.specs.Prelude.{◌≡◌, ◌+◌, IfOk};
 ghost use Rattle.dml_world.specs.Seen.{meter};
-ghost use Rattle.dml_world.specs.declared.stop.Stop.TheVariants.{Memory};
 ghost use Rattle.pan_ast.specs.TemplatesSeen.{template_seen};
-ghost use Rattle.questions.specs.Told.{meter_of};
 ghost use Rattle.template_meaning.specs.Objects.{object_run, run_top, top_place};
 ghost use Rattle.template_meaning.specs.Program.{at_top, no_program};
 ghost use Rattle.template_run.specs.Runs.{MakesObject, Runs};
@@ -19,8 +16,7 @@ use dml_world::{Stop, World};
 use pan_ast::{Code, Place, Template, TemplateKind, Work};
 use path_tree::Name;
 use std::alloc::{AllocError, Global};
-use std::marker::Brand;
-use std::sync::ledger::{Blank, Ledger};
+use std::sync::ledger::Ledger;
 
 /// Line 1, column 1 of the object's file.
 fn top_place(alloc: Global, object: &Name) -> Result<Place, AllocError>
@@ -70,7 +66,7 @@ fn run_top<W: World, L: Ledger>(
 
 /// Runs the object template of a name from an empty dict (Pan Book, "Object Template"). Gives the
 /// place of its header.
-#[tactic(auto, unfolding(template_meaning::specs::Objects::object_run))]
+#[tactic(auto, using(template_meaning::proofs::Leaving::leaving), unfolding(template_meaning::specs::Objects::object_run))]
 fn run_from<W: World, L: Ledger>(
     alloc: Global,
     site: &Site<'_>,
@@ -115,8 +111,11 @@ pub struct Made {
     pub header: Place,
 }
 
-/// What the statements of an object make.
-fn make_object<W: World, L: Ledger>(
+/// Runs the object template of a name from an empty dict (Pan Book, "Object Template"): its value is
+/// what its statements have made, before any default; or the first fault, or what has to be known
+/// first. Want of memory may come at any time.
+#[tactic(auto, using(template_meaning::proofs::Leaving::leaving))]
+pub fn run_object<W: World, L: Ledger>(
     alloc: Global,
     site: &Site<'_>,
     world: &mut W,
@@ -131,63 +130,4 @@ fn make_object<W: World, L: Ledger>(
     let mut program = Program::new(alloc)?;
     let header = run_from(alloc, site, &mut program, world, work, steps)?;
     Ok(Made { program, header })
-}
-
-/// How a run of an object ended, and the work that is left.
-#[derive(Drop)]
-struct ObjectRan {
-    end: Result<Made, Stop>,
-    left: Work,
-}
-
-/// The same, with a count of its own.
-fn make_alone<W: World, N: Ledger>(
-    alloc: Global,
-    blank: Blank,
-    site: &Site<'_>,
-    world: &mut W,
-    work: Work,
-) -> ObjectRan
-    requires name { blank.name ≡ N.name }
-    requires parts { blank.parts ≡ N.parts }
-    requires some { 0 < blank.parts }
-    ensures gives { MakesObject result.end W.answers (meter work (W.asked world.old))
-        (meter result.left (W.asked world.new))
-        (object_run (site_of site.now W.reading W.calls)) }
-    ensures within { result.left.left ≤ work.left }
-{
-    let mut steps: Steps<N> = Steps::new(blank);
-    let mut left = work;
-    let end = make_object(alloc, site, world, &mut left, &mut steps);
-    ObjectRan { end, left }
-}
-
-/// Runs the object template of a name from an empty dict (Pan Book, "Object Template"): its value is
-/// what its statements have made, before any default; or the first fault, or what has to be known
-/// first. Want of memory may come at any time: the work and the count of steps are then as before,
-/// so that no less work is left than the run leaves.
-#[tactic(auto, using(template_meaning::proofs::OfObjects::object_leaves))]
-pub fn run_object<W: World, L: Ledger>(
-    alloc: Global,
-    site: &Site<'_>,
-    world: &mut W,
-    work: &mut Work,
-    steps: &mut Steps<L>,
-) -> Result<Made, Stop>
-    ensures gives { MakesObject result W.answers (meter work.old (W.asked world.old))
-        (meter work.new (W.asked world.new))
-        (object_run (site_of site.now W.reading W.calls)) }
-    ensures counted { steps.new + work.new.left ≡ steps.old + work.old.left }
-    ensures before { result ≡ Err Memory → work.new ≡ work.old }
-    ensures memory { result ≡ Err Memory → IsReading W.reading
-        → (meter_of (object_run (site_of site.now W.reading W.calls) W.answers no_program
-        (meter work.old (W.asked world.old)))).left ≤ work.new.left }
-{
-    let ObjectRan { end, left } = make_alone::<W, Brand>(alloc, Blank::new(1), site, world, *work);
-    if matches!(end, Err(Stop::Memory)) {
-        return Err(Stop::Memory);
-    }
-    steps.pay(work.left - left.left);
-    *work = left;
-    end
 }

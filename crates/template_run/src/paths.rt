@@ -54,6 +54,7 @@ fn terms_of(alloc: Global, prefix: &Prefix, text: &Text) -> Result<Option<Seq<Te
 }
 
 /// The terms of the path of a statement: an absolute one, or a relative one under a prefix.
+#[tactic(auto, using(template_meaning::proofs::Leaving::leaving))]
 pub(crate) fn path_terms<W: World>(
     alloc: Global,
     prefix: &Prefix,
@@ -109,6 +110,7 @@ fn prefix_of(alloc: Global, text: &Text) -> Result<Option<Prefix>, AllocError>
 }
 
 /// The prefix that holds from a statement on.
+#[tactic(auto, using(template_meaning::proofs::Leaving::leaving))]
 pub(crate) fn run_prefix<W: World>(
     alloc: Global,
     place: &Place,

@@ -67,6 +67,7 @@ fn is_among(name: &str, names: &[Name]) -> bool
 }
 
 /// The template of a name, looked for from a statement.
+#[tactic(auto, using(template_meaning::proofs::Leaving::leaving))]
 pub(crate) fn find_named<W: World, L: Ledger>(
     alloc: Global,
     place: &Place,
@@ -105,7 +106,7 @@ pub(crate) fn find_named<W: World, L: Ledger>(
 
 /// The statements of a template, in order, from no prefix on.
 #[cycle(statements)]
-#[tactic(auto, using(crate::proofs::Items::statements_more), unfolding(template_meaning::specs::Statements::statements_run))]
+#[tactic(auto, using(crate::proofs::Items::statements_more, template_meaning::proofs::Leaving::leaving), unfolding(template_meaning::specs::Statements::statements_run))]
 pub(crate) fn run_statements<W: World, L: Ledger>(
     alloc: Global,
     statements: &[Statement],
@@ -135,7 +136,7 @@ pub(crate) fn run_statements<W: World, L: Ledger>(
 
 /// A statement behind a prefix, and the prefix that holds after it.
 #[cycle(statements)]
-#[tactic(auto, unfolding(template_meaning::specs::Statements::statement_run))]
+#[tactic(auto, using(template_meaning::proofs::Leaving::leaving), unfolding(template_meaning::specs::Statements::statement_run))]
 fn run_statement<W: World, L: Ledger>(
     alloc: Global,
     statement: &Statement,
@@ -176,7 +177,7 @@ fn run_statement<W: World, L: Ledger>(
 
 /// A statement that may stand where it does.
 #[cycle(statements)]
-#[tactic(auto, unfolding(template_meaning::specs::Statements::form_run))]
+#[tactic(auto, using(template_meaning::proofs::Leaving::leaving), unfolding(template_meaning::specs::Statements::form_run))]
 fn run_form<W: World, L: Ledger>(
     alloc: Global,
     place: &Place,
@@ -254,7 +255,7 @@ fn run_form<W: World, L: Ledger>(
 
 /// An include statement (Pan Book, "Include Statements"): its DML gives the name.
 #[cycle(statements)]
-#[tactic(auto, unfolding(template_meaning::specs::Statements::include_run))]
+#[tactic(auto, using(template_meaning::proofs::Leaving::leaving), unfolding(template_meaning::specs::Statements::include_run))]
 fn run_include<W: World, L: Ledger>(
     alloc: Global,
     place: &Place,
@@ -324,7 +325,7 @@ fn include_value<W: World, L: Ledger>(
 
 /// Includes the template of a name, where an include may still be opened.
 #[cycle(statements)]
-#[tactic(auto, using(crate::proofs::Items::included_more), unfolding(template_meaning::specs::Statements::included))]
+#[tactic(auto, using(crate::proofs::Items::included_more, template_meaning::proofs::Leaving::leaving), unfolding(template_meaning::specs::Statements::included))]
 fn include<W: World, L: Ledger>(
     alloc: Global,
     place: &Place,
@@ -354,7 +355,7 @@ fn include<W: World, L: Ledger>(
 }
 
 /// Whether a template runs now; one of a kind that runs once is marked as run.
-#[tactic(auto, unfolding(template_meaning::specs::Statements::starts))]
+#[tactic(auto, using(template_meaning::proofs::Leaving::leaving), unfolding(template_meaning::specs::Statements::starts))]
 fn starts<W: World>(
     template: &Template,
     program: &mut Program,
@@ -377,7 +378,7 @@ fn starts<W: World>(
 
 /// Runs the statements of a template that is included under a name, where its kind fits.
 #[cycle(statements)]
-#[tactic(auto, unfolding(template_meaning::specs::Statements::template_run))]
+#[tactic(auto, using(template_meaning::proofs::Leaving::leaving), unfolding(template_meaning::specs::Statements::template_run))]
 fn run_template<W: World, L: Ledger>(
     alloc: Global,
     place: &Place,

@@ -147,7 +147,7 @@ fn is_set(program: &Program, name: &Text) -> bool
 }
 
 /// A statement that may set its variable.
-#[tactic(auto, unfolding(template_meaning::specs::Statements::variable_value))]
+#[tactic(auto, using(template_meaning::proofs::Leaving::leaving), unfolding(template_meaning::specs::Statements::variable_value))]
 fn run_value<W: World, L: Ledger>(
     alloc: Global,
     variable: Variable<'_>,

@@ -74,7 +74,7 @@ fn push_of_field<'a>(list: &mut Vec<&'a Item>, field: &'a Field) -> Result<(), A
 }
 
 /// The value of a default, which is not null.
-#[tactic(auto, using(pan_ast::proofs::Places::item_place_seen), unfolding(template_meaning::specs::Statements::default_run))]
+#[tactic(auto, using(pan_ast::proofs::Places::item_place_seen, template_meaning::proofs::Leaving::leaving), unfolding(template_meaning::specs::Statements::default_run))]
 fn run_default<W: World, L: Ledger>(
     alloc: Global,
     item: &Item,
@@ -110,7 +110,7 @@ fn run_default<W: World, L: Ledger>(
 }
 
 /// The values of defaults, in order.
-#[tactic(auto, using(crate::proofs::Items::defaults_more), unfolding(template_meaning::specs::Statements::defaults_run))]
+#[tactic(auto, using(crate::proofs::Items::defaults_more, template_meaning::proofs::Leaving::leaving), unfolding(template_meaning::specs::Statements::defaults_run))]
 fn run_defaults<W: World, L: Ledger>(
     alloc: Global,
     items: &[&Item],
@@ -175,7 +175,7 @@ fn resolve<W: World>(
 }
 
 /// The type of a statement: the values of its defaults (Pan Book, "Types"), and then its names.
-#[tactic(auto, unfolding(template_meaning::specs::Statements::type_run))]
+#[tactic(auto, using(template_meaning::proofs::Leaving::leaving), unfolding(template_meaning::specs::Statements::type_run))]
 pub(crate) fn run_type<W: World, L: Ledger>(
     alloc: Global,
     full: &FullType,

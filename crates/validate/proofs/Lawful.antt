@@ -1,7 +1,7 @@
 -- A check is a lawful run, where what it takes of the language is: it asks only what that asks, and fails with no fault of a circular object of its own.
 use Rattle.std.proofs.Common.{◌≡◌, refl, ℕ, ◌+◌, List, [], ◌∷◌, Option, Some, None, Bool, false, Result, Ok, Err, arith}
 use Rattle.path_tree.specs.Plain.{Plain, Items, no_items, item, Fields as Values, no_fields, field}
-use Rattle.path_tree.specs.Find.{find_field, get}
+use Rattle.path_tree.specs.Find.{find_field}
 use Rattle.path_tree.specs.declared.path.Path.{Path}
 use Rattle.path_tree.specs.declared.path.Term.{Term}
 use Rattle.pan_ast.specs.declared.place.Place.{Place}
@@ -13,11 +13,11 @@ use Rattle.type_defs.specs.Bindings.{Bound, Valid}
 use Rattle.type_defs.specs.Resolved.{Resolved, Known, Shape, OfBase, Named, Ranged, ListOf, DictOf, Link, Record, Choice, Fields, none, more}
 use Rattle.validate.specs.declared.refusal.Misfit.{Misfit}
 use Rattle.validate.specs.declared.refusal.Misfit.TheVariants as misfit
-use Rattle.validate.specs.Check.{visit, truth, condition_run, target_run, items_run, values_run, field_run, other_key, no_other, check, shape_run, fields_run}
-use Rattle.validate.specs.Checked.{undef_run, placed, bound_run, bounds_run, valid_run, valids_run, checked, first_undef}
+use Rattle.validate.specs.Check.{visit, truth, condition_run, target_run, items_run, values_run, field_run, no_other, check, shape_run, fields_run}
+use Rattle.validate.specs.Checked.{undef_run, placed, bound_run, bounds_run, valid_run, valids_run, checked}
 use Rattle.validate.specs.Kinds.{link_path}
 use Rattle.validate.specs.Means.{Means, found_run}
-use Rattle.validate.specs.Refusals.{Refusal, Checks, code_of, unless_refused, or_refuse, inside, at_link}
+use Rattle.validate.specs.Refusals.{Refusal, Checks, code_of, unless_refused, or_refuse}
 
 -- what a check takes of the language: an item pays its questions, and a look asks one that its caller pays
 pub record LawfulMeans (may : Key → Type 0) (e : Means) : Type 0 where

@@ -6,3 +6,5 @@ pub mod Told
 pub mod Conforming
 pub mod Sound
 pub mod Rows
+pub mod Leaving
+pub mod Stopping

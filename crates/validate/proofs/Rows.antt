@@ -1,5 +1,5 @@
 -- The definitions, computed on values.
-use Rattle.std.proofs.Common.{◌≡◌, ℕ, pos, true, false, int_lt, List, [], ◌∷◌, codes, ◌==◌, if◌then◌else◌, Option, Some, None, Ok, refl, arith}
+use Rattle.std.proofs.Common.{◌≡◌, ℕ, pos, true, false, int_lt, List, [], ◌∷◌, codes, ◌==◌, if◌then◌else◌, Option, Some, None, refl, arith}
 use Rattle.path_tree.specs.Plain.{Plain, dict, list, text, long, boolean, undef, no_items, item, no_fields, field}
 use Rattle.path_tree.specs.Find.{get}
 use Rattle.path_tree.specs.declared.path.Anchor.{Anchor}
@@ -13,7 +13,6 @@ use Rattle.pan_ast.specs.Detail.{fault_with}
 use Rattle.pan_ast.specs.Syntax.{Item}
 use Rattle.pan_ast.specs.Syntax as nodes
 use Rattle.questions.specs.Contents.{Answers, Absent, Circular, Content, Failed as Broken, Value}
-use Rattle.questions.specs.declared.key.Key.{Key}
 use Rattle.questions.specs.declared.key.Key.TheVariants.{File, Under}
 use Rattle.questions.specs.Run.{Meter, Outcome, Done, Failed, Asks, fault_at, give}
 use Rattle.dml_meaning.specs.Lookups.{Looked, Nothing, look_other, looked_in}

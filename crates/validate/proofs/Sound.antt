@@ -7,7 +7,7 @@ use Rattle.path_tree.specs.declared.path.Term.{Term}
 use Rattle.pan_ast.specs.declared.place.Place.{Place}
 use Rattle.pan_ast.specs.declared.fault.Code.TheVariants.{FalseValid}
 use Rattle.questions.specs.Contents.{Answers}
-use Rattle.questions.specs.Run.{Outcome, Done, Returned, Failed, Asks, Meter, then, ◌>>=◌, give, fail_about}
+use Rattle.questions.specs.Run.{Outcome, Done, Returned, Failed, Asks, then, ◌>>=◌, give, fail_about}
 use Rattle.dml_meaning.specs.Run.{Look}
 use Rattle.type_defs.specs.Bindings.{Bound, Valid}
 use Rattle.validate.specs.Check.{check, truth}

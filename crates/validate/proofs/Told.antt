@@ -1,5 +1,5 @@
 -- What a run tells of a claim: that it holds where the run is done without a refusal, and that the run is so done where it holds, unless the work is spent.
-use Rattle.std.proofs.Common.{◌≡◌, ℕ, ◌≤◌, ◌-◌, Bool, true, false, cond, nat_eq, [], Option, Some, None, Result, Ok, Err, refl, sym, subst, arith}
+use Rattle.std.proofs.Common.{◌≡◌, ℕ, ◌≤◌, ◌-◌, Bool, true, false, nat_eq, Option, Some, None, Result, Ok, Err, refl, sym, subst, arith}
 use Rattle.path_tree.specs.declared.path.Term.{Term}
 use Rattle.pan_ast.specs.declared.fault.Code.TheVariants.{WorkSpent}
 use Rattle.pan_ast.specs.declared.place.Place.{Place}

@@ -1,7 +1,7 @@
 -- The check of the children of a value, one after the other.
-use Rattle.std.proofs.Common.{◌≡◌, ◌≤◌, ℕ, ◌+◌, ◌<◌, pos, ◌||◌, bytes_eq, is_some, if◌then◌else◌, Bool, true, false, cond, List, [], ◌∷◌, length, drop, get_or, Option, Some, None, option_copied, Bor, Ok, Err, refl, ap, sym, ◌∙◌, arith}
+use Rattle.std.proofs.Common.{◌≡◌, ℕ, ◌+◌, ◌<◌, pos, ◌||◌, bytes_eq, is_some, Bool, true, false, cond, List, [], ◌∷◌, length, drop, get_or, Option, Some, None, option_copied, Bor, Ok, Err, refl, ap, sym, ◌∙◌}
 use Rattle.std.proofs.lemmas.List.{drop_more}
-use Rattle.path_tree.specs.Plain.{Plain, dict, list, text, long, boolean, undef, null, Fields as Values}
+use Rattle.path_tree.specs.Plain.{Plain, dict, list, text, long, boolean, undef, null}
 use Rattle.path_tree.specs.Children.{child_fields, child_items, fields_from, items_from}
 use Rattle.path_tree.specs.Find.{child, child_at, child_count, find_field, key_at, kind_of}
 use Rattle.path_tree.specs.declared.kind.Kind.TheVariants as kind
@@ -9,7 +9,7 @@ use Rattle.path_tree.specs.declared.path.Term.TheVariants as term
 use Rattle.path_tree.proofs.Children.{all_fields, all_items, dict_child, dict_end, dict_key, dict_step, list_child, list_end, list_step}
 use Rattle.pan_ast.specs.declared.place.Place.{Place}
 use Rattle.questions.specs.Contents.{Answers}
-use Rattle.questions.specs.Run.{Meter, Done, then}
+use Rattle.questions.specs.Run.{Meter, Done}
 use Rattle.type_defs.specs.declared.resolved.Range.{Range}
 use Rattle.type_defs.specs.declared.resolved.RecordField.{RecordField as RField}
 use Rattle.type_defs.specs.Resolved.{Resolved, ListOf, DictOf, Record, Field, Fields, fields_of}
@@ -20,7 +20,7 @@ use Rattle.validate.specs.Check.{◌>>=◌, items_run, values_run, field_run, ha
 use Rattle.validate.specs.Checked.{or_else}
 use Rattle.validate.specs.Kinds.{is_within}
 use Rattle.validate.specs.Means.{Means}
-use Rattle.validate.specs.Refusals.{Checks, Refusal, fine, require, unless_refused}
+use Rattle.validate.specs.Refusals.{Checks, Refusal, fine, require}
 use Rattle.validate.specs.Walks.{extra_key, item_run, typed_run, value_run}
 
 -- the value itself is of another kind

@@ -6,6 +6,7 @@ use Rattle.pan_ast.specs.declared.work.Work.{Work}
 use Rattle.questions.specs.Contents.{Answers}
 use Rattle.questions.specs.declared.key.Key.{Key}
 use Rattle.questions.specs.Run.{Meter, Outcome, Done, Failed, Asks}
+use Rattle.questions.specs.Told.{LeavesAtMost}
 use Rattle.dml_meaning.specs.Run.{Look}
 use Rattle.validate.specs.declared.refusal.Exit.{Exit}
 use Rattle.validate.specs.declared.refusal.Exit.TheVariants as exit
@@ -21,11 +22,11 @@ meter work asked = record { left = work.left; asked = asked }
 abbrev pub refusal_seen : RRefusal → Refusal
 refusal_seen r = record { misfit = r.misfit; terms = r.terms.items }
 
--- an early end, with what is left
+-- an early end, with what is left; at want of memory the run leaves no more
 abbrev pub Ends : {Y : Type 0} → Stop → Meter → Outcome (Unit {0}) Y → Type 0
 Ends (stop.Fault f) m o = o ≡ Failed f.value m
 Ends (stop.Need k) m o = o ≡ Asks k.value m
-Ends stop.Memory m o = Unit {0}
+Ends stop.Memory m o = LeavesAtMost m.left o
 
 abbrev pub Comes : {X Y : Type 0} → (X → Y) → Result X Stop → Meter → Outcome (Unit {0}) Y → Type 0
 Comes view (Ok x) m o = o ≡ Done (view x) tt m

@@ -1,6 +1,6 @@
 -- A check of a value gives that it fits, or what is wrong with it: where in the value is told from
 -- the value itself, as the place and the path of the fault are known further out.
-use Rattle.std.specs.Prelude.{ℕ, List, [], ◌∷◌, Option, Some, None, Bool, cond, Result, Ok, Err}
+use Rattle.std.specs.Prelude.{List, [], ◌∷◌, Option, Some, None, Bool, cond, Result, Ok, Err}
 use Rattle.path_tree.specs.declared.path.Term.{Term}
 use Rattle.pan_ast.specs.declared.fault.Code.{Code}
 use Rattle.pan_ast.specs.declared.fault.Code.TheVariants as code

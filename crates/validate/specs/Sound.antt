@@ -1,5 +1,5 @@
 -- What a check without fault says of an object.
-use Rattle.std.specs.Prelude.{◌≡◌, ◌≤◌, ◌↔◌, ℕ, true, List, Some}
+use Rattle.std.specs.Prelude.{◌≡◌, ◌≤◌, ◌↔◌, true, List, Some}
 use Rattle.std.specs.List.{AllByRecursion}
 use Rattle.path_tree.specs.Plain.{Plain, dict, list, boolean, undef, Items, no_items, item, Fields as Values, no_fields, field}
 use Rattle.path_tree.specs.Find.{get}

@@ -26,7 +26,7 @@ use type_defs::{Range, RecordField, Resolved, Shape};
 
 /// Checks a value by a type, for a binding at the place: the first fault, in order.
 #[cycle(checking)]
-#[tactic(auto, using(type_defs::proofs::Shapes::seen_resolved))]
+#[tactic(auto, using(type_defs::proofs::Shapes::seen_resolved, crate::proofs::Leaving::leaving))]
 pub(crate) fn check_value<L: Ledger, E: Evaluator>(
     alloc: Global,
     place: &Place,
@@ -144,7 +144,7 @@ fn check_list<L: Ledger, E: Evaluator>(
 }
 
 #[cycle(checking)]
-#[tactic(auto, using(crate::proofs::Walking::items_start, crate::proofs::Walking::items_more, crate::proofs::Walking::items_end))]
+#[tactic(auto, using(crate::proofs::Walking::items_start, crate::proofs::Walking::items_more, crate::proofs::Walking::items_end, crate::proofs::Leaving::leaving))]
 fn check_items<L: Ledger, E: Evaluator>(
     alloc: Global,
     place: &Place,
@@ -219,7 +219,7 @@ fn check_dict<L: Ledger, E: Evaluator>(
 }
 
 #[cycle(checking)]
-#[tactic(auto, using(crate::proofs::Walking::fields_start, crate::proofs::Walking::values_more, crate::proofs::Walking::values_end))]
+#[tactic(auto, using(crate::proofs::Walking::fields_start, crate::proofs::Walking::values_more, crate::proofs::Walking::values_end, crate::proofs::Leaving::leaving))]
 fn check_entries<L: Ledger, E: Evaluator>(
     alloc: Global,
     place: &Place,
@@ -271,6 +271,7 @@ fn check_entry<L: Ledger, E: Evaluator>(
 }
 
 #[cycle(checking)]
+#[tactic(auto, using(crate::proofs::Leaving::leaving))]
 fn check_link<L: Ledger, E: Evaluator>(
     alloc: Global,
     place: &Place,
@@ -320,7 +321,7 @@ fn check_record<L: Ledger, E: Evaluator>(
 }
 
 #[cycle(checking)]
-#[tactic(auto, using(crate::proofs::Walking::typed_more))]
+#[tactic(auto, using(crate::proofs::Walking::typed_more, crate::proofs::Leaving::leaving))]
 fn check_fields<L: Ledger, E: Evaluator>(
     alloc: Global,
     place: &Place,

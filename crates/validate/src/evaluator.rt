@@ -3,7 +3,7 @@ ghost use Rattle.pan_ast.specs.Seen.{item_seen};
 ghost use Rattle.questions.specs.Contents.{Answers};
 ghost use Rattle.questions.specs.declared.key.Key.{Key};
 ghost use Rattle.validate.specs.Exits.{Gives};
-ghost use Rattle.validate.specs.Means.{Means, found_run};
+ghost use Rattle.validate.specs.Means.{LeaveNoMore, Means, found_run};
 
 use crate::stop::Stop;
 use base::Steps;
@@ -23,6 +23,9 @@ pub trait Evaluator {
 
     /// The keys asked so far, each once.
     ghost asked: { Self → List Key };
+
+    /// Neither leaves more work than it began with.
+    ghost leaves: { LeaveNoMore means };
 
     /// The value of an item of a template, where SELF is fixed.
     fn value<L: Ledger>(

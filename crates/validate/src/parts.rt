@@ -116,7 +116,7 @@ pub(crate) fn check_condition<L: Ledger, E: Evaluator>(
 }
 
 /// The value behind a link.
-#[tactic(auto, unfolding(crate::specs::Check::target_run))]
+#[tactic(auto, using(crate::proofs::Leaving::leaving), unfolding(crate::specs::Check::target_run))]
 pub(crate) fn link_target<E: Evaluator>(
     alloc: Global,
     place: &Place,

@@ -1,4 +1,4 @@
-ghost use Rattle.std.specs.Prelude.{◌≡◌, ◌+◌, ◌++◌, ◌<◌, ◌≤◌, Err, IfOk, Result, Some, string_bytes};
+ghost use Rattle.std.specs.Prelude.{◌≡◌, ◌+◌, ◌++◌, IfOk, Result, Some, string_bytes};
 ghost use Rattle.pan_ast.specs.Detail.{fault_with};
 ghost use Rattle.path_tree.specs.Find.{get};
 ghost use Rattle.questions.specs.Contents.{Answers};
@@ -9,7 +9,6 @@ ghost use Rattle.validate.specs.Exits.{Comes, ComesOrRefuses, Gives, IsFault};
 ghost use Rattle.validate.specs.Refusals.{Refusal as Refused};
 ghost use Rattle.validate.specs.Sound.{ChecksSoundness};
 ghost use Rattle.validate.specs.Statements.{valids_seen};
-ghost use Rattle.validate.specs.declared.stop.Stop.TheVariants.{Memory};
 
 use crate::checking::check_value;
 use crate::evaluator::Evaluator;
@@ -21,8 +20,7 @@ use base::{Seq, Steps};
 use pan_ast::{Code, Place, Work};
 use path_tree::{Anchor, Path, Term, Tree};
 use std::alloc::{AllocError, Global};
-use std::marker::Brand;
-use std::sync::ledger::{Blank, Ledger};
+use std::sync::ledger::Ledger;
 use type_defs::{Bindings, Bound, Valid, push_terms};
 
 /// The text of an absolute path, in canonical form: of these terms, and then those.
@@ -129,7 +127,7 @@ fn check_bound<L: Ledger, E: Evaluator>(
     check_there(alloc, bound, value, evaluator, work, steps)
 }
 
-#[tactic(auto, using(crate::proofs::Statements::bounds_more), unfolding(crate::specs::Checked::bounds_run))]
+#[tactic(auto, using(crate::proofs::Statements::bounds_more, crate::proofs::Leaving::leaving), unfolding(crate::specs::Checked::bounds_run))]
 fn check_bounds<L: Ledger, E: Evaluator>(
     alloc: Global,
     root: &Tree,
@@ -176,7 +174,7 @@ fn check_valid<L: Ledger, E: Evaluator>(
     }
 }
 
-#[tactic(auto, using(crate::proofs::Statements::valids_more), unfolding(crate::specs::Checked::valids_run))]
+#[tactic(auto, using(crate::proofs::Statements::valids_more, crate::proofs::Leaving::leaving), unfolding(crate::specs::Checked::valids_run))]
 fn check_valids<L: Ledger, E: Evaluator>(
     alloc: Global,
     root: &Tree,
@@ -195,9 +193,14 @@ fn check_valids<L: Ledger, E: Evaluator>(
     Ok(())
 }
 
-/// That no undef is left, then each binding, then each valid statement.
-#[tactic(auto, unfolding(crate::specs::Checked::checked))]
-fn check_all<L: Ledger, E: Evaluator>(
+/// Checks an object's tree (Pan Book, "Validation"): that no undef is left, each binding in path
+/// order, and each valid statement in the order of execution. The answer is the first fault. F41
+/// stands at the object's header. At a binding stand F42, where its path is absent; the faults of
+/// its type; F26, where a `with` gives no boolean; and F24, where the work of a visit is spent.
+/// F42, F26 and F40 of a valid statement stand at the statement. `Need` says that a key is asked
+/// whose content the evaluator does not know.
+#[tactic(auto, using(crate::proofs::Leaving::leaving), unfolding(crate::specs::Checked::checked))]
+pub fn check<L: Ledger, E: Evaluator>(
     alloc: Global,
     root: &Tree,
     bindings: &Bindings,
@@ -215,81 +218,6 @@ fn check_all<L: Ledger, E: Evaluator>(
     check_undef(alloc, header, root, evaluator, work)?;
     check_bounds(alloc, root, bindings.bounds(), evaluator, work, steps)?;
     check_valids(alloc, root, valids, evaluator, work, steps)
-}
-
-/// How a check ended, and the work that is left.
-#[derive(Drop)]
-struct Ended {
-    end: Result<(), Stop>,
-    left: Work,
-}
-
-/// The same, with a count of its own.
-fn check_alone<N: Ledger, E: Evaluator>(
-    alloc: Global,
-    blank: Blank,
-    root: &Tree,
-    bindings: &Bindings,
-    valids: &[Valid],
-    header: &Place,
-    evaluator: &mut E,
-    work: Work,
-) -> Ended
-    requires name { blank.name ≡ N.name }
-    requires parts { blank.parts ≡ N.parts }
-    requires some { 0 < blank.parts }
-    ensures gives { Gives (λ x. x) result.end E.answers work (E.asked evaluator.old) result.left
-        (E.asked evaluator.new) (checked E.means header.now root.now (bindings_seen bindings.now)
-        (valids_seen valids.now)) }
-    ensures within { result.left.left ≤ work.left }
-{
-    let mut steps: Steps<N> = Steps::new(blank);
-    let mut left = work;
-    let end = check_all(
-        alloc, root, bindings, valids, header, evaluator, &mut left, &mut steps,
-    );
-    Ended { end, left }
-}
-
-/// Checks an object's tree (Pan Book, "Validation"): that no undef is left, each binding in path
-/// order, and each valid statement in the order of execution. The answer is the first fault. F41
-/// stands at the object's header. At a binding stand F42, where its path is absent; the faults of
-/// its type; F26, where a `with` gives no boolean; and F24, where the work of a visit is spent.
-/// F42, F26 and F40 of a valid statement stand at the statement. `Need` says that a key is asked
-/// whose content the evaluator does not know. Where memory is wanting, the work and the count of
-/// steps are as before.
-pub fn check<L: Ledger, E: Evaluator>(
-    alloc: Global,
-    root: &Tree,
-    bindings: &Bindings,
-    valids: &[Valid],
-    header: &Place,
-    evaluator: &mut E,
-    work: &mut Work,
-    steps: &mut Steps<L>,
-) -> Result<(), Stop>
-    ensures gives { Gives (λ x. x) result E.answers work.old (E.asked evaluator.old) work.new
-        (E.asked evaluator.new) (checked E.means header.now root.now (bindings_seen bindings.now)
-        (valids_seen valids.now)) }
-    ensures counted { steps.new + work.new.left ≡ steps.old + work.old.left }
-    ensures before { result ≡ Err Memory → work.new ≡ work.old }
-{
-    let Ended { end, left } = check_alone::<Brand, E>(
-        alloc,
-        Blank::new(1),
-        root,
-        bindings,
-        valids,
-        header,
-        evaluator,
-        *work,
-    );
-    if matches!(end, Err(Stop::Memory)) {
-        return Err(Stop::Memory);
-    }
-    steps.pay(work.left - left.left);
-    *work = left;
-    end
 }
 
 /// A law: a check gives no fault exactly where no undef is left, the value of each binding conforms

@@ -1,9 +1,9 @@
 use Rattle.std.proofs.Common.{◌≡◌, ◌<◌, OnOk, length, subst, sym, ◌∙◌, rules, arith}
 use Rattle.path_tree.specs.Find.{child_count}
 use Rattle.type_defs.proofs.Shapes.{seen_record}
-use Rattle.defaults.specs.Fills.{target_store}
+use Rattle.defaults.specs.Fills.{meter, target_store}
 use Rattle.defaults.specs.Steps.{IsKnown}
-use Rattle.defaults.proofs.Loops.{values_on}
+use Rattle.defaults.proofs.Loops.{fields_stop, values_on}
 use Rattle.defaults.proofs.Replays.{fill_unlogged}
 use Rattle.defaults.proofs.filling.+filling.Goals as goal
 
@@ -19,6 +19,15 @@ fill_values-loop-i-preserved g t c =
       fills = λ answers asked. sym (values_on _ _ answers _ _ c.loop-i.i c.args.value.now _ _ c.loop-i.target.path.items c.requires.dict within c.loop-i.invariant.path (c.in_ok-fill_entry.ensures.fills answers asked)) ∙ c.loop-i.invariant.fills answers asked;
       counted = search rules;
     }
+
+pub fill_fields-returns-in_err-fill_field-clause-fills : goal.fill_fields-returns-in_err-fill_field-clause-fills
+fill_fields-returns-in_err-fill_field-clause-fills g t c answers asked =
+    let at = c.loop-field.target in
+    let after = c.fill_field.new.target in
+    let stops = fields_stop c.in_err-fill_field.field-0.0 c.args.place.now c.args.fields.now c.loop-field.field-index c.field-item.result at.path.items answers (target_store at) (target_store after) (meter at.work asked) (meter after.work asked) c.loop-field-test.true c.field-item.is in
+    let here = c.fill_field.ensures.fills answers asked in
+    let all = c.loop-field.invariant.fills answers asked in
+    grind (arith, stops, here, all)
 
 -- where the log has not grown, the tree is as before
 pub fill_below-forget-requires : goal.fill_below-forget-requires

@@ -1,4 +1,3 @@
-use Rattle.std.proofs.Common.{rules}
 use Rattle.validate.specs.Checked.{bound_run}
 use Rattle.validate.proofs.whole.check_there.Goals as goal
 

@@ -1,0 +1,5 @@
+use Rattle.dml_meaning.proofs.Leaving.{look_leaves}
+use Rattle.dml_world.proofs.paths.look.Goals as goal
+
+pub returns-in-Err-Memory : goal.returns-in-Err-Memory
+returns-in-Err-Memory g c = look_leaves _ g.W.World.plain _ _ _ _ _
