@@ -1,4 +1,4 @@
-ghost use Rattle.std.specs.Prelude.{◌≡◌, ◌≤◌, IfErr, IfOk, Ok, OnOk, length, option_copied, option_map, pos};
+ghost use Rattle.std.specs.Prelude.{◌≡◌, ◌≤◌, IfErr, IfOk, Ok, OnErr, OnOk, length, option_copied, option_map, pos};
 ghost use Rattle.base.specs.Answers.{Gives};
 ghost use Rattle.base.specs.declared.limits.TheConstants.{MAX_FILE_BYTES};
 ghost use Rattle.path_tree.specs.Find.{child_count};
@@ -127,7 +127,8 @@ fn is_among(keys: &[Key], key: &Key) -> bool
 
 /// A key is added, where it is new.
 fn add_key(keys: &mut Vec<Key>, key: Key) -> Result<(), AllocError>
-    ensures { OnOk result (keys.new.items ≡ with_key key keys.old.items) }
+    ensures ok { OnOk result (keys.new.items ≡ with_key key keys.old.items) }
+    ensures err { OnErr result (keys.new.items ≡ keys.old.items) }
 {
     if is_among(keys, &key) {
         return Ok(());
@@ -143,7 +144,9 @@ fn note_object(
     object: &Name,
     terms: &[Term],
 ) -> Result<(), AllocError>
-    ensures { OnOk result (keys.new.items ≡ with_key (Under object.now terms.now) keys.old.items) }
+    ensures ok { OnOk result (keys.new.items ≡ with_key (Under object.now terms.now)
+        keys.old.items) }
+    ensures err { OnErr result (keys.new.items ≡ keys.old.items) }
 {
     let key = Key::Under {
         object: object.share()?,

@@ -84,7 +84,8 @@ fn fill_tree<L: Ledger>(
 /// Puts the defaults of the bindings, in path order, into a tree (Pan Book, "Types"), and logs what
 /// it put: where the value of a binding, or of a field or an item inside, is absent or undef, and
 /// its type has a default. A default that makes the tree too large or too high is F16, and work
-/// that is spent F24, both at the binding. After a fault the tree and the log are unspecified.
+/// that is spent F24, both at the binding. After a fault the tree and the log are unspecified. Where
+/// memory is wanting, at least the work is left that the filling leaves.
 pub fn fill<L: Ledger>(
     alloc: Global,
     tree: &mut Tree,

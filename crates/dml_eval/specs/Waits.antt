@@ -7,6 +7,7 @@ use Rattle.pan_ast.specs.Seen.{node_seen, step_seen}
 use Rattle.questions.specs.declared.key.Key.{Key}
 use Rattle.questions.specs.Contents.{Answers}
 use Rattle.questions.specs.Run.{Outcome, then, ◌>>=◌, give}
+use Rattle.questions.specs.Told.{ToldEnough}
 use Rattle.dml_meaning.specs.Run.{Env, Run}
 use Rattle.dml_meaning.specs.Around.{Around}
 use Rattle.dml_meaning.specs.Meaning.{Means, spine_run, step_run, steps_run, apply_binary, apply_boolean}
@@ -60,14 +61,17 @@ resumed go a answers [] o = o
 resumed go a answers (w ∷ ws) o =
     then (resumed go a answers ws o) (λ t. resume go a w t answers)
 
--- a run goes on as what a function left, or ends as it did
+-- a run comes to what a function left, as it goes on, or ends as the function did
+abbrev pub GoesOn : {X : Type 0} → (X → Run Plain) → Result X Exit → Answers → Live → List Key
+    → Outcome Env Plain → Type 0
+GoesOn left (Ok x) told after new o = o ≡ left x told (env after) (meter after.work new)
+GoesOn left (Err x) told after new o = Ends x (env after) (meter after.work new) o
+
+-- told the answers, from what stood there and the keys asked, to what stands there then
 abbrev pub Leads : {X : Type 0} → (X → Run Plain) → Result X Exit → Answers → Live → List Key
     → Live → List Key → Run Plain → Type 0
-Leads left (Ok x) answers before old after new run =
-    run answers (env before) (meter before.work old)
-    ≡ left x answers (env after) (meter after.work new)
-Leads left (Err x) answers before old after new run =
-    Ends x (env after) (meter after.work new) (run answers (env before) (meter before.work old))
+Leads left r answers before old after new run = ToldEnough answers old new (λ told.
+    GoesOn left r told after new (run told (env before) (meter before.work old)))
 
 -- How many turns are left at most.
 

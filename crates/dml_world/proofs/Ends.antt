@@ -1,5 +1,5 @@
 -- How a refusal ends a run.
-use Rattle.std.proofs.Common.{◌≡◌, ap, sym, refl, Result, Ok, Err, IfSome, arith}
+use Rattle.std.proofs.Common.{◌≡◌, ap, sym, refl, ℕ, Result, Ok, Err, IfSome, arith}
 use Rattle.path_tree.specs.Plain.{Plain}
 use Rattle.path_tree.specs.Refusals.{refusal}
 use Rattle.path_tree.specs.declared.refused.Refused.{Refused}
@@ -49,21 +49,28 @@ ends_then (exit.Fault d) e m z f k h = ap (λ w. then w f) h
 ends_then (exit.Need q) e m z f k h = ap (λ w. then w f) h
 ends_then (exit.Return t) e m z f k h = ap (λ w. then w f) h
 
--- a run without state that stops, in front of more
+-- a run that stops, in front of more
+pub stops_then : {S X Y : Type 0} → (x : Stop) (m : Meter) (z : Outcome S X) (f : X → S → Meter → Outcome S Y) → ((y : X) (s : S) (n : Meter) → LeavesAtMost n.left (f y s n)) → Stops x m z → Stops x m (then z f)
+stops_then stop.Memory m z f k h = then_leaves m.left z f k h
+stops_then (stop.Fault d) m z f k h = ap (λ w. then w f) h
+stops_then (stop.Need q) m z f k h = ap (λ w. then w f) h
+
+-- one without state, in front of more
 pub stopped_ends : {X Y : Type 0} → (s : Stop) (x : Exit) (e : Env) (m : Meter) (o : Outcome (Unit {0}) X) (f : X → Env → Meter → Outcome Env Y) → x ≡ exit_of s → Stops s m o → LeavesAtMost m.left (then (beside e o) f) → Ends x e m (then (beside e o) f)
 stopped_ends stop.Memory x e m o f h k l = rw h l
 stopped_ends (stop.Fault g) x e m o f h k l = rw (h, k) refl
 stopped_ends (stop.Need q) x e m o f h k l = rw (h, k) refl
 
-beside_leaves : {X : Type 0} → (e : Env) (m : Meter) (o : Outcome (Unit {0}) X) → LeavesAtMost m.left o → LeavesAtMost m.left (beside e o)
-beside_leaves e m (Done x t n) h = h
-beside_leaves e m (Returned t s n) h = h
-beside_leaves e m (Failed f n) h = h
-beside_leaves e m (Asks k n) h = h
+-- a run without state, beside one
+pub beside_leaves : {S X : Type 0} → (s : S) (n : ℕ) (z : Outcome (Unit {0}) X) → LeavesAtMost n z → LeavesAtMost n (beside s z)
+beside_leaves s n (Done x t m) h = h
+beside_leaves s n (Returned u t m) h = h
+beside_leaves s n (Failed f m) h = h
+beside_leaves s n (Asks k m) h = h
 
 -- and by itself
 pub stopped_still : {X : Type 0} → (s : Stop) (x : Exit) (e : Env) (m : Meter) (o : Outcome (Unit {0}) X) → x ≡ exit_of s → Stops s m o → Ends x e m (beside e o)
-stopped_still stop.Memory x e m o h k = rw h (beside_leaves e m o k)
+stopped_still stop.Memory x e m o h k = rw h (beside_leaves e m.left o k)
 stopped_still (stop.Fault g) x e m o h k = rw (h, k) refl
 stopped_still (stop.Need q) x e m o h k = rw (h, k) refl
 

@@ -1,5 +1,5 @@
 -- Files that are asked, and the texts of a list.
-use Rattle.std.proofs.Common.{◌≡◌, ◌∙◌, ap, sym, refl, ℕ, zero, suc, ◌+◌, ◌<◌, ◌≤◌, true, false, List, [], ◌∷◌, ◌++◌, append_assoc, append-nil, length, drop, get_or, Option, Some, None, option_map, option_and_then, arith}
+use Rattle.std.proofs.Common.{◌≡◌, ◌∙◌, ap, sym, refl, ℕ, zero, suc, ◌+◌, ◌<◌, ◌≤◌, Bool, true, false, List, [], ◌∷◌, ◌++◌, append_assoc, append-nil, length, drop, get_or, Option, Some, None, option_map, option_and_then, arith}
 use Rattle.std.specs.Option.{option_map_or}
 use Rattle.std.proofs.lemmas.List.{drop_more}
 use Rattle.path_tree.specs.Plain.{Plain, dict, list, text, long, boolean, undef, null, Items, no_items, item}
@@ -7,22 +7,27 @@ use Rattle.path_tree.specs.Find.{child_at, child_count, item_at, item_count, tex
 use Rattle.path_tree.specs.Lists.{items_in}
 use Rattle.pan_ast.specs.declared.place.Place.{Place}
 use Rattle.questions.specs.declared.key.Key.{Key}
-use Rattle.questions.specs.Contents.{Content, TooLong, Bytes, Answers}
+use Rattle.questions.specs.Contents.{Content, TooLong, Bytes, Answers, with_key}
 use Rattle.questions.specs.Run.{Meter, noted, Outcome, Done, answered, then}
 use Rattle.dml_meaning.specs.Values.{is_list}
 use Rattle.dml_meaning.specs.Lookups.{Present, Long, Whole, present, tried, or_next, first_present, texts_in, with_text, load_path}
 use Rattle.dml_world.specs.declared.world.Seen.{Seen}
 use Rattle.dml_world.specs.declared.world.Seen.TheVariants as seen
-use Rattle.questions.specs.Told.{LeavesAtMost}
-use Rattle.dml_meaning.proofs.Leaving.{first_leaves, then_leaves}
+use Rattle.questions.specs.Told.{LeavesAtMost, only, beyond}
+use Rattle.questions.proofs.Parts.{beyond_grows, only_asked, only_none}
+use Rattle.dml_meaning.proofs.Leaving.{first_leaves}
 use Rattle.dml_world.specs.Answers.{seen_of, bytes_in}
 use Rattle.dml_world.specs.declared.stop.Stop.{Stop}
-use Rattle.dml_world.specs.declared.stop.Stop.TheVariants as stop
 use Rattle.dml_world.specs.Exits.{Stops}
+use Rattle.dml_world.proofs.Ends.{stops_then}
 
 -- what comes of an answer that is known
 abbrev with_answer : Option Content → Key → List ℕ → Meter → Outcome (Unit {0}) (Option Present)
 with_answer o k f m = then (answered {S = Unit {0}} o k tt m) (λ c. Done (present f c))
+
+-- a key that was asked has its answer
+pub answer_told : {S : Type 0} → (keys : Key → Bool) (o : Answers) (k : Key) (s : S) (m : Meter) → beyond keys (with_key k m.asked) ≡ 0 → answered (only keys o k) k s m ≡ answered (o k) k s m
+answer_told keys o k s m h = ap (λ a. answered a k s m) (only_asked keys o k m.asked h)
 
 pub missing_answer : (o : Option Content) (k : Key) (f : List ℕ) (m : Meter) → option_map seen_of o ≡ Some seen.Missing → with_answer o k f m ≡ Done None tt (noted k m)
 missing_answer None k f m e = let clash : ◌≡◌ {A = Option Seen} None (Some seen.Missing) = e in cc
@@ -42,7 +47,9 @@ long_answer (Some TooLong) k f m e = refl
 long_answer (Some (Bytes bs)) k f m e = let clash : ◌≡◌ {A = Option Seen} (Some seen.There) (Some seen.TooLong) = e in cc
 long_answer (Some c) k f m e = let clash : ◌≡◌ {A = Option Seen} (Some seen.Missing) (Some seen.TooLong) = e in cc
 
-pub ruleset tries = (missing_answer, there_answer, long_answer)
+pub ruleset tells = (answer_told, only_none, beyond_grows)
+
+pub ruleset tries = (missing_answer, there_answer, long_answer, tells)
 
 -- the file at a place, and those after it
 pub first_more : (p : Place) (fs : List (List ℕ)) (i : ℕ) (f : List ℕ) (o : Answers) (s : Unit {0}) (m : Meter) → i < length fs → f ≡ get_or fs i f → first_present p (drop i fs) o s m ≡ then (tried p f o s m) (λ x. or_next (first_present p (drop (i + 1) fs)) x o)
@@ -55,9 +62,7 @@ next_leaves p fs None o s m = first_leaves p fs o s m
 
 -- where the file at a place is not told
 pub first_stops : (x : Stop) (p : Place) (fs : List (List ℕ)) (i : ℕ) (f : List ℕ) (o : Answers) (s : Unit {0}) (m n : Meter) → i < length fs → f ≡ get_or fs i f → Stops x n (tried p f o s m) → Stops x n (first_present p (drop i fs) o s m)
-first_stops stop.Memory p fs i f o s m n h is k = rw (first_more p fs i f o s m h is) (then_leaves n.left (tried p f o s m) (λ y. or_next (first_present p (drop (i + 1) fs)) y o) (λ y. next_leaves p (drop (i + 1) fs) y o) k)
-first_stops (stop.Fault d) p fs i f o s m n h is k = first_more p fs i f o s m h is ∙ ap (λ z. then z (λ y. or_next (first_present p (drop (i + 1) fs)) y o)) k
-first_stops (stop.Need q) p fs i f o s m n h is k = first_more p fs i f o s m h is ∙ ap (λ z. then z (λ y. or_next (first_present p (drop (i + 1) fs)) y o)) k
+first_stops x p fs i f o s m n h is k = rw (first_more p fs i f o s m h is) (stops_then x n (tried p f o s m) (λ y. or_next (first_present p (drop (i + 1) fs)) y o) (λ y. next_leaves p (drop (i + 1) fs) y o) k)
 
 -- the texts of a list from a place on
 abbrev pub texts_from : ℕ → Plain → List (List ℕ)

@@ -79,4 +79,4 @@ abbrev pub TellsValue : Result Foreign WorldStop → List Key → List Key → L
 TellsValue (Ok x) old new o ms answers =
     (answers (Under o ms) ≡ Some (content_of x)) × (new ≡ with_key (Under o ms) old)
 TellsValue (Err stop.Need) old new o ms answers = (answers (Under o ms) ≡ None) × (new ≡ old)
-TellsValue (Err stop.Memory) old new o ms answers = Unit {0}
+TellsValue (Err stop.Memory) old new o ms answers = new ≡ old

@@ -9,7 +9,7 @@ use Rattle.questions.specs.declared.key.Key.{Key}
 use Rattle.questions.specs.declared.key.Key.TheVariants.{Under}
 use Rattle.questions.specs.Contents.{Answers}
 use Rattle.questions.specs.Run.{Meter, Outcome, Done, Returned, Failed, Asks, fault_at}
-use Rattle.questions.specs.Told.{LeavesAtMost}
+use Rattle.questions.specs.Told.{LeavesAtMost, ToldEnough}
 use Rattle.dml_meaning.specs.Run.{Env, Run, Look}
 use Rattle.dml_meaning.specs.Meaning.{code_of}
 use Rattle.dml_world.specs.declared.stop.Stop.{Stop}
@@ -31,11 +31,11 @@ abbrev pub Tells : {X Y : Type 0} → (X → Y) → Result X Stop → Meter → 
 Tells view (Ok x) m o = o ≡ Done (view x) tt m
 Tells view (Err x) m o = Stops x m o
 
--- told these answers, from the work left and the keys asked to those that there are then
+-- told the answers, from the work left and the keys asked to those that there are then
 abbrev pub Looks : {X Y : Type 0} → (X → Y) → Result X Stop → Answers → Work → List Key → Work
     → List Key → Look Y → Type 0
-Looks view r answers before old after new run =
-    Tells view r (meter after new) (run answers tt (meter before old))
+Looks view r answers before old after new run = ToldEnough answers old new (λ told.
+    Tells view r (meter after new) (run told tt (meter before old)))
 
 -- A run inside DML.
 
@@ -55,12 +55,12 @@ abbrev pub Comes : {X Y : Type 0} → (X → Y) → Result X Exit → Env → Me
 Comes view (Ok x) e m o = o ≡ Done (view x) e m
 Comes view (Err x) e m o = Ends x e m o
 
--- told these answers, from what stood there and the keys asked, to what stands there then
+-- told the answers, from what stood there and the keys asked, to what stands there then
 abbrev pub Follows : {X Y : Type 0} → (X → Y) → Result X Exit → Answers → Live → List Key → Live
     → List Key → Run Y → Type 0
-Follows view r answers before old after new run =
-    Comes view r (env after) (meter after.work new) (run answers (env before)
-    (meter before.work old))
+Follows view r answers before old after new run = ToldEnough answers old new (λ told.
+    Comes view r (env after) (meter after.work new) (run told (env before)
+    (meter before.work old)))
 
 -- Faults.
 

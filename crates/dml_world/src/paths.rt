@@ -46,6 +46,7 @@ fn need(alloc: Global, object: &Name, terms: &[Term]) -> Result<Box<Question>, A
 }
 
 /// What terms find in the tree of another object.
+#[tactic(auto, using(crate::proofs::Looking::tells))]
 fn look_other<W: World>(
     alloc: Global,
     place: &Place,

@@ -1,4 +1,4 @@
-ghost use Rattle.std.specs.Prelude.{◌≡◌, ℕ, List, Option, Result, Ok, IfOk, IfErr, OnOk, option_map};
+ghost use Rattle.std.specs.Prelude.{◌≡◌, ℕ, List, Option, Result, Ok, IfOk, IfErr, OnOk, OnErr, option_map};
 ghost use Rattle.base.specs.Answers.{Gives};
 ghost use Rattle.path_tree.specs.Plain.{Plain};
 ghost use Rattle.path_tree.specs.Refusals.{refusal};
@@ -82,7 +82,8 @@ pub trait World {
     /// Whether a file is there.
     fn file(&mut self, alloc: Global, name: &Text) -> Result<Seen, AllocError>
         ensures seen { IfOk result (λ s. IsSeen name.now s answers) }
-        ensures asked { OnOk result (asked self.new ≡ with_key (File name.now) (asked self.old)) };
+        ensures asked { OnOk result (asked self.new ≡ with_key (File name.now) (asked self.old)) }
+        ensures unasked { OnErr result (asked self.new ≡ asked self.old) };
 
     /// The template that a file's bytes spell, or their first fault.
     fn template(&mut self, alloc: Global, file: &Text) -> Result<Rc<Template>, TemplateStop>

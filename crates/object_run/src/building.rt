@@ -3,6 +3,8 @@ ghost use Rattle.dml_world.specs.Exits.{Tells};
 ghost use Rattle.dml_world.specs.Seen.{meter};
 ghost use Rattle.object_meaning.specs.Builds.{build_ending, built_of, built_run, defaults_run};
 ghost use Rattle.object_run.specs.Ended.{IsFilled, ended};
+ghost use Rattle.questions.specs.Contents.{Answers};
+ghost use Rattle.questions.specs.Told.{ToldEnough};
 ghost use Rattle.template_meaning.specs.Program.{no_program};
 ghost use Rattle.template_run.specs.Seen.{program_of, site_of};
 
@@ -26,8 +28,9 @@ fn filled<W: World, L: Ledger>(
     work: &mut Work,
     steps: &mut Steps<L>,
 ) -> Result<Built<Rest>, Stop>
-    ensures gives { IsFilled result header site.now.object.now W.answers (program_of program)
-        (meter work.old (W.asked world.now)) (meter work.new (W.asked world.now)) }
+    ensures gives { (told : Answers) → IsFilled result header site.now.object.now told
+        (program_of program) (meter work.old (W.asked world.now))
+        (meter work.new (W.asked world.now)) }
     ensures counted { steps.new + work.new.left ≡ steps.old + work.old.left }
 {
     let Program {
@@ -68,10 +71,11 @@ pub(crate) fn build_object<W: World, L: Ledger>(
     work: &mut Work,
     steps: &mut Steps<L>,
 ) -> Result<Built<Rest>, Stop>
-    ensures gives { Tells Ok result (meter work.new (W.asked world.new)) (ended
+    ensures gives { ToldEnough W.answers (W.asked world.old) (W.asked world.new) (λ told.
+        Tells Ok result (meter work.new (W.asked world.new)) (ended
         (build_ending (site_of site.now W.reading W.calls))
-        (built_run (site_of site.now W.reading W.calls) W.answers no_program
-        (meter work.old (W.asked world.old)))) }
+        (built_run (site_of site.now W.reading W.calls) told no_program
+        (meter work.old (W.asked world.old))))) }
     ensures counted { steps.new + work.new.left ≡ steps.old + work.old.left }
 {
     let Made { program, header } = run_object(alloc, site, world, work, steps)?;

@@ -1,5 +1,5 @@
 -- Runs that are told lists of pairs or words, and what is said of them.
-use Rattle.std.specs.Prelude.{◌≡◌, ℕ, ◌+◌, ◌-◌, ◌≤◌, List, [], ◌∷◌, ◌++◌, Option, Some, None, Bool, true, false, map, length}
+use Rattle.std.specs.Prelude.{◌≡◌, ℕ, ◌+◌, ◌-◌, ◌≤◌, List, [], ◌∷◌, ◌++◌, Option, Some, None, Bool, true, false, cond, map, length}
 use Rattle.asking.specs.declared.limits.TheConstants.{MAX_WORK}
 use Rattle.path_tree.specs.Plain.{Plain}
 use Rattle.questions.specs.declared.key.Key.{Key}
@@ -19,6 +19,22 @@ meter_of (Done x s m) = m
 meter_of (Returned t s m) = m
 meter_of (Failed f m) = m
 meter_of (Questions k m) = m
+
+-- the answers to some keys alone
+unfoldable pub only : (Key → Bool) → Answers → Answers
+only keys o k = cond (keys k) (o k) None
+
+-- how many keys of a list are beyond some keys
+unfoldable pub beyond : (Key → Bool) → List Key → ℕ
+beyond keys [] = 0
+beyond keys (k ∷ ks) = cond (keys k) 0 1 + beyond keys ks
+
+-- This holds, told the answers to any keys among which are all that are asked by then; and what was
+-- asked before stays so.
+abbrev pub ToldEnough : Answers → List Key → List Key → (Answers → Type 0) → Type 0
+ToldEnough answers before after Holds = (keys : Key → Bool)
+    → (beyond keys before ≤ beyond keys after)
+    × (beyond keys after ≡ 0 → Holds (only keys answers))
 
 -- an outcome that leaves no more work than this
 abbrev pub LeavesAtMost : {S X : Type 0} → ℕ → Outcome S X → Type 0

@@ -101,11 +101,12 @@ impl<'a, K: Known, T: Words> World for RunWorld<'a, K, T> {
         let Some(told) = self.known.built(object, terms) else {
             return Err(WorldStop::Need);
         };
-        let Ok(()) = self.notes.note_object(alloc, object, terms, told.number) else {
+        let number = told.number;
+        let Ok(foreign) = foreign_of(told) else {
             return Err(WorldStop::Memory);
         };
-        match foreign_of(told) {
-            Ok(foreign) => Ok(foreign),
+        match self.notes.note_object(alloc, object, terms, number) {
+            Ok(()) => Ok(foreign),
             Err(AllocError) => Err(WorldStop::Memory),
         }
     }

@@ -19,10 +19,11 @@ use Rattle.dml_meaning.specs.declared.limits.TheConstants.{MAX_INCLUDES}
 use Rattle.dml_meaning.specs.Laws.{IsReading}
 use Rattle.dml_meaning.specs.Lookups.{template_named}
 use Rattle.dml_meaning.proofs.Leaves.{pieces}
-use Rattle.dml_meaning.proofs.Leaving.{template_leaves, then_leaves}
+use Rattle.dml_meaning.proofs.Leaving.{template_leaves}
 use Rattle.dml_world.specs.declared.stop.Stop.{Stop}
 use Rattle.dml_world.specs.declared.stop.Stop.TheVariants as stop
 use Rattle.dml_world.specs.Exits.{Stops}
+use Rattle.dml_world.proofs.Ends.{beside_leaves, stops_then}
 use Rattle.template_meaning.specs.Program.{Site, Program, Inside, around_in, at_top, no_program}
 use Rattle.template_meaning.specs.Statements.{Prefixed, default_run, defaults_run, form_run, included, may_stand, named_in, statement_run, statements_run, template_run}
 use Rattle.template_meaning.specs.Objects.{object_run, run_top, top_place}
@@ -32,19 +33,7 @@ use Rattle.template_meaning.proofs.Leaving.{defaults_leave, statements_leave, te
 use Rattle.template_run.specs.Seen.{items_at}
 use Rattle.template_run.proofs.Items.{defaults_more, included_more, statements_more}
 
--- an early end in front of more
-stops_then : {X Y : Type 0} → (x : Stop) (m : Meter) (z : Outcome Program X) (f : X → Program → Meter → Outcome Program Y) → ((y : X) (s : Program) (n : Meter) → LeavesAtMost n.left (f y s n)) → Stops x m z → Stops x m (then z f)
-stops_then stop.Memory m z f k h = then_leaves m.left z f k h
-stops_then (stop.Fault d) m z f k h = ap (λ v. then v f) h
-stops_then (stop.Need q) m z f k h = ap (λ v. then v f) h
-
 -- a run without state, beside one
-beside_leaves : {X : Type 0} → (s : Program) (n : ℕ) (z : Outcome (Unit {0}) X) → LeavesAtMost n z → LeavesAtMost n (beside s z)
-beside_leaves s n (Done x t m) h = h
-beside_leaves s n (Returned u t m) h = h
-beside_leaves s n (Failed f m) h = h
-beside_leaves s n (Asks k m) h = h
-
 stops_beside : {X : Type 0} → (x : Stop) (s : Program) (m : Meter) (z : Outcome (Unit {0}) X) → Stops x m z → Stops x m (beside s z)
 stops_beside stop.Memory s m z h = beside_leaves s m.left z h
 stops_beside (stop.Fault d) s m z h = ap (beside s) h

@@ -2,6 +2,7 @@
 use Rattle.std.specs.Prelude.{◌≡◌, Result, Ok, Err}
 use Rattle.questions.specs.Contents.{Answers}
 use Rattle.questions.specs.Run.{Meter, Outcome, Done}
+use Rattle.questions.specs.Told.{ToldEnough}
 use Rattle.dml_world.specs.declared.stop.Stop.{Stop}
 use Rattle.dml_world.specs.Exits.{Stops}
 use Rattle.pan_ast.specs.declared.place.Place.{Place}
@@ -16,13 +17,17 @@ abbrev pub Comes : {X Y : Type 0} → (X → Y) → Result X Stop → Program �
 Comes view (Ok x) s m o = o ≡ Done (view x) s m
 Comes view (Err x) s m o = Stops x m o
 
--- told these answers, from a program and a meter to those that there are then
+-- told the answers, from a program and a meter to those that there are then
 abbrev pub Runs : {X Y : Type 0} → (X → Y) → Result X Stop → Answers → Program → Meter → Program
     → Meter → Run Y → Type 0
-Runs view r answers before m after n run = Comes view r after n (run answers before m)
+Runs view r answers before m after n run = ToldEnough answers m.asked n.asked (λ told.
+    Comes view r after n (run told before m))
+
+abbrev pub Makes : Result Made Stop → Meter → Outcome Program Place → Type 0
+Makes (Ok x) m o = o ≡ Done x.header (program_of x.program) m
+Makes (Err x) m o = Stops x m o
 
 -- what an object's statements have made, from an empty program on
 abbrev pub MakesObject : Result Made Stop → Answers → Meter → Meter → Run Place → Type 0
-MakesObject (Ok x) answers m n run =
-    run answers no_program m ≡ Done x.header (program_of x.program) n
-MakesObject (Err x) answers m n run = Stops x n (run answers no_program m)
+MakesObject r answers m n run = ToldEnough answers m.asked n.asked (λ told.
+    Makes r n (run told no_program m))

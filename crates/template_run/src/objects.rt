@@ -113,7 +113,8 @@ pub struct Made {
 
 /// Runs the object template of a name from an empty dict (Pan Book, "Object Template"): its value is
 /// what its statements have made, before any default; or the first fault, or what has to be known
-/// first. Want of memory may come at any time.
+/// first. Want of memory may come at any time; then at least the work is left that the run leaves
+/// where it is told what was answered by then.
 #[tactic(auto, using(template_meaning::proofs::Leaving::leaving))]
 pub fn run_object<W: World, L: Ledger>(
     alloc: Global,

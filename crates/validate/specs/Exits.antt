@@ -6,7 +6,7 @@ use Rattle.pan_ast.specs.declared.work.Work.{Work}
 use Rattle.questions.specs.Contents.{Answers}
 use Rattle.questions.specs.declared.key.Key.{Key}
 use Rattle.questions.specs.Run.{Meter, Outcome, Done, Failed, Asks}
-use Rattle.questions.specs.Told.{LeavesAtMost}
+use Rattle.questions.specs.Told.{LeavesAtMost, ToldEnough}
 use Rattle.dml_meaning.specs.Run.{Look}
 use Rattle.validate.specs.declared.refusal.Exit.{Exit}
 use Rattle.validate.specs.declared.refusal.Exit.TheVariants as exit
@@ -32,11 +32,11 @@ abbrev pub Comes : {X Y : Type 0} → (X → Y) → Result X Stop → Meter → 
 Comes view (Ok x) m o = o ≡ Done (view x) tt m
 Comes view (Err s) m o = Ends s m o
 
--- told these answers, from the work left and the keys asked to what stands there then
+-- told the answers, from the work left and the keys asked to what stands there then
 abbrev pub Gives : {X Y : Type 0} → (X → Y) → Result X Stop → Answers → Work → List Key → Work
     → List Key → Look Y → Type 0
-Gives view r answers before old after new run =
-    Comes view r (meter after new) (run answers tt (meter before old))
+Gives view r answers before old after new run = ToldEnough answers old new (λ told.
+    Comes view r (meter after new) (run told tt (meter before old)))
 
 -- the same, where a refusal is what the run gives
 abbrev pub ComesOrRefuses : {X Y : Type 0} → (X → Y) → Result X Exit → Meter
@@ -47,8 +47,8 @@ ComesOrRefuses view (Err (exit.Stopped s)) m o = Ends s m o
 
 abbrev pub Judges : {X Y : Type 0} → (X → Y) → Result X Exit → Answers → Work → List Key → Work
     → List Key → Checks Y → Type 0
-Judges view r answers before old after new run =
-    ComesOrRefuses view r (meter after new) (run answers tt (meter before old))
+Judges view r answers before old after new run = ToldEnough answers old new (λ told.
+    ComesOrRefuses view r (meter after new) (run told tt (meter before old)))
 
 -- this fault, or want of memory
 abbrev pub IsFault : Stop → Fault → Type 0

@@ -198,7 +198,8 @@ fn check_valids<L: Ledger, E: Evaluator>(
 /// stands at the object's header. At a binding stand F42, where its path is absent; the faults of
 /// its type; F26, where a `with` gives no boolean; and F24, where the work of a visit is spent.
 /// F42, F26 and F40 of a valid statement stand at the statement. `Need` says that a key is asked
-/// whose content the evaluator does not know.
+/// whose content the evaluator does not know. Where memory is wanting, at least the work is left
+/// that the check leaves where it is told what was answered by then.
 #[tactic(auto, using(crate::proofs::Leaving::leaving), unfolding(crate::specs::Checked::checked))]
 pub fn check<L: Ledger, E: Evaluator>(
     alloc: Global,

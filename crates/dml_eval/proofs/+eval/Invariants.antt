@@ -5,6 +5,7 @@ use Rattle.pan_ast.specs.TemplatesSeen.{statement_seen}
 use Rattle.dml_leaves.specs.References.{indexes_back}
 use Rattle.path_tree.specs.Find.{child_count}
 use Rattle.path_tree.specs.Plain.{undef}
+use Rattle.questions.specs.Told.{ToldEnough}
 use Rattle.dml_meaning.specs.Meaning.{eval, block_from, values_from, while_turns, for_turns, pair_turns, pairs_of, reach_from, included, statements_from}
 use Rattle.dml_eval.specs.Waits.{chain_run, resumed, turn_run, turn_weight, waits_weight}
 use Rattle.dml_world.specs.Seen.{env, meter, around_of}
@@ -198,7 +199,7 @@ invariant-items::run_block-items g l =
     let asked = g.W.World.asked in
     let from = block_from (eval l.room) (around_of l.around g.W.World.reading g.W.World.calls) in
     record {
-      gives : from (items_seen (drop l.item-index l.items)) l.last g.W.World.answers (env l.live) (meter l.live.work (asked l.world)) ≡ from (items_seen l.items) undef g.W.World.answers (env l.fn.live) (meter l.fn.live.work (asked l.fn.world));
+      gives : ToldEnough g.W.World.answers (asked l.fn.world) (asked l.world) (λ told. from (items_seen (drop l.item-index l.items)) l.last told (env l.live) (meter l.live.work (asked l.world)) ≡ from (items_seen l.items) undef told (env l.fn.live) (meter l.fn.live.work (asked l.fn.world)));
       counted : l.steps + l.live.work.left ≡ l.fn.steps + l.fn.live.work.left;
     }
 
@@ -207,7 +208,7 @@ invariant-items::open_values-items g l =
     let asked = g.W.World.asked in
     let from = values_from (eval l.room) (around_of l.around g.W.World.reading g.W.World.calls) in
     record {
-      gives : from (items_seen (drop l.item-index l.items)) l.values.items g.W.World.answers (env l.live) (meter l.live.work (asked l.world)) ≡ from (items_seen l.items) [] g.W.World.answers (env l.fn.live) (meter l.fn.live.work (asked l.fn.world));
+      gives : ToldEnough g.W.World.answers (asked l.fn.world) (asked l.world) (λ told. from (items_seen (drop l.item-index l.items)) l.values.items told (env l.live) (meter l.live.work (asked l.world)) ≡ from (items_seen l.items) [] told (env l.fn.live) (meter l.fn.live.work (asked l.fn.world)));
       counted : l.steps + l.live.work.left ≡ l.fn.steps + l.fn.live.work.left;
     }
 
@@ -217,7 +218,7 @@ invariant-chains::run_chain-turns g l =
     let go = eval l.room in
     let a = around_of l.around g.W.World.reading g.W.World.calls in
     record {
-      gives : resumed go a g.W.World.answers l.waiting.items (turn_run go a l.turn g.W.World.answers (env l.live) (meter l.live.work (asked l.world))) ≡ chain_run go a l.fn.chain g.W.World.answers (env l.fn.live) (meter l.fn.live.work (asked l.fn.world));
+      gives : ToldEnough g.W.World.answers (asked l.fn.world) (asked l.world) (λ told. resumed go a told l.waiting.items (turn_run go a l.turn told (env l.live) (meter l.live.work (asked l.world))) ≡ chain_run go a l.fn.chain told (env l.fn.live) (meter l.fn.live.work (asked l.fn.world)));
       counted : l.steps + l.live.work.left ≡ l.fn.steps + l.fn.live.work.left;
     }
 
@@ -229,7 +230,7 @@ invariant-loops::run_while-turns g l =
     let asked = g.W.World.asked in
     let from = λ (n : ℕ). while_turns n (eval l.room) (around_of l.around g.W.World.reading g.W.World.calls) l.place (item_seen l.condition) (item_seen l.body) in
     record {
-      gives : from l.left l.last g.W.World.answers (env l.live) (meter l.live.work (asked l.world)) ≡ from l.around.frame.now.max_iteration undef g.W.World.answers (env l.fn.live) (meter l.fn.live.work (asked l.fn.world));
+      gives : ToldEnough g.W.World.answers (asked l.fn.world) (asked l.world) (λ told. from l.left l.last told (env l.live) (meter l.live.work (asked l.world)) ≡ from l.around.frame.now.max_iteration undef told (env l.fn.live) (meter l.fn.live.work (asked l.fn.world)));
       counted : l.steps + l.live.work.left ≡ l.fn.steps + l.fn.live.work.left;
     }
 
@@ -241,7 +242,7 @@ invariant-loops::turns_for-turns g l =
     let asked = g.W.World.asked in
     let from = λ (n : ℕ). for_turns n (eval l.room) (around_of l.around g.W.World.reading g.W.World.calls) l.place (item_seen l.condition) (item_seen l.step) (item_seen l.body) in
     record {
-      gives : from l.left l.last g.W.World.answers (env l.live) (meter l.live.work (asked l.world)) ≡ from l.around.frame.now.max_iteration undef g.W.World.answers (env l.fn.live) (meter l.fn.live.work (asked l.fn.world));
+      gives : ToldEnough g.W.World.answers (asked l.fn.world) (asked l.world) (λ told. from l.left l.last told (env l.live) (meter l.live.work (asked l.world)) ≡ from l.around.frame.now.max_iteration undef told (env l.fn.live) (meter l.fn.live.work (asked l.fn.world)));
       counted : l.steps + l.live.work.left ≡ l.fn.steps + l.fn.live.work.left;
     }
 
@@ -253,7 +254,7 @@ invariant-loops::walk-pairs g l =
     let asked = g.W.World.asked in
     let from = λ (n : ℕ). pair_turns n (eval l.room) (around_of l.around g.W.World.reading g.W.World.calls) l.place l.key l.value (item_seen l.body) in
     record {
-      gives : from (l.around.frame.now.max_iteration - l.i) (drop l.i (pairs_of l.walked)) l.last g.W.World.answers (env l.live) (meter l.live.work (asked l.world)) ≡ from l.around.frame.now.max_iteration (pairs_of l.walked) undef g.W.World.answers (env l.fn.live) (meter l.fn.live.work (asked l.fn.world));
+      gives : ToldEnough g.W.World.answers (asked l.fn.world) (asked l.world) (λ told. from (l.around.frame.now.max_iteration - l.i) (drop l.i (pairs_of l.walked)) l.last told (env l.live) (meter l.live.work (asked l.world)) ≡ from l.around.frame.now.max_iteration (pairs_of l.walked) undef told (env l.fn.live) (meter l.fn.live.work (asked l.fn.world)));
       counted : l.steps + l.live.work.left ≡ l.fn.steps + l.fn.live.work.left;
       within : l.i ≤ child_count l.walked;
     }
@@ -266,7 +267,7 @@ invariant-references::reach_from-indexes g l =
     let asked = g.W.World.asked in
     let from = reach_from l.all (eval l.room) (around_of l.around g.W.World.reading g.W.World.calls) l.place in
     record {
-      gives : from (indexes_back l.indexes.items none) l.keys.items l.value g.W.World.answers (env l.live) (meter l.live.work (asked l.world)) ≡ from (indexes_back l.fn.indexes.items none) [] l.fn.value g.W.World.answers (env l.fn.live) (meter l.fn.live.work (asked l.fn.world));
+      gives : ToldEnough g.W.World.answers (asked l.fn.world) (asked l.world) (λ told. from (indexes_back l.indexes.items none) l.keys.items l.value told (env l.live) (meter l.live.work (asked l.world)) ≡ from (indexes_back l.fn.indexes.items none) [] l.fn.value told (env l.fn.live) (meter l.fn.live.work (asked l.fn.world)));
       counted : l.steps + l.live.work.left ≡ l.fn.steps + l.fn.live.work.left;
     }
 
@@ -278,6 +279,6 @@ invariant-creating::run_statements-statements g l =
     let asked = g.W.World.asked in
     let from = statements_from (included l.around.includes_left (eval l.room)) (eval l.room) (around_of l.around g.W.World.reading g.W.World.calls) in
     record {
-      gives : from (map statement_seen (drop l.statement-index l.statements)) l.made g.W.World.answers (env l.live) (meter l.live.work (asked l.world)) ≡ from (map statement_seen l.statements) l.fn.made g.W.World.answers (env l.fn.live) (meter l.fn.live.work (asked l.fn.world));
+      gives : ToldEnough g.W.World.answers (asked l.fn.world) (asked l.world) (λ told. from (map statement_seen (drop l.statement-index l.statements)) l.made told (env l.live) (meter l.live.work (asked l.world)) ≡ from (map statement_seen l.statements) l.fn.made told (env l.fn.live) (meter l.fn.live.work (asked l.fn.world)));
       counted : l.steps + l.live.work.left ≡ l.fn.steps + l.fn.live.work.left;
     }

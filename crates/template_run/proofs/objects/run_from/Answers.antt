@@ -1,4 +1,5 @@
 use Rattle.std.proofs.Common.{arith}
+use Rattle.questions.specs.Told.{only}
 use Rattle.template_meaning.specs.Program.{no_program}
 use Rattle.template_meaning.proofs.Leaving.{object_leaves}
 use Rattle.dml_world.specs.Seen.{meter}
@@ -7,16 +8,16 @@ use Rattle.template_run.proofs.Stopping.{object_stops}
 use Rattle.template_run.proofs.objects.run_from.Goals as goal
 
 pub returns-in_err-place-clause-gives : goal.returns-in_err-place-clause-gives
-returns-in_err-place-clause-gives g c =
-    let leaves = object_leaves (site_of c.args.site.now g.W.World.reading g.W.World.calls) g.W.World.plain g.W.World.answers no_program (meter c.args.work.now (g.W.World.asked c.args.world.now)) in
+returns-in_err-place-clause-gives g c = λ keys.
+    let leaves = object_leaves (site_of c.args.site.now g.W.World.reading g.W.World.calls) g.W.World.plain (only keys g.W.World.answers) no_program (meter c.args.work.now (g.W.World.asked c.args.world.now)) in
     grind (arith, leaves)
 
 pub returns-in_err-share-clause-gives : goal.returns-in_err-share-clause-gives
-returns-in_err-share-clause-gives g c =
-    let leaves = object_leaves (site_of c.args.site.now g.W.World.reading g.W.World.calls) g.W.World.plain g.W.World.answers no_program (meter c.args.work.now (g.W.World.asked c.args.world.now)) in
+returns-in_err-share-clause-gives g c = λ keys.
+    let leaves = object_leaves (site_of c.args.site.now g.W.World.reading g.W.World.calls) g.W.World.plain (only keys g.W.World.answers) no_program (meter c.args.work.now (g.W.World.asked c.args.world.now)) in
     grind (arith, leaves)
 
 pub returns-in_err-template-clause-gives : goal.returns-in_err-template-clause-gives
-returns-in_err-template-clause-gives g c =
-    let stops = object_stops (site_of c.args.site.now g.W.World.reading g.W.World.calls) g.W.World.plain c.in_err-template.field-0.0 g.W.World.answers (meter c.args.work.now (g.W.World.asked c.args.world.now)) (meter c.find_named.new.work (g.W.World.asked c.find_named.new.world)) in
+returns-in_err-template-clause-gives g c = λ keys.
+    let stops = object_stops (site_of c.args.site.now g.W.World.reading g.W.World.calls) g.W.World.plain c.in_err-template.field-0.0 (only keys g.W.World.answers) (meter c.args.work.now (g.W.World.asked c.args.world.now)) (meter c.find_named.new.work (g.W.World.asked c.find_named.new.world)) in
     grind (arith, stops)

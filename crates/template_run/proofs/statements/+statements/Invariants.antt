@@ -1,5 +1,6 @@
 use Rattle.std.proofs.Common.{◌≡◌, ◌+◌, ◌-◌, ◌*◌, None, drop, map}
 use Rattle.pan_ast.specs.TemplatesSeen.{statement_seen}
+use Rattle.questions.specs.Told.{ToldEnough}
 use Rattle.dml_world.specs.Seen.{meter}
 use Rattle.template_meaning.specs.Statements.{included, statements_run}
 use Rattle.template_run.specs.Seen.{inside_of, program_of, site_of}
@@ -34,6 +35,6 @@ invariant-run_statements-statements g l =
     let site = site_of l.site g.W.World.reading g.W.World.calls in
     let from = statements_run (included l.inside.includes_left site) site (inside_of l.inside) in
     record {
-      gives : from l.prefix (map statement_seen (drop l.statement-index l.statements)) g.W.World.answers (program_of l.program) (meter l.work (asked l.world)) ≡ from None (map statement_seen l.statements) g.W.World.answers (program_of l.fn.program) (meter l.fn.work (asked l.fn.world));
+      gives : ToldEnough g.W.World.answers (asked l.fn.world) (asked l.world) (λ told. from l.prefix (map statement_seen (drop l.statement-index l.statements)) told (program_of l.program) (meter l.work (asked l.world)) ≡ from None (map statement_seen l.statements) told (program_of l.fn.program) (meter l.fn.work (asked l.fn.world)));
       counted : l.steps + l.work.left ≡ l.fn.steps + l.fn.work.left;
     }

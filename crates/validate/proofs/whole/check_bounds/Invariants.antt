@@ -1,4 +1,5 @@
 use Rattle.std.proofs.Common.{◌≡◌, ◌+◌, drop}
+use Rattle.questions.specs.Told.{ToldEnough}
 use Rattle.type_defs.specs.BindingsSeen.{bounds_seen}
 use Rattle.validate.specs.Checked.{bounds_run}
 use Rattle.validate.specs.Exits.{meter}
@@ -8,8 +9,7 @@ abbrev pub invariant-loop-bound : goal.invariant-loop-bound
 invariant-loop-bound g l =
     let run = bounds_run g.E.Evaluator.means l.root in
     let asked = g.E.Evaluator.asked in
-    let told = g.E.Evaluator.answers in
     record {
-      gives : run (bounds_seen (drop l.bound-index l.bounds)) told tt (meter l.work (asked l.evaluator)) ≡ run (bounds_seen l.bounds) told tt (meter l.fn.work (asked l.fn.evaluator));
+      gives : ToldEnough g.E.Evaluator.answers (asked l.fn.evaluator) (asked l.evaluator) (λ told. run (bounds_seen (drop l.bound-index l.bounds)) told tt (meter l.work (asked l.evaluator)) ≡ run (bounds_seen l.bounds) told tt (meter l.fn.work (asked l.fn.evaluator)));
       counted : l.steps + l.work.left ≡ l.fn.steps + l.fn.work.left;
     }

@@ -1,0 +1,15 @@
+use Rattle.std.proofs.Common.{arith}
+use Rattle.dml_meaning.specs.Meaning.{text_run}
+use Rattle.dml_world.proofs.Ends.{stops}
+use Rattle.dml_leaves.proofs.texts.file_contents.Goals as goal
+
+pub returns-in_err-found-clause-gives : goal.returns-in_err-found-clause-gives
+unfolding text_run
+returns-in_err-found-clause-gives g c = λ keys. let found = c.find_file.ensures.gives keys in grind (arith, stops, found)
+
+pub returns-clause-gives : goal.returns-clause-gives
+unfolding text_run
+returns-clause-gives g c = λ keys.
+    let found = c.find_file.ensures.gives keys in
+    let text = c.found_text.ensures keys in
+    grind (arith, found, text)
