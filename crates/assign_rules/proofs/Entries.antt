@@ -141,3 +141,12 @@ back_by x t l ls false is go = rw is (ap (λ ms. l ∷ ms) go)
 pub put_back : (x : List ℕ) (t : Plain) (ls : List Local) → with_local x t (emptied x ls) ≡ with_local x t ls
 put_back x t [] = refl
 put_back x t (l ∷ ls) = back_by x t l ls (bytes_eq l.name x) refl (put_back x t ls)
+
+stand_by : (x : List ℕ) (l : Local) (ls : List Local) (b : Bool) → (None ≡ found ls x → emptied x ls ≡ ls) → None ≡ (if b then Some l.value else found ls x) → (if b then with_value l undef ∷ ls else l ∷ emptied x ls) ≡ l ∷ ls
+stand_by x l ls true go e = absurd cc
+stand_by x l ls false go e = ap (λ ms. l ∷ ms) (go e)
+
+-- of a name without a value nothing is taken
+pub not_taken : (x : List ℕ) (ls : List Local) → None ≡ found ls x → emptied x ls ≡ ls
+not_taken x [] e = refl
+not_taken x (l ∷ ls) e = stand_by x l ls (bytes_eq l.name x) (not_taken x ls) e

@@ -215,8 +215,9 @@ pub fn extend_reached<W: World>(
     Ok(longer)
 }
 
-/// What is at indexes of SELF or of a local goes; without indexes the local does.
-#[tactic(auto, using(assign_rules::proofs::Entries::put_back))]
+/// What is at indexes of SELF or of a local goes; without indexes the local does. Of a name that is no
+/// local any more nothing goes.
+#[tactic(auto, using(assign_rules::proofs::Entries::put_back, assign_rules::proofs::Entries::not_taken))]
 fn delete_at(alloc: Global, name: &Text, keys: &[Tree], live: &mut Live) -> Result<(), AllocError>
     ensures gone { OnOk result (env live.new ≡ without_root name.now keys.now (env live.old)) }
     ensures left { live.new.work.left ≡ live.old.work.left }
@@ -228,7 +229,9 @@ fn delete_at(alloc: Global, name: &Text, keys: &[Tree], live: &mut Live) -> Resu
     if let Some(Automatic::OwnValue) = automatic_name(name.as_str()) {
         return delete_in(alloc, keys, &mut live.self_value);
     }
-    let mut root = or_undef(live.locals.take(name.as_str()));
+    let Some(mut root) = live.locals.take(name.as_str()) else {
+        return Ok(());
+    };
     delete_in(alloc, keys, &mut root)?;
     live.locals.set(name, root)
 }

@@ -604,10 +604,15 @@ exists_by go a p i (Some r) =
     go.reaches a ToRead (item_place i) r >>= (λ x. give (boolean (is_some x.value)))
 exists_by go a p i None = go.opens a i >>= on_text p (path_exists_run a p)
 
+-- without what is at the indexes of a name's value; of a name that has none nothing goes
+abbrev pub without_keys : List ℕ → List Plain → Option Plain → Env → Env
+without_keys x ks None e = e
+without_keys x ks (Some t) e = with_root x (deleted ks t) e
+
 -- without what was reached
 abbrev pub without_root : List ℕ → List Plain → Env → Env
 without_root x [] e = record e { locals = without_local x e.locals }
-without_root x (k ∷ ks) e = with_root x (deleted (k ∷ ks) (unwrap_or (root_of e x) undef)) e
+without_root x (k ∷ ks) e = without_keys x (k ∷ ks) (root_of e x) e
 
 abbrev pub delete_reached : List ℕ → Reached → Run Plain
 delete_reached x r = do

@@ -1,6 +1,7 @@
 ghost use Rattle.std.specs.Prelude.{◌≡◌, ◌<◌, ◌++◌, ◌∷◌, [], OnOk, OnErr, Some, true, false, length, map, slice_get};
 ghost use Rattle.questions.specs.Contents.{is_among};
 ghost use Rattle.read_sets.specs.Items.{key_of, keys_in, are_once};
+ghost use Rattle.read_sets.specs.Places.{object_places};
 
 use questions::Key;
 use std::alloc::{AllocError, Global};
@@ -13,22 +14,26 @@ pub struct Item {
     pub number: u64,
 }
 
-/// The keys that a run asked for, in order, each once, with their numbers. Contracts see the list.
+/// The keys that a run asked for, in order, each once, with their numbers. Contracts see the list. The
+/// places of the items that ask for objects are kept beside them.
 #[derive(Debug, Drop)]
 pub struct Trace {
     items: Vec<Item>,
+    places: Vec<usize>,
 }
 
 impl Model for Trace {
     ghost use Rattle.std.specs.Prelude.{◌≡◌, List, true};
     ghost use Rattle.read_sets.specs.declared.trace.Item.{Item};
     ghost use Rattle.read_sets.specs.Items.{keys_in, are_once};
+    ghost use Rattle.read_sets.specs.Places.{object_places};
 
     ghost Value = { List Item };
 
     ghost view = { λ t. t.items.items };
 
-    ghost invariant = { λ t. are_once (keys_in t.items.items) ≡ true };
+    ghost invariant = { λ t. (are_once (keys_in t.items.items) ≡ true)
+        × (t.places.items ≡ object_places 0 t.items.items) };
 }
 
 #[tactic(auto, using(crate::proofs::Once::among_more))]
@@ -50,6 +55,7 @@ impl Trace {
     {
         Trace {
             items: Vec::new(alloc),
+            places: Vec::new(alloc),
         }
     }
 
@@ -61,13 +67,20 @@ impl Trace {
     }
 
     /// Adds an item with a new key at the end.
-    #[tactic(auto, using(crate::proofs::Once::once_push))]
+    #[tactic(auto, using(crate::proofs::Once::once_push, crate::proofs::Places::places_file, crate::proofs::Places::places_object))]
     pub fn push(&mut self, item: Item) -> Result<(), AllocError>
         requires new { is_among item.key (keys_in self.old) ≡ false }
         ensures ok { OnOk result (self.new ≡ self.old ++ item ∷ []) }
         ensures before { OnErr result (self.new ≡ self.old) }
     {
+        let place = self.items.len();
+        let Some(_) = item.key.object() else {
+            self.items.push(item)?;
+            return Ok(());
+        };
+        self.places.reserve(1)?;
         self.items.push(item)?;
+        self.places.push(place).unwrap();
         Ok(())
     }
 
@@ -79,12 +92,22 @@ impl Trace {
         &self.items
     }
 
+    /// The places of the items that ask for objects, in order.
+    pub(crate) fn places(&self) -> &[usize]
+        ensures { result.now ≡ object_places 0 self.now }
+    {
+        &self.places
+    }
+
     /// The key of the item at a place, of a trace that is done with.
     pub fn into_key(self, at: usize) -> Key
         requires { at < length self }
         ensures { slice_get (map key_of self) at ≡ Some result }
     {
-        let Trace { mut items } = self;
+        let Trace {
+            mut items,
+            places: _places,
+        } = self;
         items.swap_remove(at).key
     }
 }
