@@ -1,6 +1,7 @@
-ghost use Rattle.std.specs.Prelude.{◌≡◌, ◌≤◌, ◌++◌, ◌∷◌, [], IfOk, IfErr, OnOk, IsErrAnd, IfSome, MatchOption, Some, None, Ok, Err, true, false, string_bytes, codes, length, IsTrue, ◌↔◌};
+ghost use Rattle.std.specs.Prelude.{◌≡◌, ◌≤◌, ◌<◌, ◌+◌, ◌++◌, ◌∷◌, [], IfOk, IfErr, OnOk, IsErrAnd, IfSome, MatchOption, Some, None, Ok, Err, true, false, string_bytes, codes, length, IsTrue, ◌↔◌};
 ghost use Rattle.std.specs.Path.{PathStartsWith};
 ghost use Rattle.base.specs.declared.limits.TheConstants.{MAX_FILE_BYTES};
+ghost use Rattle.outside.specs.declared.folder.TheConstants.{MOST_HIDDEN};
 ghost use Rattle.outside.specs.Pictures.{got_of, read_of};
 ghost use Rattle.std.specs.IoError.{error_kind};
 ghost use Rattle.outside.specs.Absent.{says_absent};
@@ -212,8 +213,7 @@ pub(crate) fn read_file<R: Files + AllocGlobal>(
 /// The folders are made where they are missing. After a failure the hidden file is removed.
 pub(crate) fn put_file<R: Files + AllocGlobal>(rt: &R, path: &str, bytes: &[u8]) -> io::Result<()> {
     let (folder, name) = path.rsplit_once('/').unwrap_or((".", path));
-    let hidden = hidden_beside(rt.alloc(), folder, name)?;
-    let file = create_file(rt, folder, hidden.as_str())?;
+    let Hidden { file, path: hidden } = hidden_file(rt, folder, name)?;
     let put = write_and_rename(rt, file, hidden.as_str(), path, bytes);
     if put.is_err() {
         let _ = fs::remove_file(rt, hidden.as_str());
@@ -221,22 +221,57 @@ pub(crate) fn put_file<R: Files + AllocGlobal>(rt: &R, path: &str, bytes: &[u8])
     put
 }
 
-fn hidden_beside(alloc: Global, folder: &str, name: &str) -> Result<String, AllocError>
+/// A file that was made beside another one, and its path.
+#[derive(Drop)]
+struct Hidden<F: Drop> {
+    file: F,
+    path: String,
+}
+
+/// The most hidden files that are left alone beside one file.
+const MOST_HIDDEN: u8 = 10;
+
+/// Makes an empty file beside `name`, `.NAME.N.new` with the first digit N under which none is: so it is this call's
+/// alone, and one that another process writes is left alone. Where all ten are there, as only killed processes leave
+/// them, the first one is used again.
+fn hidden_file<R: Files + AllocGlobal>(
+    rt: &R,
+    folder: &str,
+    name: &str,
+) -> io::Result<Hidden<R::File>> {
+    for number in 0..MOST_HIDDEN {
+        let path = hidden_beside(rt.alloc(), folder, name, number)?;
+        match new_file(rt, folder, path.as_str()) {
+            Ok(file) => return Ok(Hidden { file, path }),
+            Err(error) if error.kind() == ErrorKind::AlreadyExists => {}
+            Err(error) => return Err(error),
+        }
+    }
+    let path = hidden_beside(rt.alloc(), folder, name, 0)?;
+    let file = File::create(rt, path.as_str())?;
+    Ok(Hidden { file, path })
+}
+
+fn hidden_beside(alloc: Global, folder: &str, name: &str, number: u8) -> Result<String, AllocError>
+    requires { number < MOST_HIDDEN }
     ensures { IfOk result (λ hidden. string_bytes hidden ≡ folder.now ++ codes "/." ++ name.now
-        ++ codes ".new") }
+        ++ codes "." ++ (48 + number) ∷ [] ++ codes ".new") }
 {
     let mut hidden = path_below(alloc, folder, ".")?;
     hidden.push_str(name)?;
+    hidden.push('.')?;
+    hidden.push(char::from(b'0' + number))?;
     hidden.push_str(".new")?;
     Ok(hidden)
 }
 
-fn create_file<R: Files>(rt: &R, folder: &str, path: &str) -> io::Result<R::File> {
-    match unless_absent(File::create(rt, path))? {
+/// Makes a file that is not there yet, and its folders where they are missing.
+fn new_file<R: Files>(rt: &R, folder: &str, path: &str) -> io::Result<R::File> {
+    match unless_absent(File::create_new(rt, path))? {
         Some(file) => Ok(file),
         None => {
             fs::create_dir_all(rt, folder)?;
-            File::create(rt, path)
+            File::create_new(rt, path)
         }
     }
 }
