@@ -1,123 +1,66 @@
 #!/usr/bin/env bash
-# Builds the program where it is missing or old, and passes the words on: ./pan build SOURCE OUT
+# The front door: finds the program, tells what a reader wants to know besides its text, and runs it.
 set -eu
-top=$(cd "$(dirname "$0")" && pwd)
-program=$top/crates/pan/out/pan
-times=$top/crates/pan/out/times
+here=$(dirname "$(readlink -f "$0")")
+# In the repository the helpers stand in contrib; contrib/install puts them into libexec/pan beside bin.
+tools=$here/contrib
+[ -d "$tools" ] || tools=$(dirname "$here")/libexec/pan
 
 help() {
   cat <<'HELP'
 pan compiles templates of the Pan language into one JSON profile for each machine.
 
-  ./pan build SOURCE OUT [options]    compiles each object template below SOURCE into OUT, and tells faults
-  ./pan watch SOURCE OUT [options]    the same, asked by lines on standard input (scan, build, why NAME, ..)
-  ./pan demo COUNT START [options]    builds machines that are made up, in memory
-      --include LIST                  folders below SOURCE where templates are looked for, joined by `:` (.)
-      --max-iteration N               turns of one loop, 1 to 1,000,000 (10,000)
-      --max-recursion N               calls of functions that are open at once, 1 to 200 (50)
+  pan build SOURCE OUT [options]    compiles each object template below SOURCE into OUT, and tells faults
+  pan watch SOURCE OUT [options]    the same, asked by lines on standard input (scan, build, why NAME, ..)
+  pan demo COUNT START [options]    builds machines that are made up, in memory
+      --include LIST                folders below SOURCE where templates are looked for, joined by `:` (.)
+      --max-iteration N             turns of one loop, 1 to 1,000,000 (10,000)
+      --max-recursion N             calls of functions that are open at once, 1 to 200 (50)
+      --most-removed N              changes nothing where more than N files of OUT would go, 0 to 20,000
 
 pan manages every .json and .dep file below OUT: give it a folder of its own. Its status is 0 where each object
 has a profile, 1 where one has a fault, and more where something failed.
 
-These are the script's own, and stand first:
+These are the script's own:
 
-  ./pan --try WORDS                   compiles the program without any proof, in a minute or two each time, and runs it
-                                      slowly (a watcher's lines then come from a file: < FILE)
-  ./pan --build-only                  proves and builds the program, and runs nothing
-  ./pan --version                     the kit that it is proved with
-  ./pan --help                        this text
+  pan --quiet WORDS                 leaves out the notes on standard error
+  pan --version                     the version, the kit that proved it, and its checksum
+  pan --help                        this text
 
-Without them the program is proved and built where it is missing or old; the first time that takes long.
+PAN_NOTES=changes adds a line for each profile that a build changed, PAN_NOTES=off leaves notes out.
+HELP
+  if [ -d "$here/crates" ]; then
+    cat <<'HELP'
+
+In the repository, where the program comes with it below dist:
+
+  ./pan --prove                     proves this repository's sources and builds the program from them (wants `rt`)
+  ./pan --release                   the same, and writes it to dist
+  ./pan --try WORDS                 compiles these sources without any proof, in some minutes each time, and runs them
+                                    slowly (a watcher's lines then come from a file: < FILE)
 
   ./pan build examples/site profiles
-  ./pan --try build examples/site profiles
-  contrib/pan-watch site profiles     builds again whenever a file of site changes
+  contrib/pan-watch site profiles   builds again whenever a file of site changes
+HELP
+  fi
+  cat <<'HELP'
 
-docs/COMMANDS.md (man -l docs/pan.1) says the rest, docs/FAULTS.md what a fault means and what to do.
+The manual (man pan, docs/COMMANDS.md) says the rest, docs/FAULTS.md what a fault means and what to do.
 HELP
 }
 
 say() { echo "pan: $*" >&2; }
 
-need_rt() {
-  command -v rt >/dev/null && return
-  say "the command rt of the Rattle kit is not on the path: it proves and builds the program"
-  exit 1
+version() {
+  local program version
+  program=$("$tools/pan-program")
+  version=$("$tools/pan-program" --of version)
+  echo "pan ${version:-$program}"
+  echo "proved with $("$tools/pan-program" --of kit)"
+  echo "sha256 $(sha256sum "$program" | cut -d' ' -f1)"
 }
 
-stale() {
-  [ ! -x "$program" ] || [ -n "$(find "$top"/crates/*/src "$top"/crates/*/specs "$top/crates.txt" -newer "$program" -print -quit)" ]
-}
-
-# The libraries that the program stands on, the lowest first, by crates.txt.
-libraries() {
-  awk -F: '
-    /^[a-z]/ { sub(/ .*/, "", $1); uses[$1] = $2 }
-    function put(name,   parts, count, i) {
-      if (!(name in uses) || name in done) return
-      done[name] = 1
-      count = split(uses[name], parts, " ")
-      for (i = 1; i <= count; i++) put(parts[i])
-      if (name != "pan") print name
-    }
-    END { put("pan") }' "$top/crates.txt"
-}
-
-# The minutes that the libraries from a place on took the last time; nothing where that is not known.
-minutes_left() {
-  [ -f "$times" ] || return 0
-  awk -v from="$1" '
-    FNR == NR { took[$1] = $2; next }
-    FNR >= from { if (!($1 in took)) unknown = 1; sum += took[$1] }
-    END { if (!unknown && sum > 0) printf ", about %d minutes left", sum / 60 + 1 }' "$times" <(libraries)
-}
-
-# Each library is proved before it is built; what was proved before is kept.
-build() {
-  local log count=0 whole name start
-  log=$(mktemp)
-  trap 'rm -f "$log" "$log.times"' EXIT
-  whole=$(libraries | wc -l)
-  say "building the program; each crate is proved first, which takes long the first time"
-  for name in $(libraries); do
-    count=$((count + 1))
-    say "$count of $whole, $name$(minutes_left "$count")"
-    start=$SECONDS
-    (cd "$top/crates/$name" && rt lib >"$log" 2>&1) || { cat "$log" >&2; exit 1; }
-    echo "$name $((SECONDS - start))" >>"$log.times"
-  done
-  # `rt run` links the program and runs it: without words that is a usage fault, and its text is not needed.
-  (cd "$top/crates/pan" && rt run >"$log" 2>&1) || true
-  [ -x "$program" ] || { cat "$log" >&2; exit 1; }
-  touch "$program"
-  # Times of a build over kept work say nothing of the next one from nothing.
-  [ -f "$times" ] || mv "$log.times" "$times"
-  rm -f "$log" "$log.times"
-  trap - EXIT
-}
-
-# The program's folders as absolute paths: it is tried in a folder of its own. A source that is missing is told before
-# the program is compiled.
-try() {
-  local words=("$@") place
-  case ${1:-} in build | watch)
-    case ${2:-} in
-      '' | -*) ;;
-      *) if [ ! -d "$2" ]; then echo "source fault"; say "$2 is no folder"; exit 3; fi ;;
-    esac ;;
-  esac
-  if [ "${1:-}" != demo ]; then
-    for place in 1 2; do
-      case ${words[place]:-} in '' | -* | /*) ;; *) words[place]=$PWD/${words[place]} ;; esac
-    done
-  fi
-  say "this run is not proved: ./pan --build-only proves and builds the program"
-  say "compiling it without proofs takes a minute or two; what it writes is shown when it has ended"
-  cd "$top/crates/pan"
-  exec rt try pan --seconds 600 -- "${words[@]}"
-}
-
-# Words without a mode are told before anything is proved.
+# Words without a mode are told before the program is looked for.
 has_mode() {
   local word
   for word in "$@"; do
@@ -126,12 +69,124 @@ has_mode() {
   return 1
 }
 
+# What the words name, as the program reads them where they are a command: `mode`, `source`, `out` and `include`.
+mode='' source='' out='' include=''
+read_words() {
+  local word value_of='' places=()
+  for word in "$@"; do
+    if [ -n "$value_of" ]; then
+      [ "$value_of" != --include ] || include=$word
+      value_of=''
+      continue
+    fi
+    case $word in
+      --include=*) include=${word#--include=} ;;
+      --*=*) ;;
+      --include | --max-iteration | --max-recursion | --most-removed) value_of=$word ;;
+      --) ;;
+      *) places+=("$word") ;;
+    esac
+  done
+  mode=${places[0]:-} source=${places[1]:-} out=${places[2]:-}
+}
+
+# Makes the folder of the profiles, so that it can be locked; gives the first part of its path that was not there.
+make_out() {
+  local missing=$out above
+  [ -d "$out" ] && return
+  while above=$(dirname -- "$missing") && [ ! -e "$above" ] && [ "$above" != "$missing" ]; do missing=$above; done
+  mkdir -p -- "$out" 2>/dev/null && echo "$missing"
+}
+
+# A folder that was made for nothing goes again, up to this part of its path.
+unmake_out() {
+  local empty=$out
+  while rmdir -- "$empty" 2>/dev/null && [ "$empty" != "$1" ]; do empty=$(dirname -- "$empty"); done
+}
+
+# One program at a time works on a folder of profiles: another one waits until this one ends.
+lock_out() {
+  command -v flock >/dev/null && [ -d "$out" ] && [ -r "$out" ] || return 0
+  exec 9<"$out"
+  flock --nonblock 9 && return
+  say "another pan works on $out$(holder_of "$out"): waiting for it"
+  flock 9
+}
+
+# The process that holds the lock of a folder, where the system tells.
+holder_of() {
+  local node
+  node=$(stat -c '%i' -- "$1" 2>/dev/null) || return 0
+  awk -v node="$node" '$2 == "FLOCK" && $6 ~ ":" node "$" && $5 > 0 { print " (process " $5 ")"; exit }' /proc/locks 2>/dev/null
+}
+
+# The profiles below OUT: path, and what is another one for each file that was put.
+profiles() { find "$out" -type f -name '*.json' -printf '%P\t%i %T@\n' 2>/dev/null | LC_ALL=C sort || true; }
+
+# A build as a child: its text is written when it has ended, and then the notes.
+build() {
+  local program=$1 room status=0 made start
+  shift
+  room=$(mktemp -d)
+  trap 'rm -rf "$room"' EXIT
+  made=$(make_out)
+  lock_out
+  profiles >"$room/before"
+  "$tools/pan-notes" out "$out"
+  "$tools/pan-notes" source "$source" "${include:-.}" >"$room/notes" 2>&1 9<&- &
+  start=${EPOCHREALTIME/./}
+  "$program" "$@" >"$room/text" || status=$?
+  [ -s "$room/text" ] && { cat "$room/text" || [ "$status" -gt 1 ] || status=7; }
+  if [ "$status" -eq 2 ] || [ "$status" -eq 3 ]; then
+    [ -z "$made" ] || unmake_out "$made"
+    wait
+    exit "$status"
+  fi
+  wait
+  cat "$room/notes" >&2
+  profiles >"$room/after"
+  "$tools/pan-notes" summary "$room/text" "$room/before" "$room/after" $((${EPOCHREALTIME/./} - start))
+  exit "$status"
+}
+
+# Watching: the notes come first, and the lock is held for as long as it runs.
+watch() {
+  local program=$1
+  shift
+  make_out >/dev/null
+  lock_out
+  "$tools/pan-notes" out "$out"
+  "$tools/pan-notes" source "$source" "${include:-.}"
+  exec "$program" "$@"
+}
+
+# --quiet stands anywhere before `--`.
+words=() is_quiet=''
+while [ $# -gt 0 ]; do
+  case $1 in
+    --quiet) is_quiet=1 ;;
+    --) words+=("$@"); break ;;
+    *) words+=("$1") ;;
+  esac
+  shift
+done
+set -- ${words[@]+"${words[@]}"}
+if [ -n "$is_quiet" ]; then export PAN_NOTES=off; fi
+
 case ${1:-} in
   --help) help; exit 0 ;;
-  --version) need_rt; echo "pan, proved with $(rt version)"; exit 0 ;;
+  --version) version; exit 0 ;;
+  --prove | --release | --try) exec "$tools/pan-prove" "$@" ;;
 esac
-if [ "${1:-}" != "--build-only" ] && ! has_mode "$@"; then echo "usage fault"; help >&2; exit 2; fi
-if [ "${1:-}" = "--try" ]; then need_rt; shift; try "$@"; fi
-if stale; then need_rt; build; fi
-if [ "${1:-}" = "--build-only" ]; then exit 0; fi
-exec "$program" "$@"
+if ! has_mode "$@"; then echo "usage fault"; help >&2; exit 2; fi
+program=$("$tools/pan-program")
+read_words "$@"
+if [ "${PAN_NOTES:-}" = off ] || [ -z "$out" ]; then
+  case $mode in build | watch) [ -z "$out" ] || { make_out >/dev/null; lock_out; } ;; esac
+  exec "$program" "$@"
+fi
+case $mode in
+  build) build "$program" "$@" ;;
+  watch) watch "$program" "$@" ;;
+  *) exec "$program" "$@" ;;
+esac

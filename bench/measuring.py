@@ -5,7 +5,10 @@ import sys
 from pathlib import Path
 
 TOP = Path(__file__).resolve().parent.parent
-PAN = os.environ.get("PAN", str(TOP / "crates/pan/out/pan"))
+sys.path.insert(0, str(TOP / "tests"))
+from program import PROGRAM  # noqa: E402
+
+PAN = str(PROGRAM)
 RUNS = 3
 
 

@@ -7,7 +7,7 @@
 - contrib/pre-commit in a git repository of its own: what is added is compiled, and not what lies in the folder.
 - contrib/pan-watch.service reads, where systemd is here.
 
-The program is the one that the variable PAN names, else crates/pan/out/pan.
+The program is the one that the variable PAN names, else the one that contrib/pan-program finds.
 """
 import os
 import re
@@ -19,9 +19,10 @@ import tempfile
 import threading
 from pathlib import Path
 
+from program import PROGRAM
+
 TOP = Path(__file__).resolve().parent.parent
 CONTRIB = TOP / "contrib"
-PROGRAM = Path(os.environ.get("PAN", TOP / "crates" / "pan" / "out" / "pan")).resolve()
 SECONDS = 120
 
 
@@ -187,9 +188,6 @@ def unit(folder):
 
 
 def main():
-    if not PROGRAM.is_file():
-        print(f"no program at {PROGRAM}: build it, or name it in the variable PAN")
-        return 2
     passed = failed = 0
     for part in (watching, every_few_seconds, committing, unit):
         with tempfile.TemporaryDirectory() as room:

@@ -9,7 +9,7 @@
 - What README.md shows, the program does. The examples of the other documents are run by tests/run.
 - Each folder of examples/ is run by a row.
 
-The program is the one that the variable PAN names, else crates/pan/out/pan.
+The program is the one that the variable PAN names, else the one that contrib/pan-program finds.
 """
 import os
 import re
@@ -19,9 +19,10 @@ import sys
 import tempfile
 from pathlib import Path
 
+from program import PROGRAM
+
 TOP = Path(__file__).resolve().parent.parent
 DOCS = TOP / "docs"
-PROGRAM = Path(os.environ.get("PAN", TOP / "crates" / "pan" / "out" / "pan")).resolve()
 # A code that no fault has any more.
 OLD_CODES = {"F99"}
 
@@ -110,9 +111,6 @@ def examples():
 
 
 def main():
-    if not PROGRAM.is_file():
-        print(f"no program at {PROGRAM}: build it, or name it in the variable PAN")
-        return 2
     passed = failed = 0
     for part in (man_page, links, codes, options, readme, examples):
         for name, is_well in part():

@@ -10,7 +10,8 @@
   hold what a build from scratch makes of the same source, and the faults have to be the same; an object is compiled
   only where the dependency file of its last build names something that has changed.
 
-The seeds are the numbers of the histories. The program is the one that the variable PAN names, else crates/pan/out/pan.
+The seeds are the numbers of the histories. The program is the one that the variable PAN names, else the one that
+contrib/pan-program finds.
 """
 import os
 import random
@@ -21,8 +22,9 @@ import tempfile
 import time
 from pathlib import Path
 
+from program import PROGRAM
+
 TOP = Path(__file__).resolve().parent.parent
-PROGRAM = Path(os.environ.get("PAN", TOP / "crates" / "pan" / "out" / "pan")).resolve()
 OBJECTS = 400
 ITEMS = 40_000
 MOST_SECONDS = 5
@@ -212,9 +214,6 @@ def history(number):
 
 
 def main(words):
-    if not PROGRAM.is_file():
-        print(f"no program at {PROGRAM}: build it, or name it in the variable PAN")
-        return 2
     passed = failed = 0
     for part in (chain_star_and_circle, many_defaults, answers_before_it_asks):
         with tempfile.TemporaryDirectory() as room:

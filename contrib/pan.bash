@@ -1,0 +1,22 @@
+# Completion of the words of `pan` for bash. Source it, or put it into the folder of completions under the name `pan`.
+
+_pan() {
+  local word=${COMP_WORDS[COMP_CWORD]} before=${COMP_WORDS[COMP_CWORD - 1]}
+  local options='--include --max-iteration --max-recursion --most-removed --quiet'
+  COMPREPLY=()
+  case $before in
+    --max-iteration | --max-recursion | --most-removed) return ;;
+    --include) mapfile -t COMPREPLY < <(compgen -d -- "$word"); return ;;
+  esac
+  if [[ $word == -* ]]; then
+    if [ "$COMP_CWORD" -eq 1 ]; then options+=' --help --version --prove --release --try'; fi
+    mapfile -t COMPREPLY < <(compgen -W "$options" -- "$word")
+  elif [[ $COMP_CWORD -eq 1 || ( $COMP_CWORD -eq 2 && $before == -* ) ]]; then
+    mapfile -t COMPREPLY < <(compgen -W 'build watch demo' -- "$word")
+  else
+    mapfile -t COMPREPLY < <(compgen -d -- "$word")
+    compopt -o filenames 2>/dev/null
+  fi
+}
+
+complete -F _pan pan ./pan

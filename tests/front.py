@@ -1,0 +1,262 @@
+#!/usr/bin/env python3
+"""Tries the script `./pan`, what it finds and tells, and contrib/install; ends with `N passed, M failed`.
+
+    tests/front.py
+
+- Words, `--help` and `--version`; how the program is found, where sources are others or none comes with them.
+- The notes on standard error: slips in SOURCE, files of others in OUT, and the line behind a build.
+- Accidents that would take every profile away: with --most-removed the files are still there, and a note says why.
+- One program at a time works on a folder of profiles.
+- What contrib/install puts below a folder runs there, with nothing of the repository.
+
+The program is the one that the variable PAN names, else the one that contrib/pan-program finds.
+"""
+import fcntl
+import os
+import re
+import shutil
+import subprocess
+import sys
+import tempfile
+import threading
+from pathlib import Path
+
+from program import PROGRAM
+
+TOP = Path(__file__).resolve().parent.parent
+SECONDS = 120
+SITE = TOP / "examples" / "site"
+SUMMARY = re.compile(
+    r"(\d+) machines?, (\d+) profiles?, (\d+) faults?; (\d+) changed, (\d+) new, (\d+) gone; \d+\.\d s"
+)
+
+
+class Ended:
+    def __init__(self, ended):
+        self.status, self.text, self.notes = ended.returncode, ended.stdout, ended.stderr
+
+    def summary(self):
+        """The numbers of the line behind a build; none where it was not written."""
+        found = [SUMMARY.fullmatch(line) for line in self.notes.splitlines()]
+        return next(([int(number) for number in match.groups()] for match in found if match), [])
+
+    def warns(self, *words):
+        return any(
+            line.startswith("warning: ") and all(word in line for word in words) for line in self.notes.splitlines()
+        )
+
+
+def pan(folder, *words, script=TOP / "pan", **variables):
+    surroundings = {**os.environ, "PAN": str(PROGRAM), "PAN_NOTES": "", **variables}
+    for name in [name for name, value in surroundings.items() if value is None]:
+        del surroundings[name]
+    return Ended(
+        subprocess.run(
+            [script, *words], cwd=folder, env=surroundings, capture_output=True, text=True, timeout=SECONDS
+        )
+    )
+
+
+def write(folder, name, text):
+    path = folder / name
+    path.parent.mkdir(parents=True, exist_ok=True)
+    path.write_text(text)
+
+
+def machines(folder, count):
+    for number in range(1, count + 1):
+        write(folder, f"site/web{number}.pan", f"object template web{number};\ninclude 'common/base';\n")
+    write(folder, "site/common/base.pan", "template common/base;\n'/port' = 80;\n")
+
+
+def profiles(folder):
+    return sorted(path.name for path in (folder / "out").glob("*.json"))
+
+
+def words(folder):
+    ended = pan(folder, "--help")
+    yield "--help", ended.status == 0 and ended.text.startswith("pan compiles templates") and not ended.notes
+    ended = pan(folder, "--version")
+    lines = ended.text.splitlines()
+    yield "--version", ended.status == 0 and lines[0].startswith("pan ") and re.fullmatch("sha256 [0-9a-f]{64}", lines[-1])
+    ended = pan(folder, "compile", "site", "out", PAN=None, PATH="/usr/bin:/bin")
+    yield "words that are none", (ended.status, ended.text) == (2, "usage fault\n")
+    ended = pan(folder, "build", "site")
+    yield "a word that is missing", (ended.status, ended.text) == (2, "usage fault\n") and "OUT is missing" in ended.notes
+    ended = pan(folder, "build", "site", "new/out", "--max-iteration", "0")
+    yield "words that are wrong make no folder", ended.status == 2 and not (folder / "new").exists()
+    ended = pan(folder, "build", "nowhere", "new/out")
+    yield "a source that is missing makes no folder", (ended.status, ended.text) == (3, "source fault\n") and not (
+        folder / "new"
+    ).exists()
+    ended = pan(folder, "demo", "3", "1")
+    yield "a demo", ended.status == 0 and ended.text.count("objects 3 ") == 4
+
+
+def repository(folder, program):
+    """A small repository with the scripts, whose sources are one line, and a program below dist."""
+    shutil.copytree(TOP / "contrib", folder / "contrib")
+    shutil.copy(TOP / "pan", folder / "pan")
+    write(folder, "crates.txt", "base:\npan: base\nother: base\n")
+    for crate in ("base", "pan", "other"):
+        write(folder, f"crates/{crate}/src/lib.rt", f"// {crate}\n")
+    place = folder / "dist" / f"{os.uname().machine}-linux"
+    place.mkdir(parents=True)
+    shutil.copy(program, place / "pan")
+    sources = subprocess.run([folder / "contrib/pan-program", "--sources"], capture_output=True, text=True).stdout
+    digest = subprocess.run(["sha256sum", place / "pan"], capture_output=True, text=True).stdout[:64]
+    write(place, "pan.of", f"version 9.9.9\nkit a kit\nsources {sources}program {digest}\nglibc 2.1\ndate 2000-01-01\n")
+    return place / "pan"
+
+
+def found(folder):
+    """How the program is found, on a machine without the kit."""
+    shipped = repository(folder, PROGRAM)
+    machines(folder, 1)
+    without_kit = {"script": folder / "pan", "PAN": None, "PATH": "/usr/bin:/bin"}
+    ended = pan(folder, "build", "site", "out", **without_kit)
+    yield "the program that comes with a clone", ended.status == 0 and profiles(folder) == ["web1.json"]
+    ended = pan(folder, "--version", **without_kit)
+    yield "its version", ended.text.splitlines()[:2] == ["pan 9.9.9", "proved with a kit"]
+    write(folder, "crates/other/src/lib.rt", "// a change of what the program is not made of\n")
+    os.utime(folder / "crates/base/src/lib.rt")
+    yield "times and other crates do not count", pan(folder, "build", "site", "out", **without_kit).status == 0
+    write(folder, "crates/base/src/lib.rt", "// a change\n")
+    ended = pan(folder, "build", "site", "out", **without_kit)
+    yield "sources that are others", ended.status == 127 and "of other sources" in ended.notes and not ended.text
+    ended = pan(folder, "--prove", **without_kit)
+    yield "no kit to prove with", ended.status == 127 and "rt" in ended.notes
+    write(folder, "crates/base/src/lib.rt", "// base\n")
+    with shipped.open("ab") as file:
+        file.write(b"x")
+    ended = pan(folder, "build", "site", "out", **without_kit)
+    yield "a program that is not whole", ended.status == 127 and "not as it was recorded" in ended.notes
+    shipped.unlink()
+    ended = pan(folder, "build", "site", "out", **without_kit)
+    yield "no program", ended.status == 127 and "no program for" in ended.notes
+
+
+def notes(folder):
+    machines(folder, 4)
+    ended = pan(folder, "build", "site", "out")
+    yield "the line behind a build", ended.summary() == [4, 4, 0, 0, 4, 0]
+    write(folder, "site/web2.pan", "object template web2;\n'/port' = 81;\n")
+    write(folder, "site/web5.pan", "object template web5;\n'/port' = 'a;\n")
+    (folder / "site/web4.pan").unlink()
+    ended = pan(folder, "build", "site", "out", PAN_NOTES="changes")
+    yield "what a build changed", ended.summary() == [4, 3, 1, 1, 0, 1]
+    yield "each of it", "changed web2\ngone web4\n" in ended.notes and "web1" not in ended.notes
+    yield "the faults in words", "error F03" in ended.notes
+    ended = pan(folder, "build", "site", "out", "--quiet")
+    yield "--quiet", ended.status == 1 and not ended.notes and ended.text.endswith("objects 4 ok 3 faults 1 run 4\n")
+    write(folder, "site/web5.pan", "")
+    write(folder, "site/web6.pan", "\ufeffobject template web6;\n")
+    write(folder, "site/web7.pan", "# a remark\n\nobjct template web7;\n")
+    write(folder, "site/web8.tpl", "object template web8;\n")
+    write(folder, "site/.hidden/web9.pan", "")
+    ended = pan(folder, "build", "site", "out", "--include", ".:common:typo")
+    yield "a folder that is not there", ended.warns("no folder typo below site")
+    yield "an empty template", ended.warns("empty", ": 1 (web5.pan)")
+    yield "a byte order mark", ended.warns("byte order mark", ": 1 (web6.pan)")
+    yield "nearly an object", ended.warns("nearly `object`", ": 1 (web7.pan (objct))")
+    yield "another suffix", ended.warns(".tpl", ": 1 (web8.tpl)")
+    write(folder, "none/base.pan", "template base;\n")
+    yield "no object", pan(folder, "build", "none", "other").warns("no file below SOURCE is an object template")
+    write(folder, "out/package.json", "{}\n")
+    write(folder, "out/.vscode/settings.json", "{}\n")
+    ended = pan(folder, "build", "site", "out", "--most-removed", "0")
+    yield "files of others", ended.warns("out holds .json files", "2 (.vscode/settings.json, package.json)")
+    yield "they stay", (folder / "out/package.json").exists() and ended.status == 13
+
+
+ACCIDENTS = {
+    "a folder of --include that is not there": lambda site: ["--include", "typo"],
+    "an empty SOURCE": lambda site: shutil.rmtree(site) or site.mkdir(),
+    "a shared template with a mistake": lambda site: write(site, "common/base.pan", "template common/base\n"),
+    "a byte order mark": lambda site: write(site, "web1.pan", "\ufeffobject template web1;\n"),
+    "a template that was emptied": lambda site: write(site, "web1.pan", ""),
+    "another suffix": lambda site: (site / "web1.pan").rename(site / "web1.tpl"),
+}
+
+
+def accidents(folder):
+    for name, happens in ACCIDENTS.items():
+        here = folder / name.replace(" ", "_")
+        machines(here, 3)
+        options = ["--most-removed", "1"]
+        pan(here, "build", "site", "out", *options)
+        before = {path: path.read_bytes() for path in (here / "out").iterdir()}
+        more = happens(here / "site")
+        ended = pan(here, "build", "site", "out", *options, *(more or []))
+        after = {path: path.read_bytes() for path in (here / "out").iterdir()}
+        yield name, ended.status == 13 and len(before) == 6 and after == before
+        yield f"{name}: its text", ended.text.startswith("too many removals ")
+        yield f"{name}: its note", "--most-removed" in ended.notes
+
+
+def lock(folder):
+    machines(folder, 2)
+    (folder / "out").mkdir()
+    held = os.open(folder / "out", os.O_RDONLY)
+    fcntl.flock(held, fcntl.LOCK_EX)
+    ended = []
+    waits = threading.Thread(target=lambda: ended.append(pan(folder, "build", "site", "out")))
+    waits.start()
+    waits.join(2)
+    yield "a build waits for another one", not ended and profiles(folder) == []
+    os.close(held)
+    waits.join(SECONDS)
+    yield "and then builds", ended[0].status == 0 and profiles(folder) == ["web1.json", "web2.json"]
+    yield "it says so", f"another pan works on out (process {os.getpid()})" in ended[0].notes
+    rounds = [threading.Thread(target=lambda: ended.append(pan(folder, "build", "site", "new"))) for _ in range(4)]
+    for each in rounds:
+        each.start()
+    for each in rounds:
+        each.join(SECONDS)
+    yield "four builds at once", [each.status for each in ended[1:]] == [0, 0, 0, 0]
+
+
+def installed(folder):
+    ended = pan(folder, folder / "there", script=TOP / "contrib/install")
+    yield "contrib/install", ended.status == 0
+    machines(folder, 2)
+    alone = {"PAN": None, "PATH": "/usr/bin:/bin"}
+    ended = pan(folder, "build", "site", "out", script=folder / "there/bin/pan", **alone)
+    yield "the command", ended.status == 0 and profiles(folder) == ["web1.json", "web2.json"]
+    yield "its notes", ended.summary() == [2, 2, 0, 0, 2, 0]
+    ended = pan(folder, "--help", script=folder / "there/bin/pan-watch", **alone)
+    yield "the watcher", ended.status == 0
+    share = folder / "there/share"
+    pages = ["man/man1/pan.1", "doc/pan/LICENSE", "doc/pan/NOTICES", "doc/pan/FAULTS.md", "vim/vimfiles/syntax/pan.vim"]
+    yield "pages", all((share / page).is_file() for page in pages)
+    unit = (folder / "there/lib/systemd/system/pan-watch.service").read_text()
+    yield "the unit", f"ExecStart={folder}/there/bin/pan-watch " in unit
+    asked = "source there/share/bash-completion/completions/pan; COMP_WORDS=(pan b); COMP_CWORD=1; _pan; echo ${COMPREPLY[*]}"
+    said = subprocess.run(["bash", "-c", asked], cwd=folder, capture_output=True, text=True).stdout
+    yield "completion", said == "build\n"
+
+
+def vim(folder):
+    if not shutil.which("vim"):
+        return
+    write(folder, "report", "run web1\nfault web1 F36 web1.pan:3:1 /port\nobjects 1 ok 0 faults 1 run 1\n")
+    asked = "echo getqflist()[0].lnum . ':' . getqflist()[0].col . ':' . bufname(getqflist()[0].bufnr) . ':' . len(getqflist())"
+    script = f"set rtp^={TOP}/editors/vim | compiler pan | cgetfile report | redir! > said | {asked} | redir END | q"
+    subprocess.run(["vim", "-u", "NONE", "-es", "-N", "-c", script], cwd=folder, capture_output=True, timeout=SECONDS)
+    yield "vim reads faults", (folder / "said").exists() and (folder / "said").read_text().strip() == "3:1:web1.pan:1"
+
+
+def main():
+    passed = failed = 0
+    for part in (words, found, notes, accidents, lock, installed, vim):
+        with tempfile.TemporaryDirectory() as room:
+            for name, is_well in part(Path(room).resolve()):
+                passed, failed = passed + bool(is_well), failed + (not is_well)
+                if not is_well:
+                    print(f"FAILED {part.__name__}: {name}")
+    print(f"{passed} passed, {failed} failed")
+    return 1 if failed else 0
+
+
+if __name__ == "__main__":
+    sys.exit(main())
