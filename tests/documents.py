@@ -4,9 +4,9 @@
     tests/documents.py
 
 - docs/pan.1 is what docs/make_man.py makes of docs/COMMANDS.md, and groff shows it without a warning.
-- Each link of a document leads to a file that is there, and README.md names each document.
+- Each link of a document leads to a file that is there, as does each path in it, and README.md names each document.
 - docs/FAULTS.md and docs/LANGUAGE.md have each fault code of the compiler once; ./pan --help names each option.
-- What README.md shows, the program does. The examples of the other documents are run by tests/run.
+- What README.md shows is examples/first, and the program does it. The examples of the other documents are run by tests/run.
 - Each folder of examples/ is run by a row.
 
 The program is the one that the variable PAN names, else the one that contrib/pan-program finds.
@@ -23,6 +23,7 @@ from program import PROGRAM
 
 TOP = Path(__file__).resolve().parent.parent
 DOCS = TOP / "docs"
+FIRST = ["types.pan", "web1.pan"]
 # A code that no fault has any more.
 OLD_CODES = {"F99"}
 
@@ -61,6 +62,39 @@ def links():
     yield f"README.md names each document {' '.join(missing)}".rstrip(), not missing
 
 
+def spans_of(page):
+    """What stands between backquotes in a page, and not in its indented blocks."""
+    text = re.sub(r"^    .*$", "", page.read_text(), flags=re.M)
+    return re.findall(r"(?<!`)`([^`\n]+)`(?!`)", text)
+
+
+def is_there(span):
+    """A path of the repository that a span is; true for all that is none."""
+    part = re.match(r"(?:crates/)?([a-z_]+)/((?:specs|src|proofs|must-fail)(?:/[\w+]+)*)(\.\w+)?$", span)
+    if part and (TOP / "crates" / part[1]).is_dir():
+        path = TOP / "crates" / part[1] / part[2]
+        return any(path.with_name(path.name + end).exists() for end in (part[3] or "", ".antt", ".rt"))
+    if re.match(r"(?:bench|contrib|crates|docs|editors|examples|tests)/[\w./*-]+$", span):
+        return any(TOP.glob(span.rstrip("/")))
+    return True
+
+
+def named_definitions():
+    """The modules that ARCHITECTURE.md's table of rules names behind a crate's folder specs, as `crate/specs` `A`, `B`."""
+    for line in (DOCS / "ARCHITECTURE.md").read_text().splitlines():
+        for crate, names in re.findall(r"`([a-z_]+)/specs` ((?:`[A-Z]\w*`(?:, )?)+)", line):
+            for name in re.findall(r"`(\w+)`", names):
+                yield f"{crate}/specs/{name}"
+
+
+def paths():
+    for page in pages():
+        gone = sorted({span for span in spans_of(page) if not is_there(span)})
+        yield f"paths of {page.relative_to(TOP)} {' '.join(gone)}".rstrip(), not gone
+    gone = sorted(name for name in named_definitions() if not is_there(name))
+    yield f"definitions of docs/ARCHITECTURE.md {' '.join(gone)}".rstrip(), not gone
+
+
 def codes():
     source = (TOP / "crates/pan_ast/specs/Codes.antt").read_text()
     wanted = sorted(set(re.findall(r'codes "(F\d\d)"', source)) - OLD_CODES)
@@ -83,24 +117,23 @@ def blocks_of(text):
 
 
 def readme():
-    """The first two blocks are files, named by their first lines; then come the texts of two runs and what they leave."""
+    """The first two blocks are the files of examples/first; then come the texts of two runs and what they leave."""
     types, web1, report, profile, reads, fault, *_ = blocks_of((TOP / "README.md").read_text())
+    first = TOP / "examples" / "first"
+    yield "README.md shows examples/first", [types, web1] == [(first / name).read_text() for name in FIRST]
     extra = re.search(r"With one more line, `([^`]+)`", (TOP / "README.md").read_text())[1]
     with tempfile.TemporaryDirectory() as folder:
         folder = Path(folder)
+        shutil.copytree(first, folder / "site")
 
         def build():
             words = [PROGRAM, "build", "site", "profiles"]
             return subprocess.run(words, cwd=folder, capture_output=True, text=True, timeout=120).stdout
 
-        for text in (types, web1):
-            path = folder / re.search(r"# (\S+)\n", text)[1]
-            path.parent.mkdir(exist_ok=True)
-            path.write_text(text)
         yield "the report of README.md", build() == report
         yield "its profile", (folder / "profiles/web1.json").read_text() == profile
         yield "its dependencies", (folder / "profiles/web1.dep").read_text() == reads
-        path.write_text(web1 + extra + "\n")
+        (folder / "site/web1.pan").write_text(web1 + extra + "\n")
         yield "its fault", fault in build() and not (folder / "profiles/web1.json").exists()
 
 
@@ -112,7 +145,7 @@ def examples():
 
 def main():
     passed = failed = 0
-    for part in (man_page, links, codes, options, readme, examples):
+    for part in (man_page, links, paths, codes, options, readme, examples):
         for name, is_well in part():
             passed, failed = passed + is_well, failed + (not is_well)
             if not is_well:

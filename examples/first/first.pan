@@ -1,7 +1,0 @@
-object template first;
-
-# A machine, told by its paths.
-'/system/hostname' = 'first.example.org';
-'/system/network/port' = 8080;
-'/system/network/open' = true;
-'/system/{motd line}' = "welcome\n";

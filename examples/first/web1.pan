@@ -1,0 +1,4 @@
+object template web1;
+include 'types';
+bind '/' = host;
+'/name' = OBJECT;
