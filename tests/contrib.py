@@ -3,7 +3,8 @@
 
     tests/contrib.py
 
-- contrib/pan-watch over a small site: a build at its start, one for each change, a fault, and its end by SIGTERM.
+- contrib/pan-watch over a small site: a build at its start, one for each change, a fault, and its end by SIGTERM; a
+  source that is lost.
 - contrib/pre-commit in a git repository of its own: what is added is compiled, and not what lies in the folder.
 - contrib/pan-watch.service reads, where systemd is here.
 
@@ -83,10 +84,13 @@ def watching(folder):
     write(source, ".hidden/web3.pan", "object template web3;\n")
     write(source, "site/port.pan", "template site/port;\nbind '/port' = long(1..80);\n'/port' = 8080;\n")
     said = watched.lines()
-    yield "a fault", "fault web1 F36 site/port.pan:2:1 /port" in said and said[-1].startswith("objects 2 ok 1 faults 1 ")
+    fault = "fault web1 F36 site/port.pan:2:1 /port (out of range)"
+    yield "a fault in words", fault in said and said[-1].startswith("objects 2 ok 1 faults 1 ")
     yield "its profile goes", not (out / "web1.json").exists() and (out / "web2.json").exists()
     (source / "web2.pan").unlink()
-    yield "a file that goes", watched.lines() == ["fault web1 F36 site/port.pan:2:1 /port", "objects 1 ok 0 faults 1 run 0"]
+    yield "a file that goes", watched.lines() == [fault, "objects 1 ok 0 faults 1 run 0"]
+    write(source, "web3.pan", "")
+    yield "a slip", watched.lines("warning: ")[-1] == "warning: files that are empty, and so no objects: 1 (web3.pan)"
     status, rest = watched.end(signal.SIGTERM)
     yield "its end", status == 0 and rest == ["ended, the watcher with status 1"]
     stamp = r"\d{4}-\d\d-\d\dT\d\d:\d\d:\d\d"
@@ -95,6 +99,23 @@ def watching(folder):
     yield "words that are none", watched.lines("the watcher ended") == ["usage fault", "the watcher ended with status 2"]
     yield "their status", watched.process.wait(SECONDS) == 2
     watched.clock.cancel()
+
+
+def a_lost_source(folder):
+    """As where a mount is lost: unless told otherwise, no more than 20 files go at once."""
+    source, out = folder / "source", folder / "out"
+    for number in range(11):
+        write(source, f"web{number:02}.pan", f"object template web{number:02};\n")
+    watched = Watched("--poll", "0.2", source, out)
+    yield "eleven machines", watched.lines()[-1] == "objects 11 ok 11 faults 0 run 11"
+    for path in source.iterdir():
+        path.rename(folder / path.name)
+    yield "a source that is empty", watched.lines() == ["too many removals 22", "objects 0 ok 0 faults 0 run 0"]
+    yield "its profiles stay", len(list(out.glob("*.json"))) == 11
+    watched.end(signal.SIGTERM)
+    watched = Watched("--poll", "60", source, out, "--most-removed", "22")
+    yield "where they may go", watched.lines()[-1] == "objects 0 ok 0 faults 0 run 0" and not list(out.glob("*.json"))
+    watched.end(signal.SIGTERM)
 
 
 def every_few_seconds(folder):
@@ -152,7 +173,9 @@ def committing(folder):
         ["pan: profiles that change: 1", "  changed web1"],
     )
     repository.git("add", ".")
-    yield "a fault", repository.commit() == (1, ["fault web2 F06 site/web2.pan:3:1".replace("site/", ""), REFUSED])
+    status, said = repository.commit()
+    yield "a fault", status == 1 and said[-1] == REFUSED
+    yield "in words", any(line.startswith("error F06: ") for line in said) and any("web2.pan:3:1" in line for line in said)
     yield "without the hook", repository.commit("--no-verify") == (0, [])
     write(folder, "site/web2.pan", "object template web2;\n'/a' = 1;\n")
     repository.git("rm", "-q", "site/web1.pan")
@@ -168,10 +191,13 @@ def committing(folder):
     yield "a file beside the site", repository.commit("-a") == (0, [])
     repository.git("config", "pan.options", "--max-iteration 0")
     write(folder, "site/port.pan", "template port;\n")
-    yield "options that are none", repository.commit("-a") == (
-        1,
-        ["usage fault", "pan: the build ended with status 2", REFUSED],
-    )
+    status, said = repository.commit("-a")
+    yield "options that are none", status == 1 and said[0] == "usage fault" and said[-1] == REFUSED
+    yield "their status", "pan: the build ended with status 2" in said
+    repository.git("config", "pan.options", "")
+    repository.git("config", "pan.source", "sites")
+    status, said = repository.commit("-a")
+    yield "a folder that is not there", status == 1 and "there is no folder sites" in said[0] and said[-1] == REFUSED
 
 
 def unit(folder):
@@ -189,7 +215,7 @@ def unit(folder):
 
 def main():
     passed = failed = 0
-    for part in (watching, every_few_seconds, committing, unit):
+    for part in (watching, a_lost_source, every_few_seconds, committing, unit):
         with tempfile.TemporaryDirectory() as room:
             for name, is_well in part(Path(room)):
                 passed, failed = passed + is_well, failed + (not is_well)
