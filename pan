@@ -69,23 +69,28 @@ has_mode() {
   return 1
 }
 
-# What the words name, as the program reads them where they are a command: `mode`, `source`, `out` and `include`.
-mode='' source='' out='' include=''
+# What the words name, as the program reads them where they are a command: `mode`, `source`, `out`, `include`, and the
+# options but for --most-removed.
+mode='' source='' out='' include='' options=()
 read_words() {
-  local word value_of='' places=()
+  local word option='' places=()
   for word in "$@"; do
-    if [ -n "$value_of" ]; then
-      [ "$value_of" != --include ] || include=$word
-      value_of=''
+    case $option in
+      --) places+=("$word"); continue ;;
+      --include) include=$word ;;
+    esac
+    if [ -n "$option" ]; then
+      [ "$option" = --most-removed ] || options+=("$option=$word")
+      option=''
       continue
     fi
     case $word in
-      --include=*) include=${word#--include=} ;;
-      --*=*) ;;
-      --include | --max-iteration | --max-recursion | --most-removed) value_of=$word ;;
-      --) ;;
+      --include=* | --max-iteration=* | --max-recursion=*) options+=("$word") ;;
+      --most-removed=*) ;;
+      --include | --max-iteration | --max-recursion | --most-removed | --) option=$word ;;
       *) places+=("$word") ;;
     esac
+    case $word in --include=*) include=${word#--include=} ;; esac
   done
   mode=${places[0]:-} source=${places[1]:-} out=${places[2]:-}
 }
@@ -125,7 +130,7 @@ profiles() { find "$out" -type f -name '*.json' -printf '%P\t%i %T@\n' 2>/dev/nu
 
 # A build as a child: its text is written when it has ended, and then the notes.
 build() {
-  local program=$1 room status=0 made start
+  local program=$1 status=0 made start
   shift
   room=$(mktemp -d)
   trap 'rm -rf "$room"' EXIT
@@ -144,10 +149,18 @@ build() {
   fi
   wait
   cat "$room/notes" >&2
+  if [ "$status" -eq 13 ]; then
+    tell_faults "$program"
+    exit 13
+  fi
   profiles >"$room/after"
   "$tools/pan-notes" summary "$room/text" "$room/before" "$room/after" $((${EPOCHREALTIME/./} - start))
   exit "$status"
 }
+
+# Where a build changed nothing because too many files would have gone: the faults that took them away, by a build of the
+# same source with the same options, but without the bound, into a folder of its own.
+tell_faults() { "$1" build ${options[@]+"${options[@]}"} -- "$source" "$room/shelf" >"$room/report" || true; }
 
 # Watching: the notes come first, and the lock is held for as long as it runs.
 watch() {
