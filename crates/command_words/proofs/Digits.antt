@@ -1,5 +1,5 @@
 -- Numbers that decimal digits spell, and those that 64 bits hold.
-use Rattle.std.proofs.Common.{◌≡◌, ℕ, ◌≤◌, ◌<◌, ◌+◌, ◌*◌, ◌^◌, List, [], ◌∷◌, Some, None, true, false, nat_le, fold, drop, refl, ap, sym, ◌∙◌, arith}
+use Rattle.std.proofs.Common.{◌≡◌, ℕ, ◌≤◌, ◌<◌, ◌+◌, ◌*◌, ◌^◌, List, [], ◌∷◌, Some, None, true, false, nat_le, fold, refl, ap, sym, ◌∙◌, arith}
 use Rattle.std.specs.Char.{digit_value}
 use Rattle.command_words.specs.Commands.{within}
 use Rattle.command_words.specs.declared.limits.TheConstants.{MAX_START}

@@ -1,7 +1,7 @@
 -- Written values of options.
 use Rattle.std.proofs.Common.{◌≡◌, ℕ, List, [], ◌∷◌, Option, Some, None, refl, codes}
-use Rattle.command_words.specs.Commands.{limit_of, directories_of, number_given}
-use Rattle.command_words.specs.declared.limits.TheConstants.{MAX_ITERATIONS, DEFAULT_ITERATIONS, MAX_RECURSION, DEFAULT_RECURSION, MAX_MACHINES, MAX_START}
+use Rattle.command_words.specs.Commands.{limit_of, bound_of, directories_of, number_given}
+use Rattle.command_words.specs.declared.limits.TheConstants.{MAX_ITERATIONS, DEFAULT_ITERATIONS, MAX_RECURSION, DEFAULT_RECURSION, MAX_MOST_REMOVED, MAX_MACHINES, MAX_START}
 
 abbrev recursion : List ℕ → Option ℕ
 recursion text = limit_of MAX_RECURSION DEFAULT_RECURSION (Some text)
@@ -79,3 +79,19 @@ too_large_start = refl
 
 not_given_start : number_given 0 MAX_START None ≡ None
 not_given_start = refl
+
+-- how many names a publication may remove
+any_number : bound_of MAX_MOST_REMOVED None ≡ Some None
+any_number = refl
+
+no_name : bound_of MAX_MOST_REMOVED (Some (codes "0")) ≡ Some (Some 0)
+no_name = refl
+
+largest_bound : bound_of MAX_MOST_REMOVED (Some (codes "20000")) ≡ Some (Some 20000)
+largest_bound = refl
+
+too_large_bound : bound_of MAX_MOST_REMOVED (Some (codes "20001")) ≡ None
+too_large_bound = refl
+
+no_bound : bound_of MAX_MOST_REMOVED (Some []) ≡ None
+no_bound = refl

@@ -8,7 +8,7 @@ use Rattle.command_words.specs.declared.commands.Command.{Command}
 use Rattle.command_words.specs.declared.commands.Command.TheVariants.{Build, Watch, Demo}
 use Rattle.command_words.specs.declared.commands.Demonstration.{Demonstration}
 use Rattle.command_words.specs.declared.commands.Work.{Work}
-use Rattle.command_words.specs.declared.limits.TheConstants.{MAX_PARTS, MAX_ITERATIONS, DEFAULT_ITERATIONS, MAX_RECURSION, DEFAULT_RECURSION, MAX_MACHINES, MAX_START}
+use Rattle.command_words.specs.declared.limits.TheConstants.{MAX_PARTS, MAX_ITERATIONS, DEFAULT_ITERATIONS, MAX_RECURSION, DEFAULT_RECURSION, MAX_MOST_REMOVED, MAX_MACHINES, MAX_START}
 use Rattle.command_words.specs.declared.words.Words.{Words}
 
 -- a number in decimal digits without a leading zero, from low to high
@@ -54,20 +54,32 @@ abbrev pub filled : Option (List ℕ) → Option (List ℕ)
 filled None = None
 filled (Some text) = if nat_lt 0 (length text) then Some text else None
 
+-- the bound of an option that may be left out: without it there is none
+abbrev pub bound_given : Option ℕ → Option (Option ℕ)
+bound_given None = None
+bound_given (Some n) = Some (Some n)
+
+abbrev pub bound_of : ℕ → Option (List ℕ) → Option (Option ℕ)
+bound_of high None = Some None
+bound_of high (Some text) = bound_given (number_within 0 high text)
+
 abbrev pub work_with : Option (List ℕ) → Option (List ℕ) → Option (List (List ℕ)) → Option ℕ
-    → Option ℕ → Option Work
-work_with None out directories iterations recursion = None
-work_with (Some source) None directories iterations recursion = None
-work_with (Some source) (Some out) None iterations recursion = None
-work_with (Some source) (Some out) (Some directories) None recursion = None
-work_with (Some source) (Some out) (Some directories) (Some iterations) None = None
-work_with (Some source) (Some out) (Some directories) (Some iterations) (Some recursion) =
-    Some (record {
+    → Option ℕ → Option (Option ℕ) → Option Work
+work_with None out directories iterations recursion most = None
+work_with (Some source) None directories iterations recursion most = None
+work_with (Some source) (Some out) None iterations recursion most = None
+work_with (Some source) (Some out) (Some directories) None recursion most = None
+work_with (Some source) (Some out) (Some directories) (Some iterations) None most = None
+work_with (Some source) (Some out) (Some directories) (Some iterations) (Some recursion) None =
+    None
+work_with (Some source) (Some out) (Some directories) (Some iterations) (Some recursion)
+    (Some most) = Some (record {
       source = source;
       out = out;
       directories = directories;
       iterations = iterations;
       recursion = recursion;
+      most_removed = most;
     })
 
 abbrev pub iterations_of : Words → Option ℕ
@@ -80,7 +92,7 @@ recursion_of w = limit_of MAX_RECURSION DEFAULT_RECURSION w.recursion
 abbrev pub work_of : Words → Option Work
 work_of w =
     work_with (filled w.source) (filled w.out) (directories_of w.include) (iterations_of w)
-    (recursion_of w)
+    (recursion_of w) (bound_of MAX_MOST_REMOVED w.most_removed)
 
 -- a word that is a number, from low to high
 abbrev pub number_given : ℕ → ℕ → Option (List ℕ) → Option ℕ
@@ -101,9 +113,9 @@ demonstration_with (Some count) (Some start) (Some iterations) (Some recursion) 
     })
 
 -- what `demo` works on: SOURCE is the count of its machines, OUT its start number, and it has no
--- directories
+-- directories and no shelf
 abbrev pub demonstration_of : Words → Option Demonstration
-demonstration_of w = if is_some w.include then None
+demonstration_of w = if is_some w.include || is_some w.most_removed then None
     else demonstration_with (number_given 1 MAX_MACHINES w.source)
     (number_given 0 MAX_START w.out) (iterations_of w) (recursion_of w)
 

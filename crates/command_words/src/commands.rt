@@ -2,11 +2,11 @@ ghost use Rattle.std.specs.Prelude.{◌≡◌, ◌<◌, ◌≤◌, ◌+◌, ◌-
 ghost use Rattle.std.specs.Char.{digit_value};
 ghost use Rattle.std.specs.List.{list_all};
 ghost use Rattle.base.specs.Integers.{digits_value};
-ghost use Rattle.command_words.specs.Commands.{number_within, number_given, limit_of, is_part, directory_of, parts_of, are_parts, directories_among, directories_of, filled, within, work_of, demonstration_of, is_word, command_by, command_of};
+ghost use Rattle.command_words.specs.Commands.{number_within, number_given, limit_of, bound_of, is_part, directory_of, parts_of, are_parts, directories_among, directories_of, filled, within, work_of, demonstration_of, is_word, command_by, command_of};
 
 use crate::limits::{
-    DEFAULT_ITERATIONS, DEFAULT_RECURSION, MAX_ITERATIONS, MAX_MACHINES, MAX_PARTS, MAX_RECURSION,
-    MAX_START,
+    DEFAULT_ITERATIONS, DEFAULT_RECURSION, MAX_ITERATIONS, MAX_MACHINES, MAX_MOST_REMOVED,
+    MAX_PARTS, MAX_RECURSION, MAX_START,
 };
 use crate::words::{Words, read};
 use base::ascii::digit_value;
@@ -26,6 +26,8 @@ pub struct Work {
     pub iterations: u64,
     /// Calls inside one another.
     pub recursion: u64,
+    /// Names that a publication may remove; any number where there is none.
+    pub most_removed: Option<u64>,
 }
 
 /// What `demo` works on.
@@ -71,6 +73,20 @@ fn limit_of(high: u64, default: u64, given: &Option<Text>) -> Option<u64>
     match given {
         None => Some(default),
         Some(text) => number_within(1, high, text.as_str()),
+    }
+}
+
+/// The value of an option that is a bound and may be left out, or None where it is given and no number of its form.
+fn bound_of(high: u64, given: &Option<Text>) -> Option<Option<u64>>
+    requires { high < 2 ^ 64 - 1 }
+    ensures { result ≡ bound_of high given.now }
+{
+    let Some(text) = given else {
+        return Some(None);
+    };
+    match number_within(0, high, text.as_str()) {
+        Some(most) => Some(Some(most)),
+        None => None,
     }
 }
 
@@ -154,12 +170,13 @@ fn filled(text: Option<Text>) -> Option<Text>
 
 /// What `build` and `watch` work on, by the values of their words, or None where one is not of its form. LIST is 1 to
 /// `MAX_PARTS` parts joined by `:`, each `.`, which means the empty directory, or a file name; a number is decimal
-/// digits without a leading zero, from 1 to its limit.
+/// digits without a leading zero, from 1 to its limit, `--most-removed` from 0.
 fn read_work(alloc: Global, words: Words) -> Result<Option<Work>, AllocError>
     ensures { IfOk result (λ work. work ≡ work_of words) }
 {
     let iterations = limit_of(MAX_ITERATIONS, DEFAULT_ITERATIONS, &words.iteration);
     let recursion = limit_of(MAX_RECURSION, DEFAULT_RECURSION, &words.recursion);
+    let most_removed = bound_of(MAX_MOST_REMOVED, &words.most_removed);
     let directories = directories_of(alloc, &words.include)?;
     match (
         filled(words.source),
@@ -167,16 +184,23 @@ fn read_work(alloc: Global, words: Words) -> Result<Option<Work>, AllocError>
         directories,
         iterations,
         recursion,
+        most_removed,
     ) {
-        (Some(source), Some(out), Some(directories), Some(iterations), Some(recursion)) => {
-            Ok(Some(Work {
-                source,
-                out,
-                directories,
-                iterations,
-                recursion,
-            }))
-        }
+        (
+            Some(source),
+            Some(out),
+            Some(directories),
+            Some(iterations),
+            Some(recursion),
+            Some(most_removed),
+        ) => Ok(Some(Work {
+            source,
+            out,
+            directories,
+            iterations,
+            recursion,
+            most_removed,
+        })),
         _ => Ok(None),
     }
 }
@@ -244,7 +268,7 @@ fn count_of(given: &Option<Text>) -> Option<u32>
 fn read_demonstration(words: &Words) -> Option<Demonstration>
     ensures { result ≡ demonstration_of words.now }
 {
-    if words.include.is_some() {
+    if words.include.is_some() || words.most_removed.is_some() {
         return None;
     }
     match (
@@ -298,7 +322,8 @@ fn command_by(alloc: Global, words: Words) -> Result<Option<Command>, AllocError
 }
 
 /// The command that the words are: `build SOURCE OUT` and `watch SOURCE OUT` with the options `--include`,
-/// `--max-iteration` and `--max-recursion`, or `demo COUNT START` with the last two; None where they are none. The words
+/// `--max-iteration`, `--max-recursion` and `--most-removed`, or `demo COUNT START` with the second and the third; None
+/// where they are none. The words
 /// are read by `clap`. SOURCE and OUT are not empty. COUNT is a number from 1 to `MAX_MACHINES`, START one from 0 to
 /// `MAX_START`.
 #[tactic(auto, unfolding(crate::specs::Commands::command_of))]

@@ -10,6 +10,8 @@ pub const DEFAULT_ITERATIONS: u64 = 10_000;
 pub const MAX_RECURSION: u64 = 200;
 /// Calls inside one another, unless given.
 pub const DEFAULT_RECURSION: u64 = 50;
+/// Names that `--most-removed` may allow a publication to remove.
+pub const MAX_MOST_REMOVED: u64 = 20_000;
 /// Machines of a demo.
 pub const MAX_MACHINES: u64 = 2_000;
 /// The start number of a demo.

@@ -48,3 +48,13 @@ fn reads_the_largest_start_number(rt: HostRuntime) -> Result<(), Fail> {
     assert_eq!(rt; demonstration.start, u64::MAX);
     Ok(())
 }
+
+#[test]
+fn reads_the_bound_on_removals(rt: HostRuntime) -> Result<(), Fail> {
+    let alloc = rt.alloc();
+    let work = work_of(alloc, "watch s o --most-removed 20")?.ok_or("no command")?;
+    assert_eq!(rt; work.most_removed, Some(20));
+    let work = work_of(alloc, "build s o")?.ok_or("no command")?;
+    assert_eq!(rt; work.most_removed, None);
+    Ok(())
+}

@@ -45,7 +45,8 @@ fn with_options<'a>(alloc: Global, command: Command<'a>) -> Result<Command<'a>, 
     command
         .arg(option(alloc, "include"))?
         .arg(option(alloc, "max-iteration"))?
-        .arg(option(alloc, "max-recursion"))
+        .arg(option(alloc, "max-recursion"))?
+        .arg(option(alloc, "most-removed"))
 }
 
 /// The one command of the program.
@@ -65,6 +66,7 @@ pub struct Words {
     pub include: Option<Text>,
     pub iteration: Option<Text>,
     pub recursion: Option<Text>,
+    pub most_removed: Option<Text>,
 }
 
 /// The value of an argument.
@@ -88,6 +90,7 @@ fn values(alloc: Global, matches: &ArgMatches<'_>) -> Result<Words, AllocError>
         include: value(alloc, matches, "include")?,
         iteration: value(alloc, matches, "max-iteration")?,
         recursion: value(alloc, matches, "max-recursion")?,
+        most_removed: value(alloc, matches, "most-removed")?,
     })
 }
 

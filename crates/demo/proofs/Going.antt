@@ -7,6 +7,7 @@ use Rattle.pan_ast.specs.declared.work.Limits.{Limits}
 use Rattle.engine_turns.specs.declared.core_data.Core.{Core}
 use Rattle.rebuild.specs.Engines.{Meanings, turns_left_of}
 use Rattle.session.specs.Machines.{Machine}
+use Rattle.publication.specs.declared.answer.Publication.TheVariants as publication
 use Rattle.session.specs.Sessions.{Next, GoesOn, SpendsNumbers, IsTooMuch, next, state_in, with_turns, built, reported, started, scanned, answers_in, build_round, ended_by}
 use Rattle.session.specs.Texts.{report}
 use Rattle.compiler.specs.Compiler.{Compiled, compiler, forgotten, nothing}
@@ -35,14 +36,14 @@ module _ {T : Type 0} (M : Meanings T) (dirs : List (List ℕ)) (limits : Limits
   Took how = TakesNext m dirs limits s how mid start spent (Some coming) faults faults'
 
   pub take_spends : (line : List ℕ) (has_faults : Bool) → Took took.SpendsNumbers → Goes m dirs limits s step.SpendsNumbers line has_faults mid coming start spent
-  take_spends line has_faults t = record { state = t.state; leads = subst (λ scan. scanned m scan s (built m []) ≡ SpendsNumbers t.state) t.failed (t.leads (built m [])); on = t.stands }
+  take_spends line has_faults t = record { state = t.state; leads = subst (λ scan. scanned m scan s (built m (publication.Done [])) ≡ SpendsNumbers t.state) t.failed (t.leads (built m (publication.Done []))); on = t.stands }
 
   pub take_exceeds : (line : List ℕ) (has_faults : Bool) → Took took.IsTooMuch → Goes m dirs limits s step.IsTooMuch line has_faults mid coming start spent
-  take_exceeds line has_faults t = record { state = t.state; leads = subst (λ scan. scanned m scan s (built m []) ≡ IsTooMuch t.state) t.failed (t.leads (built m [])); on = t.stands }
+  take_exceeds line has_faults t = record { state = t.state; leads = subst (λ scan. scanned m scan s (built m (publication.Done [])) ≡ IsTooMuch t.state) t.failed (t.leads (built m (publication.Done []))); on = t.stands }
 
   module _ (t : Took took.Taken) (is_left : left ≡ turns_left_of mid) where
     turns_are : next m build_round s ≡ with_turns m left t.state (at_end m)
-    turns_are = subst (λ scan. scanned m scan s (built m []) ≡ built m [] t.state) t.failed (t.leads (built m [])) ∙ ap (λ k. with_turns m k t.state (at_end m)) (ap m.turns_left (sym t.stands.engine.is) ∙ sym is_left)
+    turns_are = subst (λ scan. scanned m scan s (built m (publication.Done [])) ≡ built m (publication.Done []) t.state) t.failed (t.leads (built m (publication.Done []))) ∙ ap (λ k. with_turns m k t.state (at_end m)) (ap m.turns_left (sym t.stands.engine.is) ∙ sym is_left)
 
     pub cut_turning : HasSpentAtMost (state_in (with_turns m left t.state (at_end m))) start later → HasSpentAtMost (state_in (next m build_round s)) start later
     cut_turning most = subst (λ n. HasSpentAtMost (state_in n) start later) (sym turns_are) most
@@ -54,13 +55,13 @@ module _ {T : Type 0} (M : Meanings T) (dirs : List (List ℕ)) (limits : Limits
     turns_spend line has_faults made = record { state = made.state; leads = turns_are ∙ made.leads (at_end m); on = made.stands }
 
     pub cut_made : Made true → HasSpentAtMost (state_in (next m build_round s)) start later
-    cut_made made = subst (λ n. HasSpentAtMost (state_in n) start later) (sym (turns_are ∙ made.leads (at_end m))) (at_most (reported m [] made.state) start later (record { in_runs = made.stands.spent.in_runs; in_steps = made.stands.spent.in_steps }))
+    cut_made made = subst (λ n. HasSpentAtMost (state_in n) start later) (sym (turns_are ∙ made.leads (at_end m))) (at_most (reported m (publication.Done []) made.state) start later (record { in_runs = made.stands.spent.in_runs; in_steps = made.stands.spent.in_steps }))
 
     pub reports : (line : List ℕ) (has_faults : Bool) → s.text ≡ [] → (made : Made true) → Says (compiler (M settled.dirs settled.limits) settled.dirs) (compiled_in settled) has_faults line → IsIn dirs limits new (forgotten (M dirs limits) dirs made.state.engine) → Goes m dirs limits s step.Reports line has_faults new coming start later
     reports line has_faults empty made says forgot =
         let g = along settled (λ d l e. Says (compiler (M d l) d) e has_faults line) dirs limits made.state.engine made.stands.engine says in
         record {
-          state = reported m [] made.state;
+          state = reported m (publication.Done []) made.state;
           leads = turns_are ∙ made.leads (at_end m);
           on = record {
             at = record { engine = forgot; spent = record { in_runs = made.stands.spent.in_runs; in_steps = made.stands.spent.in_steps } };
@@ -72,11 +73,11 @@ module _ {T : Type 0} (M : Meanings T) (dirs : List (List ℕ)) (limits : Limits
 
 module _ {T : Type 0} (machine : Machine (Compiled T)) (dirs : List (List ℕ)) (limits : Limits) where
   -- no build was made yet
-  pub none_yet : (e : Compiled T) (ps coming : List (List MemFile)) (core : Core T) (start : Counts) (held : Option (List ℕ)) → IsIn dirs limits core e → coming ≡ ps → Playing machine dirs limits (started e ps) 4 false core coming start start held held
+  pub none_yet : (e : Compiled T) (ps coming : List (List MemFile)) (core : Core T) (start : Counts) (held : Option (List ℕ)) → IsIn dirs limits core e → coming ≡ ps → Playing machine dirs limits (started e ps []) 4 false core coming start start held held
   none_yet e ps coming core start held is told = record {
-    state = started e ps;
+    state = started e ps [];
     leads = refl;
-    at = record { engine = is; spent = spent_none (started e ps) start refl refl };
+    at = record { engine = is; spent = spent_none (started e ps []) start refl refl };
     pictures = told;
     faults = refl;
     text = nothing_written held;
@@ -154,10 +155,10 @@ not_begun x start held = record {
 }
 
 module _ {T : Type 0} (M : Meanings T) (limits : Limits) (count begin : ℕ) (core : Core T) (coming : List (List MemFile)) (start start' now : Counts) (held held' : Option (List ℕ)) (is : IsIn demo_dirs limits core nothing) (told : coming ≡ demo_pictures count begin) (same : start' ≡ start) where
-  pub ended_ok : (r : Result Ended End) → IfOk r (λ how. (dirs : List (List ℕ)) (limits : Limits) (e : Compiled T) (ps : List (List MemFile)) → IsIn dirs limits core e → coming ≡ ps → Ends (builds (compiler (M dirs limits) dirs) 4 (started e ps)) how start' now held held') → IfOk r (λ how. Ends (demo_session M limits count begin) how start now held held')
+  pub ended_ok : (r : Result Ended End) → IfOk r (λ how. (dirs : List (List ℕ)) (limits : Limits) (e : Compiled T) (ps : List (List MemFile)) → IsIn dirs limits core e → coming ≡ ps → Ends (builds (compiler (M dirs limits) dirs) 4 (started e ps [])) how start' now held held') → IfOk r (λ how. Ends (demo_session M limits count begin) how start now held held')
   ended_ok (Ok how) f = subst (λ c. Ends (demo_session M limits count begin) how c now held held') same (f demo_dirs limits nothing (demo_pictures count begin) is told)
   ended_ok (Err e) f = tt
 
-  pub broken_err : (r : Result Ended End) → OnErr r ((dirs : List (List ℕ)) (limits : Limits) (e : Compiled T) (ps : List (List MemFile)) → IsIn dirs limits core e → coming ≡ ps → Breaks (builds (compiler (M dirs limits) dirs) 4 (started e ps)) start' now held held') → OnErr r (Breaks (demo_session M limits count begin) start now held held')
+  pub broken_err : (r : Result Ended End) → OnErr r ((dirs : List (List ℕ)) (limits : Limits) (e : Compiled T) (ps : List (List MemFile)) → IsIn dirs limits core e → coming ≡ ps → Breaks (builds (compiler (M dirs limits) dirs) 4 (started e ps [])) start' now held held') → OnErr r (Breaks (demo_session M limits count begin) start now held held')
   broken_err (Ok how) f = tt
   broken_err (Err e) f = subst (λ c. Breaks (demo_session M limits count begin) c now held held') same (f demo_dirs limits nothing (demo_pictures count begin) is told)

@@ -3,6 +3,7 @@ use Rattle.std.proofs.Common.{◌≡◌, ℕ, zero, suc, List, [], ◌∷◌, �
 use Rattle.std.specs.Prelude.{option_map}
 use Rattle.std.proofs.lemmas.List.{take-append-drop}
 use Rattle.outside.specs.Contents.{AppendsPart}
+use Rattle.publication.specs.declared.answer.Publication.TheVariants as publication
 use Rattle.session.specs.Machines.{Machine}
 use Rattle.session.specs.Sessions.{State, Next, GoesOn, Quits, SpendsNumbers, IsTooMuch, build_round, next, state_in, reported, built}
 use Rattle.compiler.specs.Compiler.{Compiled}
@@ -37,16 +38,16 @@ grows machine (suc k) s = shortened_grows s.text (builds machine k) (grows machi
 
 module _ {T : Type 0} (machine : Machine (Compiled T)) where
   abbrev pub at_end : Here T → Next (Compiled T)
-  at_end t = GoesOn (reported machine [] t)
+  at_end t = GoesOn (reported machine (publication.Done []) t)
 
   pub end_rises : IsRising at_end
   end_rises t = record { in_runs = omega arith; in_steps = omega arith }
 
-  pub build_rises : IsRising (built machine [])
+  pub build_rises : IsRising (built machine (publication.Done []))
   build_rises t = turns_rise machine at_end end_rises (machine.turns_left t.engine) t
 
   round_rises : (s : Here T) → IsBelow s (state_in (next machine build_round s))
-  round_rises s = scan_rises machine (built machine []) build_rises s
+  round_rises s = scan_rises machine (built machine (publication.Done [])) build_rises s
 
   pub builds_rise : (k : ℕ) → IsRising (builds machine k)
   builds_rise zero s = below_same s

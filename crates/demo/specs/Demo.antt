@@ -1,8 +1,7 @@
 -- The session of a demo: four rounds of a build, of each of which the last line alone is written.
-use Rattle.std.specs.Prelude.{◌≡◌, ◌≤◌, ℕ, zero, suc, List, [], ◌∷◌, ◌++◌, Result, IfErr, OnOk, Option}
+use Rattle.std.specs.Prelude.{◌≡◌, ℕ, zero, suc, List, [], ◌∷◌, ◌++◌, Option}
 use Rattle.compiler.specs.Compiler.{Compiled, compiler, nothing}
 use Rattle.compiler.specs.Standing.{Counts, HasSpentAtMost, SpendsAs}
-use Rattle.outside.specs.Causes.{Rose}
 use Rattle.outside.specs.Contents.{Appends, AppendsPart}
 use Rattle.pan_ast.specs.declared.work.Limits.{Limits}
 use Rattle.rebuild.specs.Engines.{Meanings}
@@ -11,8 +10,6 @@ use Rattle.session.specs.Sessions.{State, Next, GoesOn, Quits, SpendsNumbers, Is
 use Rattle.session.specs.declared.Ended.{Ended}
 use Rattle.demo.specs.Pictures.{demo_pictures}
 use Rattle.demo.specs.Reports.{last_line}
-use Rattle.demo.specs.declared.ends.End.{End}
-use Rattle.demo.specs.declared.ends.End.TheVariants as ends
 
 -- behind a text, the last line alone of what a round wrote; a round that ends the session writes
 -- none
@@ -34,7 +31,7 @@ demo_dirs = [] ∷ []
 
 abbrev pub demo_session : {T : Type 0} → Meanings T → Limits → ℕ → ℕ → Next (Compiled T)
 demo_session means limits count start = builds (compiler (means demo_dirs limits) demo_dirs) 4
-    (started nothing (demo_pictures count start))
+    (started nothing (demo_pictures count start) [])
 
 -- a session came to its end, and its text was written
 pub record Ends {E : Type 0} (x : Next E) (how : Ended) (before now : Counts)

@@ -123,13 +123,13 @@ fn play<R: Runner, O: Sink, L: Ledger>(
     ensures ok { IfOk result (λ how. (dirs : List (List ℕ)) (limits : Limits)
         (e : Compiled R.Rest) (ps : List (List MemFile)) → IsIn dirs limits engine.old.core e
         → source.old.coming ≡ ps
-        → Ends (builds (compiler (R.meaning dirs limits) dirs) 4 (started e ps)) how
+        → Ends (builds (compiler (R.meaning dirs limits) dirs) 4 (started e ps [])) how
         (counts (R.runs_of runner.old) steps.old) (counts (R.runs_of runner.new) steps.new)
         (O.held out.old) (O.held out.new)) }
     ensures err { OnErr result ((dirs : List (List ℕ)) (limits : Limits)
         (e : Compiled R.Rest) (ps : List (List MemFile)) → IsIn dirs limits engine.old.core e
         → source.old.coming ≡ ps
-        → Breaks (builds (compiler (R.meaning dirs limits) dirs) 4 (started e ps))
+        → Breaks (builds (compiler (R.meaning dirs limits) dirs) 4 (started e ps []))
         (counts (R.runs_of runner.old) steps.old) (counts (R.runs_of runner.new) steps.new)
         (O.held out.old) (O.held out.new)) }
     ensures out_cause { Caused (λ e. e ≡ End.Out) (O.fault_count out.old) (O.fault_count out.new)

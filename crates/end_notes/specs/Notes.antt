@@ -1,5 +1,5 @@
 -- The texts of ends that came early.
-use Rattle.std.specs.Prelude.{ℕ, List, ◌++◌, codes}
+use Rattle.std.specs.Prelude.{ℕ, List, ◌++◌, codes, decimal}
 use Rattle.end_notes.specs.declared.notes.TheConstants.{USAGE}
 use Rattle.end_notes.specs.declared.wrong.Place.{Place}
 use Rattle.end_notes.specs.declared.wrong.Place.TheVariants.{Mode, Source, Out}
@@ -27,3 +27,9 @@ usage_of wrong = codes "error: " ++ wrong_text wrong ++ codes "\n" ++ USAGE.now
 -- `error: PATH: REASON`
 abbrev pub trouble_of : List ℕ → List ℕ → List ℕ
 trouble_of path reason = codes "error: " ++ path ++ codes ": " ++ reason ++ codes "\n"
+
+-- so many files of a folder would have gone, more than the bound
+abbrev pub removals_of : List ℕ → ℕ → ℕ → List ℕ
+removals_of folder removals most = codes "error: " ++ folder ++ codes ": " ++ decimal removals
+    ++ codes " files would have gone, more than the " ++ decimal most
+    ++ codes " that --most-removed allows; nothing was changed\n"

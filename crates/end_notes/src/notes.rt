@@ -1,12 +1,13 @@
-ghost use Rattle.std.specs.Prelude.{◌≡◌, ◌++◌, IfOk, OnOk};
-ghost use Rattle.end_notes.specs.Notes.{place_name, wrong_text, usage_of, trouble_of};
+ghost use Rattle.std.specs.Prelude.{◌≡◌, ◌++◌, IfOk, OnOk, decimal};
+ghost use Rattle.end_notes.specs.Notes.{place_name, wrong_text, usage_of, trouble_of, removals_of};
 
 use crate::wrong::{Place, Wrong};
+use itoa::Buffer;
 use std::alloc::{AllocError, Global};
 
 /// How the program is called.
 pub const USAGE: &str =
-    "\nusage: pan build SOURCE OUT [OPTION..]    compiles the templates below SOURCE into OUT\n       pan watch SOURCE OUT [OPTION..]    the same, asked by lines on standard input\n       pan demo COUNT START [OPTION..]    four builds of a made-up site\n\noptions: --include LIST       include directories below SOURCE, joined by `:`\n         --max-iteration N    turns of a loop, 1 to 1000000\n         --max-recursion N    open calls of functions, 1 to 200\n";
+    "\nusage: pan build SOURCE OUT [OPTION..]    compiles the templates below SOURCE into OUT\n       pan watch SOURCE OUT [OPTION..]    the same, asked by lines on standard input\n       pan demo COUNT START [OPTION..]    four builds of a made-up site\n\noptions: --include LIST       include directories below SOURCE, joined by `:`\n         --max-iteration N    turns of a loop, 1 to 1000000\n         --max-recursion N    open calls of functions, 1 to 200\n         --most-removed N     files of OUT that a build may take away, 0 to 20000\n";
 
 fn place_name(place: Place) -> &'static str
     ensures { result.now ≡ place_name place }
@@ -63,5 +64,31 @@ pub fn trouble_note(alloc: Global, path: &str, reason: &str) -> Result<Vec<u8>, 
     text.extend_from_slice(b": ")?;
     text.extend_from_slice(reason.as_bytes())?;
     text.extend_from_slice(b"\n")?;
+    Ok(text)
+}
+
+fn push_number(into: &mut Vec<u8>, number: u64) -> Result<(), AllocError>
+    ensures { OnOk result (into.new.items ≡ into.old.items ++ decimal number) }
+{
+    let mut buffer = Buffer::new();
+    into.extend_from_slice(buffer.format(number).as_bytes())
+}
+
+/// The text for a build that was to take away so many files of a folder, more than `most`.
+pub fn removals_note(
+    alloc: Global,
+    folder: &str,
+    removals: u64,
+    most: u64,
+) -> Result<Vec<u8>, AllocError>
+    ensures { IfOk result (λ text. text.items ≡ removals_of folder.now removals most) }
+{
+    let mut text = Vec::from_slice(alloc, b"error: ")?;
+    text.extend_from_slice(folder.as_bytes())?;
+    text.extend_from_slice(b": ")?;
+    push_number(&mut text, removals)?;
+    text.extend_from_slice(b" files would have gone, more than the ")?;
+    push_number(&mut text, most)?;
+    text.extend_from_slice(b" that --most-removed allows; nothing was changed\n")?;
     Ok(text)
 }

@@ -1,7 +1,7 @@
 use base::limits::MAX_FILE_BYTES;
 use base::{Bytes, Text};
 use command_words::{Command, read_command};
-use end_notes::{Wrong, trouble_note, usage_note, wrong_of};
+use end_notes::{Wrong, removals_note, trouble_note, usage_note, wrong_of};
 use fault_notes::{Colours, Repeated, file_in, note_of, report_of, rest_of};
 use outside::Trouble;
 use pan_top::Status;
@@ -93,6 +93,23 @@ fn build_notes(rt: &HostRuntime, words: &[Text], faults: &[Bytes]) -> Result<Vec
     }
 }
 
+/// The note on a build that was to take away so many files, more than it may.
+fn removals_notes(
+    rt: &HostRuntime,
+    words: &[Text],
+    removals: usize,
+) -> Result<Vec<u8>, AllocError> {
+    match read_command(rt.alloc(), words)? {
+        Some(Command::Build(work)) => removals_note(
+            rt.alloc(),
+            work.out.as_str(),
+            removals as u64,
+            work.most_removed.unwrap_or(0),
+        ),
+        _ => Ok(Vec::new(rt.alloc())),
+    }
+}
+
 /// What is wrong with words that are no command.
 fn wrong_in(rt: &HostRuntime, words: Option<&Vec<Text>>) -> Result<Wrong, AllocError> {
     match words {
@@ -107,13 +124,15 @@ fn notes_on(rt: &HostRuntime, status: Status, told: &Told<'_>) -> Result<Vec<u8>
         (Status::SourceFault, _) => trouble_notes(rt, told.source),
         (Status::ShelfFault, _) => trouble_notes(rt, told.shelf),
         (Status::SomeFaults, Some(words)) => build_notes(rt, words, told.faults),
+        (Status::TooManyRemovals(removals), Some(words)) => removals_notes(rt, words, removals),
         _ => Ok(Vec::new(rt.alloc())),
     }
 }
 
 /// Writes to standard error what a reader wants to know of a call that ended: of a build the meaning and the place of
-/// each fault, of a failed device the path and the reason, of wrong words the word and the usage. Nothing where the
-/// variable PAN_NOTES is `off`, and where memory is wanting; the status stays as it is.
+/// each fault, of a failed device the path and the reason, of wrong words the word and the usage, of one that was to take
+/// away too many files how many. Nothing where the variable PAN_NOTES is `off`, and where memory is wanting; the status
+/// stays as it is.
 pub fn write_notes(rt: &HostRuntime, status: Status, told: &Told<'_>) {
     match variable(rt, "PAN_NOTES") {
         Ok(value) if value.as_str() != "off" => {}

@@ -6,10 +6,11 @@ use Rattle.rebuild.specs.Engines.{Meanings}
 use Rattle.session.specs.Sessions.{state_in}
 use Rattle.site_build.specs.Ends.{IsFailureOf, Stopped}
 use Rattle.site_build.specs.declared.ends.Device.TheVariants as D
-use Rattle.site_build.specs.Session.{PublishesPart, session_for, state_for}
+use Rattle.publication.specs.Changing.{BegunOver}
+use Rattle.site_build.specs.Session.{session_for, state_for}
 use Rattle.site_build.specs.declared.ends.End.TheVariants as E
 use Rattle.site_build.proofs.Ending.{none_of}
-use Rattle.site_build.proofs.Publishing.{part_none}
+use Rattle.site_build.proofs.Publishing.{over_none}
 use Rattle.site_build.proofs.Settling.{if_told, spent_nothing}
 use Rattle.publication.specs.Stands.{Stand}
 use Rattle.outside.specs.Causes.{Counted}
@@ -36,9 +37,11 @@ nothing_done M (Some (Build w)) s = record {
   session = inr (record {
     end = E.Memory;
     is = inl refl;
-    text = if_told (λ ps. Wrote (session_for M w ps).text E.Memory S.Memory s.held s.held) s.coming (λ ps told. (refl, none_of (session_for M w ps).text s.held));
-    shelf = if_told (λ ps. Stopped E.Memory (session_for M w ps).shelf s.cell s.cell) s.coming (λ ps told. still (session_for M w ps).shelf s.cell);
-    order = λ tells. if_told (λ ps. PublishesPart (session_for M w ps).wants s.cell s.cell s.changes s.changes) s.coming (λ ps told. part_none (session_for M w ps).wants s.cell s.cell s.changes s.changes (λ n. refl) refl);
+    names = [];
+    listed = inl (refl, λ n. refl);
+    text = if_told (λ ps. Wrote (session_for M w [] ps).text E.Memory S.Memory s.held s.held) s.coming (λ ps told. (refl, none_of (session_for M w [] ps).text s.held));
+    shelf = if_told (λ ps. Stopped E.Memory (session_for M w [] ps).shelf s.cell s.cell) s.coming (λ ps told. still (session_for M w [] ps).shelf s.cell);
+    order = λ tells. if_told (λ ps. BegunOver (session_for M w [] ps).wants [] s.cell s.cell s.changes s.changes) s.coming (λ ps told. over_none (session_for M w [] ps).wants [] s.cell s.cell s.changes s.changes (λ n. refl) refl);
     spent = if_told _ s.coming (λ ps told. spent_nothing (state_for M w ps) s.spent);
     taken = inl refl;
     source_opened = inl refl;

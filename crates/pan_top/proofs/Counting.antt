@@ -54,3 +54,4 @@ not_out_after ended.Clean is = cc
 not_out_after ended.SomeFaults is = cc
 not_out_after ended.NumbersSpent is = cc
 not_out_after ended.TooMuch is = cc
+not_out_after (ended.TooManyRemovals removals) is = cc

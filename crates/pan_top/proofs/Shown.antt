@@ -1,12 +1,12 @@
 -- A demo, and the line of its end.
-use Rattle.std.proofs.Common.{◌≡◌, ℕ, List, [], ◌++◌, length, take, drop, Option, inl, inr, refl, sym, ap, subst, ◌∙◌, append_assoc, append-nil, ◌∷◌}
+use Rattle.std.proofs.Common.{◌≡◌, ℕ, Bool, true, false, List, [], ◌++◌, length, take, drop, Option, inl, inr, refl, sym, ap, subst, ◌∙◌, append_assoc, append-nil, ◌∷◌}
 use Rattle.std.specs.Prelude.{option_map}
 use Rattle.compiler.specs.Standing.{Counts, HasSpentAtMost, SpendsAs}
 use Rattle.compiler.proofs.Counting.{at_most}
 use Rattle.demo.specs.Demo.{Ends, Breaks}
 use Rattle.demo.proofs.Turning.{part_by, text_by}
 use Rattle.outside.specs.Contents.{Appends, AppendsPart}
-use Rattle.session.specs.Sessions.{Next, State, state_in, end_of, end_line}
+use Rattle.session.specs.Sessions.{Next, GoesOn, Quits, SpendsNumbers, IsTooMuch, State, state_in, end_of, end_line, ended_by}
 use Rattle.session.specs.declared.Ended.{Ended}
 use Rattle.session.specs.declared.Ended.TheVariants as ended
 use Rattle.pan_top.specs.Demos.{Shows}
@@ -32,6 +32,7 @@ spends_most ended.Clean s before now spent = at_most s before now spent
 spends_most ended.SomeFaults s before now spent = at_most s before now spent
 spends_most ended.NumbersSpent s before now spent = spent
 spends_most ended.TooMuch s before now spent = spent
+spends_most (ended.TooManyRemovals removals) s before now spent = at_most s before now spent
 
 module _ {E : Type 0} (x : Next E) (how : Ended) (before now : Counts) (old mid : Option (List ℕ)) (ends : Ends x how before now old mid) where
   spent_is : SpendsAs (end_of x) (state_in x) before now
@@ -61,3 +62,18 @@ module _ {E : Type 0} (x : Next E) (how : Ended) (before now : Counts) (old mid 
 -- it was broken off
 pub shown_part : {E : Type 0} (x : Next E) (status : Status) (old new : Option (List ℕ)) (before now : Counts) → IsCut status → Breaks x before now old new → Shows x status old new before now
 shown_part x status old new before now cut b = inr (cut, part_longer old new (state_in x).text (end_line (end_of x)) b.text, b.spent)
+
+-- no demo ends so
+pub never_many : {E : Type 0} (x : Next E) (removals : ℕ) → ended.TooManyRemovals removals ≡ end_of x → ⊥
+never_many (GoesOn t) removals is = by t.has_faults is
+  where
+    by : (b : Bool) → ended.TooManyRemovals removals ≡ ended_by b → ⊥
+    by true is = cc
+    by false is = cc
+never_many (Quits t) removals is = by t.has_faults is
+  where
+    by : (b : Bool) → ended.TooManyRemovals removals ≡ ended_by b → ⊥
+    by true is = cc
+    by false is = cc
+never_many (SpendsNumbers t) removals is = cc
+never_many (IsTooMuch t) removals is = cc

@@ -4,11 +4,12 @@ use Rattle.command_words.specs.declared.commands.Work.{Work}
 use Rattle.compiler.specs.Standing.{HasSpentAtMost, SpendsAs}
 use Rattle.outside.specs.Causes.{Counted}
 use Rattle.outside.specs.Contents.{AppendsPart}
-use Rattle.publication.specs.Changing.{Tells}
+use Rattle.outside.specs.Cells.{AreSame}
+use Rattle.publication.specs.Changing.{AreListed, BegunOver, Tells}
 use Rattle.rebuild.specs.Engines.{Meanings}
 use Rattle.session.specs.declared.Ended.{Ended}
 use Rattle.site_build.specs.Ends.{IsFailureOf, Stopped}
-use Rattle.site_build.specs.Session.{session_for, state_for, Finished, TakesEarly, IsPassed, IsPerhapsOpened, Publishes, PublishesPart}
+use Rattle.site_build.specs.Session.{session_for, state_for, Finishes, TakesEarly, IsPassed, IsPerhapsOpened}
 use Rattle.site_build.specs.declared.ends.Device.TheVariants as D
 use Rattle.site_build.specs.declared.ends.End.{End}
 use Rattle.site_build.specs.declared.ends.End.TheVariants as E
@@ -26,14 +27,12 @@ Wrote text e status old new = Says (status_of e) (line_of e) status old new
 
 module _ {T : Type 0} (means : Meanings T) (w : Work) (status : Status) (before after : Scene) where
   -- It came to its end: its text, the shelf, the changes of it in order, the runs and the steps are
-  -- the session's, and no call of a device failed.
+  -- the session's, over the names on the shelf, and no call of a device failed.
   pub record Built : Type 0 where
     pub ended : Ended
     pub is : status ≡ status_after ended
-    pub session : IfSome before.coming (λ ps. Finished (session_for means w ps) ended before.held
-        after.held before.cell after.cell)
-    pub order : Tells before.cell → IfSome before.coming (λ ps. Publishes
-        (session_for means w ps).wants before.cell after.cell before.changes after.changes)
+    pub session : Finishes means w ended before.coming before.held after.held before.cell
+        after.cell before.changes after.changes
     pub spent : IfSome before.coming (λ ps. SpendsAs ended (state_for means w ps) before.spent
         after.spent)
     pub taken : IsPassed before.coming after.coming
@@ -47,12 +46,16 @@ module _ {T : Type 0} (means : Meanings T) (w : Work) (status : Status) (before 
   pub record BuiltPart : Type 0 where
     pub end : End
     pub is : (status ≡ status_of end) ⊎ IsCut status
-    pub text : IfSome before.coming (λ ps. Wrote (session_for means w ps).text end status
+    pub names : List (List ℕ)
+    pub listed : ((after.changes ≡ before.changes) × AreSame before.cell after.cell)
+        ⊎ AreListed names before.cell
+    pub text : IfSome before.coming (λ ps. Wrote (session_for means w names ps).text end status
         before.held after.held)
-    pub shelf : IfSome before.coming (λ ps. Stopped end (session_for means w ps).shelf before.cell
-        after.cell)
-    pub order : Tells before.cell → IfSome before.coming (λ ps. PublishesPart
-        (session_for means w ps).wants before.cell after.cell before.changes after.changes)
+    pub shelf : IfSome before.coming (λ ps. Stopped end (session_for means w names ps).shelf
+        before.cell after.cell)
+    pub order : Tells before.cell → IfSome before.coming (λ ps. BegunOver
+        (session_for means w names ps).wants names before.cell after.cell before.changes
+        after.changes)
     pub spent : IfSome before.coming (λ ps. HasSpentAtMost (state_for means w ps) before.spent
         after.spent)
     pub taken : TakesEarly end before.coming after.coming

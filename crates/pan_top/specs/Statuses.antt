@@ -21,6 +21,7 @@ exit_code_of S.Memory = 8
 exit_code_of S.NumbersSpent = 9
 exit_code_of S.TooManyLines = 10
 exit_code_of S.TooMuch = 11
+exit_code_of (S.TooManyRemovals removals) = 13
 
 -- of a session that came to its end
 abbrev pub status_after : Ended → Status
@@ -28,6 +29,7 @@ status_after ended.Clean = S.Clean
 status_after ended.SomeFaults = S.SomeFaults
 status_after ended.NumbersSpent = S.NumbersSpent
 status_after ended.TooMuch = S.TooMuch
+status_after (ended.TooManyRemovals removals) = S.TooManyRemovals removals
 
 -- of a build that ended early, and the line of its end
 abbrev pub status_of : End → Status

@@ -4,8 +4,10 @@ use Rattle.command_words.specs.declared.commands.Work.{Work}
 use Rattle.compiler.specs.Compiler.{nothing}
 use Rattle.engine_turns.specs.declared.core_data.Core.{Core}
 use Rattle.outside.specs.Causes.{Counted}
-use Rattle.outside.specs.Cells.{AreSame}
+use Rattle.outside.specs.Cells.{Cell, AreSame}
 use Rattle.outside.specs.declared.source.MemFile.{MemFile}
+use Rattle.publication.specs.Changing.{AreListed}
+use Rattle.publication.specs.declared.publisher.Publisher.{Publisher}
 use Rattle.rebuild.specs.Engines.{Meanings}
 use Rattle.session.specs.Sessions.{started, ended_by}
 use Rattle.site_build.specs.Ends.{IsFailureOf, OfSource, OfShelf, caller_of}
@@ -13,7 +15,7 @@ use Rattle.site_build.specs.Session.{IsPerhapsOpened, engine_for, limits_of}
 use Rattle.site_build.specs.declared.ends.Device.TheVariants as D
 use Rattle.site_build.specs.declared.ends.End as early
 use Rattle.site_build.specs.declared.ends.End.TheVariants as E
-use Rattle.watch.specs.Played.{Finished, Reel, Stopped, reel}
+use Rattle.watch.specs.Played.{Finished, HasNames, Reel, Stopped, reel}
 use Rattle.watch.specs.Steps.{Spot, spot}
 use Rattle.watch.specs.declared.ends.End.{End}
 use Rattle.watch.specs.declared.ends.End.TheVariants as W
@@ -40,10 +42,17 @@ line_at W.TooMuch = codes "too much\n"
 line_at W.TooManyLines = codes "too many lines\n"
 line_at W.Memory = []
 
--- what a watcher's lines find there, beside the engine and whether the last report had a fault
-abbrev pub spot_in : {T : Type 0} → Core T → Scene → Bool → Spot T
-spot_in core s has_faults =
-    spot core s.coming has_faults s.spent s.source_count s.shelf_count s.cell
+-- what a watcher's lines find there, beside the engine, whether the last report had a fault, and the
+-- publisher
+abbrev pub spot_in : {T : Type 0} → Core T → Publisher → Scene → Bool → Spot T
+spot_in core publisher s has_faults =
+    spot core s.coming has_faults s.spent s.source_count s.shelf_count s.cell publisher
+
+-- the publisher knows the names on the shelf, and no other
+pub record HasListed (publisher : Publisher) (cell : List ℕ → Cell) : Type 0 where
+  pub names : List (List ℕ)
+  pub listed : AreListed names cell
+  pub has : HasNames publisher names
 
 -- an end that comes before a watcher's session begins
 abbrev pub IsOpening : early.End → Type 0
@@ -81,25 +90,33 @@ Closes None has_faults status old new =
 Closes (Some end) has_faults status old new = Says (status_at end) (line_at end) status old new
 
 module _ {T : Type 0} (means : Meanings T) (w : Work) where
-  -- the session was played from one spot to another, to its end or to this one
-  abbrev pub PlaysTo : Option End → Bool → List (List MemFile) → Reel → Spot T → (Bool → Spot T)
-      → Type 0
-  PlaysTo None has_faults ps r first last = Finished (engine_for means w) w.directories
-      (limits_of w) (started nothing ps) r first (last has_faults)
-  PlaysTo (Some end) has_faults ps r first last = (faults : Bool) × Stopped (engine_for means w)
-      w.directories (limits_of w) (started nothing ps) end r first (last faults)
+  -- the session was played from one spot to another, to its end or to this one, over a shelf with
+  -- these names
+  abbrev pub PlaysTo : Option End → Bool → List (List ℕ) → List (List MemFile) → Reel → Spot T
+      → (Bool → Spot T) → Type 0
+  PlaysTo None has_faults names ps r first last = Finished (engine_for means w) w.directories
+      (limits_of w) (started nothing ps names) r first (last has_faults)
+  PlaysTo (Some end) has_faults names ps r first last = (faults : Bool) × Stopped
+      (engine_for means w) w.directories (limits_of w) (started nothing ps names) end r first
+      (last faults)
 
-  -- A session was played, with the pictures that the source had to give. The roots are those that the
-  -- words name, and the lines and the sink have counted the failure that ended it, and no other.
+  -- A session was played, with the pictures that the source had to give, over the names on the shelf.
+  -- Its publisher may remove as many names as the words allow. The roots are those that the words
+  -- name, and the lines and the sink have counted the failure that ended it, and no other.
   pub record Plays (status : Status) (before after : Scene) : Type 0 where
     pub end : Option End
     pub has_faults : Bool
     pub first : Core T
     pub last : Core T
+    pub publisher : Publisher
+    pub publisher_last : Publisher
+    pub names : List (List ℕ)
+    pub listed : AreListed names before.cell
+    pub bound : publisher.most ≡ w.most_removed
     pub held : Option (List ℕ)
-    pub session : IfSome before.coming (λ ps. PlaysTo end has_faults ps
-        (reel before.lines after.lines before.held held) (spot_in first before false)
-        (spot_in last after))
+    pub session : IfSome before.coming (λ ps. PlaysTo end has_faults names ps
+        (reel before.lines after.lines before.held held) (spot_in first publisher before false)
+        (spot_in last publisher_last after))
     pub closes : Closes end has_faults status held after.held
     pub source_opened : after.source_opened ≡ Some w.source
     pub shelf_opened : after.shelf_opened ≡ Some w.out

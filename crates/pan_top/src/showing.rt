@@ -55,6 +55,7 @@ pub fn show<R: Runner, O: Sink, L: Ledger>(
         Ok(Ended::TooMuch) => say(out, b"too much\n", Status::TooMuch),
         Ok(Ended::Clean) => Status::Clean,
         Ok(Ended::SomeFaults) => Status::SomeFaults,
+        Ok(Ended::TooManyRemovals(_)) => unreachable!(),
         Err(End::Out) => Status::OutFault,
         Err(End::Memory) => Status::Memory,
     }

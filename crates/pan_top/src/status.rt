@@ -29,6 +29,8 @@ pub enum Status {
     TooManyLines,
     /// The source is past the limits of a scan.
     TooMuch,
+    /// A build was to remove so many files of OUT, which is more than it may: nothing was changed.
+    TooManyRemovals(usize),
 }
 
 impl Status {
@@ -48,6 +50,7 @@ impl Status {
             Status::NumbersSpent => 9,
             Status::TooManyLines => 10,
             Status::TooMuch => 11,
+            Status::TooManyRemovals(_) => 13,
         }
     }
 
@@ -60,6 +63,7 @@ impl Status {
             Ended::SomeFaults => Status::SomeFaults,
             Ended::NumbersSpent => Status::NumbersSpent,
             Ended::TooMuch => Status::TooMuch,
+            Ended::TooManyRemovals(removals) => Status::TooManyRemovals(removals),
         }
     }
 

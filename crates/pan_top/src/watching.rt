@@ -9,7 +9,7 @@ ghost use Rattle.site_build.specs.declared.ends.Device.{Device};
 ghost use Rattle.watch.specs.declared.ends.End.TheVariants as ends;
 ghost use Rattle.pan_top.specs.Scenes.{scene};
 ghost use Rattle.pan_top.specs.Statuses.{Says};
-ghost use Rattle.pan_top.specs.Watches.{IsOpening, SourceAt, WatchCall, line_at, status_at};
+ghost use Rattle.pan_top.specs.Watches.{HasListed, IsOpening, SourceAt, WatchCall, line_at, status_at};
 ghost use Rattle.pan_top.specs.declared.status.Status.{Status};
 
 use crate::closing::{close_build, say};
@@ -34,6 +34,8 @@ fn open<S: Source, H: Shelf>(
     shelf: &mut H,
 ) -> Result<Publisher, End>
     ensures knows { IfOk result (λ publisher. Knows publisher (H.cell shelf.new)) }
+    ensures most { IfOk result (λ publisher. publisher.most ≡ work.now.most_removed) }
+    ensures names { IfOk result (λ publisher. HasListed publisher (H.cell shelf.old)) }
     ensures coming { S.coming source.new ≡ S.coming source.old }
     ensures same { AreSame (H.cell shelf.old) (H.cell shelf.new) }
     ensures changes { H.changes shelf.new ≡ H.changes shelf.old }
@@ -54,7 +56,7 @@ fn open<S: Source, H: Shelf>(
     open_source(source, work.source.as_str())?;
     open_shelf(shelf, work.out.as_str())?;
     let listed = list_shelf(alloc, shelf)?;
-    let publisher = Publisher::new(alloc, &listed)?;
+    let publisher = Publisher::new(alloc, &listed, work.most_removed)?;
     Ok(publisher)
 }
 

@@ -60,11 +60,11 @@ or_true false = refl
 opens_removed : (t : Trouble) (m n : List ℕ) → (called t ≡ m) × (t.call ≡ Remove) → unsettles n t ≡ bytes_eq m n
 opens_removed t m n on = rw (on.1, on.0) refl
 
-any_opens : (ts : List Trouble) (trouble : Option Trouble) (m n : List ℕ) → IfSome trouble (λ t. (called t ≡ m) × (t.call ≡ Remove)) → list_any (unsettles n) (ts ++ one_or_none trouble) ≡ (list_any (unsettles n) ts || (is_some trouble && bytes_eq m n))
+pub any_opens : (ts : List Trouble) (trouble : Option Trouble) (m n : List ℕ) → IfSome trouble (λ t. (called t ≡ m) × (t.call ≡ Remove)) → list_any (unsettles n) (ts ++ one_or_none trouble) ≡ (list_any (unsettles n) ts || (is_some trouble && bytes_eq m n))
 any_opens ts None m n on = list_any-append (unsettles n) ts []
 any_opens ts (Some t) m n on = list_any-append (unsettles n) ts (t ∷ []) ∙ ap (λ b. list_any (unsettles n) ts || b) (ap (λ b. b || false) (opens_removed t m n on) ∙ or_false (bytes_eq m n))
 
-fit_removal : (ws : List Want) (trouble : Option Trouble) (m : List ℕ) → goes ws m ≡ true → IfSome trouble (λ t. (called t ≡ m) × (t.call ≡ Remove)) → list_all (fits_removal ws) (one_or_none trouble) ≡ true
+pub fit_removal : (ws : List Want) (trouble : Option Trouble) (m : List ℕ) → goes ws m ≡ true → IfSome trouble (λ t. (called t ≡ m) × (t.call ≡ Remove)) → list_all (fits_removal ws) (one_or_none trouble) ≡ true
 fit_removal ws None m going on = refl
 fit_removal ws (Some t) m going on = rw (on.1, on.0, going) refl
 

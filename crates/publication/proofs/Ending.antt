@@ -6,6 +6,7 @@ use Rattle.std.specs.HashMap.{get}
 use Rattle.std.proofs.lemmas.Slice.Eq.{bytes_eq-Decides}
 use Rattle.outside.specs.Cells.{Cell, with_content, AllBut}
 use Rattle.publication.specs.declared.profile.Profile.{Profile}
+use Rattle.publication.specs.declared.answer.Publication.TheVariants.{Done}
 use Rattle.publication.specs.declared.trouble.Trouble.{Trouble}
 use Rattle.publication.specs.declared.trouble.Which.{Which}
 use Rattle.publication.specs.declared.trouble.Which.TheVariants.{Json, Dep}
@@ -163,5 +164,5 @@ clearing_begins ws names p count start covers knows = record {
   going = λ n going. inl refl;
 }
 
-pub placing_done : (ws : List Want) (ts : List Trouble) (before count : ℕ) (start now : List ℕ → Cell) → Placing ws [] ts before count start now → Published ws ts before count start now
+pub placing_done : (ws : List Want) (ts : List Trouble) (before count : ℕ) (start now : List ℕ → Cell) → Placing ws [] ts before count start now → Published ws (Done ts) before count start now
 placing_done ws ts before count start now p = record { fit = p.fit; causes = p.causes; most = p.most; stands = λ n. p.stands n }

@@ -33,17 +33,17 @@ off_by Dep Put object n ej ed = (refl, rw ed refl)
 abbrev On : Profile → Option Trouble → Type 0
 On p trouble = IfSome trouble (λ t. (t.object ≡ p.name) × (is_removal t.call ≡ false))
 
-off : (p : Profile) (trouble : Option Trouble) (n : List ℕ) → On p trouble → bytes_eq (json_name p.name) n ≡ false → bytes_eq (dep_name p.name) n ≡ false → (list_any (keeps n) (one_or_none trouble) ≡ false) × (list_any (unsettles n) (one_or_none trouble) ≡ false)
+pub off : (p : Profile) (trouble : Option Trouble) (n : List ℕ) → On p trouble → bytes_eq (json_name p.name) n ≡ false → bytes_eq (dep_name p.name) n ≡ false → (list_any (keeps n) (one_or_none trouble) ≡ false) × (list_any (unsettles n) (one_or_none trouble) ≡ false)
 off p None n on ej ed = (refl, refl)
 off p (Some t) n on ej ed =
     let o = off_by t.which t.call t.object n (rw on.0 ej) (rw on.0 ed) in
     (rw (o.0) refl, rw (o.1) refl)
 
 -- troubles so far and one more or none
-any_more : (test : Trouble → Bool) (ts : List Trouble) (trouble : Option Trouble) → list_any test ts ≡ false → list_any test (ts ++ one_or_none trouble) ≡ list_any test (one_or_none trouble)
+pub any_more : (test : Trouble → Bool) (ts : List Trouble) (trouble : Option Trouble) → list_any test ts ≡ false → list_any test (ts ++ one_or_none trouble) ≡ list_any test (one_or_none trouble)
 any_more test ts trouble none = rw (list_any-append test ts (one_or_none trouble), none) refl
 
-any_same : (test : Trouble → Bool) (ts : List Trouble) (trouble : Option Trouble) → list_any test (one_or_none trouble) ≡ false → list_any test (ts ++ one_or_none trouble) ≡ list_any test ts
+pub any_same : (test : Trouble → Bool) (ts : List Trouble) (trouble : Option Trouble) → list_any test (one_or_none trouble) ≡ false → list_any test (ts ++ one_or_none trouble) ≡ list_any test ts
 any_same test ts trouble none = list_any-append test ts (one_or_none trouble) ∙ ap (λ b. list_any test ts || b) none ∙ or_false (list_any test ts)
   where
     or_false : (b : Bool) → (b || false) ≡ b

@@ -4,7 +4,7 @@ use Rattle.std.specs.List.{list_any}
 use Rattle.std.specs.List.Sorted.{IsSorted}
 use Rattle.std.specs.Cmp.Lexicographic.{slice_cmp}
 use Rattle.std.specs.Ordering.{nat_cmp}
-use Rattle.outside.specs.Cells.{Cell, with_content}
+use Rattle.outside.specs.Cells.{Cell, AreSame, with_content}
 use Rattle.outside.specs.declared.shelf.Change.{Change}
 use Rattle.outside.specs.declared.shelf.Change.TheVariants.{Put, Removed}
 use Rattle.publication.specs.declared.want.Want.{Want}
@@ -84,3 +84,14 @@ Makes ws names old new before now = Made ws (planned names ws old) old new befor
 abbrev pub Begins : List Want → List (List ℕ) → (List ℕ → Cell) → (List ℕ → Cell)
     → Option (List Change) → Option (List Change) → Type 0
 Begins ws names old new before now = Begun ws (planned names ws old) old new before now
+
+-- .. where there is one; where there is none, nothing was done
+abbrev pub MadeOver : Option (List Want) → List (List ℕ) → (List ℕ → Cell) → (List ℕ → Cell)
+    → Option (List Change) → Option (List Change) → Type 0
+MadeOver None names old new before now = (now ≡ before) × AreSame old new
+MadeOver (Some ws) names old new before now = Makes ws names old new before now
+
+abbrev pub BegunOver : Option (List Want) → List (List ℕ) → (List ℕ → Cell) → (List ℕ → Cell)
+    → Option (List Change) → Option (List Change) → Type 0
+BegunOver None names old new before now = (now ≡ before) × AreSame old new
+BegunOver (Some ws) names old new before now = Begins ws names old new before now

@@ -8,6 +8,8 @@ use Rattle.std.specs.HashMap.{get}
 use Rattle.outside.specs.Cells.{Cell}
 use Rattle.outside.specs.declared.shelf.Change.{Change}
 use Rattle.outside.specs.declared.shelf.Change.TheVariants.{Put, Removed}
+use Rattle.publication.specs.declared.answer.Publication.{Publication}
+use Rattle.publication.specs.declared.answer.Publication.TheVariants.{Done, TooManyRemovals}
 use Rattle.publication.specs.declared.profile.Profile.{Profile}
 use Rattle.publication.specs.declared.publisher.Publisher.{Publisher}
 use Rattle.publication.specs.declared.trouble.Trouble.{Trouble}
@@ -91,9 +93,9 @@ pub record Writes (cell : List ℕ → Cell) (profiles : List Profile)
   pub failed : troubles_now ≡ troubles ++ flat_map write_troubles calls
   pub did : log_now ≡ done log (flat_map (write_changes cell) calls)
 
--- What a publication did to the shelf, and which of its calls failed: the names that may be there
--- and that no profile wants went, in byte order, and then the profiles were written, in the order
--- of the list.
+-- What a publication that was made did to the shelf, and which of its calls failed: the names that
+-- may be there and that no profile wants went, in byte order, and then the profiles were written, in
+-- the order of the list.
 pub record Logged (p : Publisher) (profiles : List Profile) (troubles : List Trouble) (cell : List ℕ
     → Cell) (log log_now : Option (List Change)) : Type 0 where
   pub gone : List (List ℕ)
@@ -104,6 +106,12 @@ pub record Logged (p : Publisher) (profiles : List Profile) (troubles : List Tro
   pub between : Option (List Change)
   pub removes : Removes gone [] removal_failures log between
   pub writes : Writes cell profiles removal_failures troubles between log_now
+
+-- .. and one of which too many names were to go did nothing
+abbrev pub LoggedBy : Publisher → List Profile → Publication → (List ℕ → Cell)
+    → Option (List Change) → Option (List Change) → Type 0
+LoggedBy p profiles (Done troubles) cell log log_now = Logged p profiles troubles cell log log_now
+LoggedBy p profiles (TooManyRemovals removals) cell log log_now = log_now ≡ log
 
 -- what a name that was to hold these bytes adds
 abbrev pub put_by : Option Call → List ℕ → List ℕ → Cell → List Change

@@ -1,11 +1,13 @@
 -- What a publication promises.
-use Rattle.std.specs.Prelude.{◌≡◌, ◌≤◌, ◌+◌, ◌⊎◌, ℕ, Bool, true, false, List, [], ◌∷◌, ◌++◌, Option, Some, None, IfSome, is_some, option_map, length, bytes_eq, not, ◌||◌, if◌then◌else◌}
-use Rattle.std.specs.List.{list_all, list_any}
+use Rattle.std.specs.Prelude.{◌≡◌, ◌≤◌, ◌+◌, ◌⊎◌, ℕ, Bool, true, false, List, [], ◌∷◌, ◌++◌, Option, Some, None, IfSome, is_some, option_map, length, bytes_eq, not, ◌||◌, ◌&&◌, if◌then◌else◌}
+use Rattle.std.specs.List.{list_all, list_any, IsDistinct}
 use Rattle.std.specs.HashMap.{get}
 use Rattle.std.specs.HashSet.{HashSet, contains}
 use Rattle.base.specs.Integers.{saturated}
 use Rattle.outside.specs.Causes.{Rose}
-use Rattle.outside.specs.Cells.{Cell, Sets, AllBut}
+use Rattle.outside.specs.Cells.{Cell, Sets, AllBut, AreSame}
+use Rattle.publication.specs.declared.answer.Publication.{Publication}
+use Rattle.publication.specs.declared.answer.Publication.TheVariants.{Done}
 use Rattle.publication.specs.declared.trouble.Trouble.{Trouble}
 use Rattle.publication.specs.declared.publisher.Known.{Known}
 use Rattle.publication.specs.declared.publisher.Known.TheVariants.{Unread, Holds}
@@ -18,7 +20,8 @@ use Rattle.publication.specs.OwnNames.{is_own}
 use Rattle.publication.specs.declared.want.Want.{Want}
 use Rattle.publication.specs.Wants.{wanted, wants_of, goes}
 use Rattle.publication.specs.Stands.{Stand, Meets, Stands, untouched, AtStart, Has, Unspecified}
-use Rattle.publication.specs.Troubles.{called, fits, fits_removal, published, name_of, keeps, unsettles, is_removal}
+use Rattle.publication.specs.Troubles.{called, fits, fits_removal, published, name_of, keeps, passes, unsettles, is_removal}
+use Rattle.publication.specs.Bounds.{Bounded, published_by, stays, troubles_of}
 
 -- how many calls failed, of one
 abbrev pub failures : {A : Type 0} → Option A → ℕ
@@ -29,13 +32,14 @@ failures (Some x) = 1
 abbrev pub AtMost : ℕ → ℕ → ℕ → Type 0
 AtMost failed before now = saturated (before + failed) ≤ now
 
--- a publication was done, but for these troubles; no other call failed
-pub record Published (ws : List Want) (troubles : List Trouble) (before now : ℕ) (old new : List ℕ
+-- A publication was made, but for its troubles, and no other call failed; or nothing was changed, as
+-- too many names were to go.
+pub record Published (ws : List Want) (p : Publication) (before now : ℕ) (old new : List ℕ
     → Cell) : Type 0 where
-  pub fit : list_all (fits ws) troubles ≡ true
-  pub causes : AtMost (length troubles) before now
-  pub most : now ≤ before + length troubles
-  pub stands : Stands (published ws troubles untouched) old new
+  pub fit : list_all (fits ws) (troubles_of p) ≡ true
+  pub causes : AtMost (length (troubles_of p)) before now
+  pub most : now ≤ before + length (troubles_of p)
+  pub stands : Stands (published_by ws p untouched) old new
 
 -- Memory was wanting in one. But for one open name, each name is as it was or as after the
 -- publication with these troubles.
@@ -53,6 +57,10 @@ abbrev pub Allows : Option Known → Option (List ℕ) → Type 0
 Allows None content = content ≡ None
 Allows (Some Unread) content = Unit
 Allows (Some (Holds bytes)) content = content ≡ Some bytes
+
+-- the names that may be there, as a publisher knows
+abbrev pub may_stand_in : Publisher → List ℕ → Bool
+may_stand_in p n = is_some (get bytes_eq p.own n)
 
 -- all that is known of the own names is so
 abbrev pub Knows : Publisher → (List ℕ → Cell) → Type 0
@@ -168,6 +176,47 @@ pub record Sweeps (name : List ℕ) (troubles_old troubles_new : List Trouble) (
   pub is : is_some trouble ≡ not done
   pub on : IfSome trouble (λ t. (called t ≡ name) × (t.call ≡ Remove))
   pub troubles : troubles_new ≡ troubles_old ++ one_or_none trouble
+
+-- the name may be there no more, or its removal failed
+pub record Drops (name : List ℕ) (troubles_old troubles_new : List Trouble)
+    (known known_now : List ℕ → Bool) : Type 0 where
+  pub trouble : Option Trouble
+  pub on : IfSome trouble (λ t. (called t ≡ name) × (t.call ≡ Remove))
+  pub troubles : troubles_new ≡ troubles_old ++ one_or_none trouble
+  pub keys : (n : List ℕ) → known_now n ≡ (if bytes_eq name n then is_some trouble else known n)
+
+-- Names being removed: which may be there, where at the start these might. Those of `rest` are still
+-- to go.
+pub record Dropping (ws : List Want) (rest : List (List ℕ)) (troubles : List Trouble)
+    (start known : List ℕ → Bool) : Type 0 where
+  pub removals : list_all (fits_removal ws) troubles ≡ true
+  pub keys : (n : List ℕ) → known n ≡ (if list_any (λ m. bytes_eq m n) rest || not (goes ws n)
+      then start n else (start n && list_any (unsettles n) troubles))
+  pub fresh : (n : List ℕ) → list_any (λ m. bytes_eq m n) rest ≡ true
+      → list_any (unsettles n) troubles ≡ false
+  pub starts : (n : List ℕ) → list_any (λ m. bytes_eq m n) rest ≡ true → start n ≡ true
+  pub once : IsDistinct bytes_eq rest
+
+-- A publication under way, in the same way: the names of `rest` are still to get their bytes.
+pub record Bringing (ws rest : List Want) (troubles : List Trouble) (start known : List ℕ
+    → Bool) : Type 0 where
+  pub keys : (n : List ℕ) → known n
+      ≡ (if is_some (wanted rest n) then start n else stays ws troubles start n)
+  pub fresh : (n : List ℕ) → is_some (wanted rest n) ≡ true
+      → list_any (passes n) troubles ≡ false
+  pub same : (n : List ℕ) → is_some (wanted rest n) ≡ true → is_some (wanted ws n) ≡ true
+
+-- the files of a profile may be there, but for one that was passed over
+abbrev pub MayBring : Profile → Option Trouble → (List ℕ → Bool) → (List ℕ → Bool) → Type 0
+MayBring p trouble known known_now = (n : List ℕ) → known_now n
+    ≡ ((is_some (wanted (wants_of (p ∷ [])) n)
+    && not (list_any (passes n) (one_or_none trouble))) || known n)
+
+-- nothing was changed, or memory was wanting in a publication that is within the bound
+abbrev pub InterruptedWithin : Option ℕ → List Want → (List ℕ → Bool) → ℕ → ℕ → (List ℕ → Cell)
+    → (List ℕ → Cell) → Type 0
+InterruptedWithin most ws may_stand before now old new = AreSame old new
+    ⊎ ((i : Interrupted ws before now old new) × Bounded most ws may_stand (Done i.troubles))
 
 -- the set of the names that profiles want
 abbrev pub Names : {S : Type 0} → HashSet (List ℕ) S → List Want → Type 0

@@ -40,10 +40,13 @@ skips Dep call = false
 abbrev pub unsettles : List ℕ → Trouble → Bool
 unsettles n t = not (is_read t.call) && bytes_eq (called t) n
 
+-- the name was passed over
+abbrev pub passes : List ℕ → Trouble → Bool
+passes n t = skips t.which t.call && bytes_eq (dep_name t.object) n
+
 -- its read failed, or it was passed over: the name is as it was
 abbrev pub keeps : List ℕ → Trouble → Bool
-keeps n t = (is_read t.call && bytes_eq (called t) n)
-    || (skips t.which t.call && bytes_eq (dep_name t.object) n)
+keeps n t = (is_read t.call && bytes_eq (called t) n) || passes n t
 
 -- What stands after a publication in which these calls failed: every wanted name has its bytes, no
 -- other own name is there, and all others are as they were.

@@ -4,26 +4,30 @@ ghost use Rattle.std.specs.Prelude.{cond};
 ghost use Rattle.std.specs.HashMap.{get};
 ghost use Rattle.outside.specs.Causes.{HasCause};
 ghost use Rattle.outside.specs.Cells.{Cell, Sets, AllBut};
-ghost use Rattle.std.specs.Prelude.{is_some, option_map};
+ghost use Rattle.std.specs.Prelude.{is_some, option_map, Bool};
 ghost use Rattle.std.specs.List.Sorted.{IsSorted};
 ghost use Rattle.std.specs.Cmp.Lexicographic.{slice_cmp};
 ghost use Rattle.std.specs.Ordering.{nat_cmp};
+ghost use Rattle.std.specs.List.{IsDistinct};
+ghost use Rattle.std.specs.Prelude.{◌+◌, ◌||◌, length};
+ghost use Rattle.publication.specs.Bounds.{Bounded, RemovesWithin, is_within, may_stand_after, removals_in, stays};
 ghost use Rattle.publication.specs.Changing.{done, Tells};
-ghost use Rattle.publication.specs.Logs.{Logged, LogsPut, Removes, Writes, put_of, removed};
+ghost use Rattle.publication.specs.Logs.{LoggedBy, Logged, LogsPut, Removes, Writes, put_of, removed};
 ghost use Rattle.publication.specs.OwnNames.{is_own, json_name, dep_name};
 ghost use Rattle.publication.specs.Wants.{wants_of, proper, goes, wanted};
-ghost use Rattle.publication.specs.Published.{call_of, Knows, Came, Brings, BringsFile, BringsProfile, Partly, Placing, Clearing, Sweeps, Interrupted, Holding, one_or_none, Covers, Names, Published};
+ghost use Rattle.publication.specs.Published.{call_of, Knows, Came, Brings, BringsFile, BringsProfile, Partly, Placing, Clearing, Sweeps, Interrupted, InterruptedWithin, Holding, one_or_none, Covers, Names, Published, Drops, Dropping, Bringing, MayBring, may_stand_in};
 ghost use Rattle.publication.specs.Listings.{Lists};
 ghost use Rattle.std.specs.HashSet.{contains};
 ghost use Rattle.std.specs.Prelude.{not, ◌&&◌, if◌then◌else◌};
 ghost use Rattle.publication.specs.Troubles.{name_of};
 ghost use Rattle.publication.specs.declared.publisher.Known.{Known};
 
+use crate::answer::{Publication, is_within};
 use crate::own_name::is_own;
 use crate::profile::Profile;
 use crate::reading::holds;
 use crate::trouble::{Call, Trouble, Which, not_removed};
-use base::{Bytes, Text};
+use base::{Bytes, Seq, Text};
 use outside::{Shelf, StoreError};
 use std::alloc::{AllocError, Global};
 use std::collections::{HashMap, HashSet};
@@ -40,6 +44,8 @@ pub(crate) enum Known {
 #[derive(Drop)]
 pub struct Publisher {
     own: HashMap<Text, Known>,
+    /// Names that one publication may remove; any number where there is none.
+    most: Option<u64>,
 }
 
 /// The name gets the bytes, or gives the call that failed.
@@ -54,6 +60,7 @@ fn bring_unread<H: Shelf>(
     ensures unsettles { OnErr result (AllBut (H.cell shelf.old) name.now (H.cell shelf.new)) }
     ensures later { H.fault_count shelf.old ≤ H.fault_count shelf.new }
     ensures opened { H.opened shelf.new ≡ H.opened shelf.old }
+    ensures removals { removals_in (H.changes shelf.new) ≡ removals_in (H.changes shelf.old) }
     ensures log { IfOk result (λ failed. IfSome (H.cell shelf.old name.now)
         (LogsPut name.now bytes.now failed (H.changes shelf.old) (H.changes shelf.new))) }
 {
@@ -77,6 +84,8 @@ fn remove_name<H: Shelf>(shelf: &mut H, name: &str) -> Result<bool, AllocError>
     ensures unsettles { OnErr result (AllBut (H.cell shelf.old) name.now (H.cell shelf.new)) }
     ensures later { H.fault_count shelf.old ≤ H.fault_count shelf.new }
     ensures opened { H.opened shelf.new ≡ H.opened shelf.old }
+    ensures removals { removals_in (H.changes shelf.new)
+        ≤ removals_in (H.changes shelf.old) + 1 }
     ensures log { IfOk result
         (λ gone. H.changes shelf.new ≡ done (H.changes shelf.old) (removed gone name.now)) }
 {
@@ -155,8 +164,9 @@ impl Publisher {
 
     /// Nothing is known of the name any more.
     fn forget(&mut self, name: &Text) -> Result<(), AllocError>
-        ensures { OnOk result ((n : List ℕ) → get bytes_eq self.new.own n
+        ensures own { OnOk result ((n : List ℕ) → get bytes_eq self.new.own n
             ≡ cond (bytes_eq name.now n) (Some Known.Unread) (get bytes_eq self.old.own n)) }
+        ensures most { self.new.most ≡ self.old.most }
     {
         self.own.insert(name.share()?, Known::Unread)?;
         Ok(())
@@ -164,9 +174,10 @@ impl Publisher {
 
     /// The name is known to hold these bytes.
     fn note(&mut self, alloc: Global, name: &Text, bytes: &[u8]) -> Result<(), AllocError>
-        ensures { OnOk result ((n : List ℕ) → get bytes_eq self.new.own n
+        ensures own { OnOk result ((n : List ℕ) → get bytes_eq self.new.own n
             ≡ cond (bytes_eq name.now n) (Some (Known.Holds bytes.now))
             (get bytes_eq self.old.own n)) }
+        ensures most { self.new.most ≡ self.old.most }
     {
         let bytes = Bytes::from_slice(alloc, bytes)?;
         self.own.insert(name.share()?, Known::Holds(bytes))?;
@@ -175,8 +186,9 @@ impl Publisher {
 
     /// The name is known to be absent.
     fn drop_name(&mut self, name: &Text)
-        ensures { (n : List ℕ) → get bytes_eq self.new.own n
+        ensures own { (n : List ℕ) → get bytes_eq self.new.own n
             ≡ cond (bytes_eq name.now n) None (get bytes_eq self.old.own n) }
+        ensures most { self.new.most ≡ self.old.most }
     {
         self.own.remove(name);
     }
@@ -190,6 +202,11 @@ impl Publisher {
         ensures unsettles { OnErr result (AllBut (H.cell shelf.old) name.now (H.cell shelf.new)) }
         ensures later { H.fault_count shelf.old ≤ H.fault_count shelf.new }
         ensures opened { H.opened shelf.new ≡ H.opened shelf.old }
+        ensures keys { IfOk result (λ done. (n : List ℕ) → may_stand_in self.new n
+            ≡ (if bytes_eq name.now n then not done else may_stand_in self.old n)) }
+        ensures most { self.new.most ≡ self.old.most }
+        ensures removals { removals_in (H.changes shelf.new)
+            ≤ removals_in (H.changes shelf.old) + 1 }
         ensures log { IfOk result
             (λ gone. H.changes shelf.new ≡ done (H.changes shelf.old) (removed gone name.now)) }
     {
@@ -219,6 +236,10 @@ impl Publisher {
         ensures unsettles { OnErr result (AllBut (H.cell shelf.old) name.now (H.cell shelf.new)) }
         ensures later { H.fault_count shelf.old ≤ H.fault_count shelf.new }
         ensures opened { H.opened shelf.new ≡ H.opened shelf.old }
+        ensures keys { OnOk result ((n : List ℕ) → may_stand_in self.new n
+            ≡ (bytes_eq name.now n || may_stand_in self.old n)) }
+        ensures most { self.new.most ≡ self.old.most }
+        ensures removals { removals_in (H.changes shelf.new) ≡ removals_in (H.changes shelf.old) }
         ensures log { IfOk result (λ failed. IfSome (H.cell shelf.old name.now)
             (LogsPut name.now bytes.now failed (H.changes shelf.old) (H.changes shelf.new))) }
     {
@@ -253,6 +274,10 @@ impl Publisher {
             (H.cell shelf.new)) }
         ensures later { H.fault_count shelf.old ≤ H.fault_count shelf.new }
         ensures opened { H.opened shelf.new ≡ H.opened shelf.old }
+        ensures keys { OnOk result ((n : List ℕ) → may_stand_in self.new n
+            ≡ (bytes_eq (name_of which object.now) n || may_stand_in self.old n)) }
+        ensures most { self.new.most ≡ self.old.most }
+        ensures removals { removals_in (H.changes shelf.new) ≡ removals_in (H.changes shelf.old) }
         ensures log { IfOk result (λ trouble. IfSome (H.cell shelf.old (name_of which object.now))
             (LogsPut (name_of which object.now) bytes.now (option_map call_of trouble)
             (H.changes shelf.old) (H.changes shelf.new))) }
@@ -285,6 +310,10 @@ impl Publisher {
         ensures err { OnErr result (Partly profile.now (H.cell shelf.old) (H.cell shelf.new)) }
         ensures later { H.fault_count shelf.old ≤ H.fault_count shelf.new }
         ensures opened { H.opened shelf.new ≡ H.opened shelf.old }
+        ensures keys { IfOk result (λ trouble. MayBring profile.now trouble
+            (may_stand_in self.old) (may_stand_in self.new)) }
+        ensures most { self.new.most ≡ self.old.most }
+        ensures removals { removals_in (H.changes shelf.new) ≡ removals_in (H.changes shelf.old) }
         ensures log { IfOk result (λ trouble. Tells (H.cell shelf.old) → H.changes shelf.new
             ≡ done (H.changes shelf.old) (put_of (H.cell shelf.old) profile.now trouble)) }
     {
@@ -325,6 +354,12 @@ impl Publisher {
             → Interrupted ws before (H.fault_count shelf.new) start (H.cell shelf.new)) }
         ensures later { H.fault_count shelf.old ≤ H.fault_count shelf.new }
         ensures opened { H.opened shelf.new ≡ H.opened shelf.old }
+        ensures keys { OnOk result ((start : List ℕ → Bool)
+            → let ws = wants_of profiles.now in Bringing ws ws troubles.old.items start
+            (may_stand_in self.old) → Bringing ws [] troubles.new.items start
+            (may_stand_in self.new)) }
+        ensures most { self.new.most ≡ self.old.most }
+        ensures removals { removals_in (H.changes shelf.new) ≡ removals_in (H.changes shelf.old) }
         ensures log { OnOk result (Tells (H.cell shelf.old) → Writes (H.cell shelf.old) profiles.now
             troubles.old.items troubles.new.items (H.changes shelf.old) (H.changes shelf.new)) }
     {
@@ -353,6 +388,11 @@ impl Publisher {
         ensures unsettles { OnErr result (AllBut (H.cell shelf.old) name.now (H.cell shelf.new)) }
         ensures later { H.fault_count shelf.old ≤ H.fault_count shelf.new }
         ensures opened { H.opened shelf.new ≡ H.opened shelf.old }
+        ensures keys { OnOk result (Drops name.now troubles.old.items troubles.new.items
+            (may_stand_in self.old) (may_stand_in self.new)) }
+        ensures most { self.new.most ≡ self.old.most }
+        ensures removals { removals_in (H.changes shelf.new)
+            ≤ removals_in (H.changes shelf.old) + 1 }
         ensures log { OnOk result (Removes (name.now ∷ []) troubles.old.items troubles.new.items
             (H.changes shelf.old) (H.changes shelf.new)) }
     {
@@ -387,6 +427,13 @@ impl Publisher {
             → Interrupted ws before (H.fault_count shelf.new) start (H.cell shelf.new)) }
         ensures later { H.fault_count shelf.old ≤ H.fault_count shelf.new }
         ensures opened { H.opened shelf.new ≡ H.opened shelf.old }
+        ensures keys { OnOk result ((start : List ℕ → Bool)
+            → let ws = wants_of wants.now in Dropping ws names.now troubles.old.items start
+            (may_stand_in self.old) → Dropping ws [] troubles.new.items start
+            (may_stand_in self.new)) }
+        ensures most { self.new.most ≡ self.old.most }
+        ensures removals { removals_in (H.changes shelf.new)
+            ≤ removals_in (H.changes shelf.old) + length names.now }
         ensures log { OnOk result (Removes names.now troubles.old.items troubles.new.items
             (H.changes shelf.old) (H.changes shelf.new)) }
     {
@@ -396,14 +443,15 @@ impl Publisher {
         Ok(())
     }
 
-    /// The own names that may be there and that no profile wants, in byte order.
+    /// The own names that may be there and that no profile wants, in byte order, each once.
     fn unwanted(&self, alloc: Global, profiles: &[Profile]) -> Result<Vec<Text>, AllocError>
         ensures going { IfOk result (λ gone. list_all (goes (wants_of profiles.now)) gone.items
             ≡ true) }
         ensures covers { IfOk result (λ gone. Covers gone.items (wants_of profiles.now) self.now) }
         ensures known { IfOk result (λ gone. (n : List ℕ) → list_any (λ m. bytes_eq m n) gone.items
-            ≡ true → is_some (get bytes_eq self.now.own n) ≡ true) }
+            ≡ true → may_stand_in self.now n ≡ true) }
         ensures sorted { IfOk result (λ gone. IsSorted (slice_cmp nat_cmp) gone.items) }
+        ensures once { IfOk result (λ gone. IsDistinct bytes_eq gone.items) }
     {
         let names = wanted_names(alloc, profiles)?;
         let mut gone = Vec::new(alloc);
@@ -414,44 +462,95 @@ impl Publisher {
         Ok(gone)
     }
 
+    /// These names, all those that may be there and that no profile wants, go, and then each profile's files get their
+    /// bytes.
+    fn replace<H: Shelf>(
+        &mut self,
+        alloc: Global,
+        shelf: &mut H,
+        gone: &[Text],
+        profiles: &[Profile],
+    ) -> Result<Vec<Trouble>, AllocError>
+        requires proper { proper (wants_of profiles.now) ≡ true }
+        requires knows { Knows self.old (H.cell shelf.old) }
+        requires going { list_all (goes (wants_of profiles.now)) gone.now ≡ true }
+        requires covers { Covers gone.now (wants_of profiles.now) self.old }
+        requires known { (n : List ℕ) → list_any (λ m. bytes_eq m n) gone.now ≡ true
+            → may_stand_in self.old n ≡ true }
+        requires sorted { IsSorted (slice_cmp nat_cmp) gone.now }
+        requires once { IsDistinct bytes_eq gone.now }
+        ensures ok { IfOk result (λ troubles. Published (wants_of profiles.now)
+            (Publication.Done troubles.items) (H.fault_count shelf.old) (H.fault_count shelf.new)
+            (H.cell shelf.old) (H.cell shelf.new)) }
+        ensures knows { OnOk result (Knows self.new (H.cell shelf.new)) }
+        ensures keys { IfOk result (λ troubles. (n : List ℕ) → may_stand_in self.new n
+            ≡ stays (wants_of profiles.now) troubles.items (may_stand_in self.old) n) }
+        ensures err { OnErr result (Interrupted (wants_of profiles.now) (H.fault_count shelf.old)
+            (H.fault_count shelf.new) (H.cell shelf.old) (H.cell shelf.new)) }
+        ensures later { H.fault_count shelf.old ≤ H.fault_count shelf.new }
+        ensures opened { H.opened shelf.new ≡ H.opened shelf.old }
+        ensures most { self.new.most ≡ self.old.most }
+        ensures removals { removals_in (H.changes shelf.new)
+            ≤ removals_in (H.changes shelf.old) + length gone.now }
+        ensures log { IfOk result (λ troubles. Tells (H.cell shelf.old)
+            → Logged self.old profiles.now
+            troubles.items (H.cell shelf.old) (H.changes shelf.old) (H.changes shelf.new)) }
+    {
+        let mut troubles = Vec::new(alloc);
+        self.clear(alloc, shelf, gone, profiles, &mut troubles)?;
+        self.place(alloc, shelf, profiles, &mut troubles)?;
+        Ok(troubles)
+    }
+
     /// Publishes profiles: first each own name that no profile wants is removed, in byte order, and then each file
     /// of theirs is read, and put where its bytes differ. It goes on behind calls that fail, and gives them in the
-    /// order in which they were made.
+    /// order in which they were made. Where more names were to go than it may remove, no call is made, and it gives
+    /// how many.
     pub fn publish<H: Shelf>(
         &mut self,
         alloc: Global,
         shelf: &mut H,
         profiles: &[Profile],
-    ) -> Result<Vec<Trouble>, AllocError>
+    ) -> Result<Publication, AllocError>
         requires proper { proper (wants_of profiles.now) ≡ true }
         requires knows { Knows self.old (H.cell shelf.old) }
-        ensures ok { IfOk result (λ troubles. Published (wants_of profiles.now) troubles.items
-            (H.fault_count shelf.old) (H.fault_count shelf.new) (H.cell shelf.old)
-            (H.cell shelf.new)) }
-        ensures knows { OnOk result (Knows self.new (H.cell shelf.new)) }
-        ensures err { OnErr result (Interrupted (wants_of profiles.now) (H.fault_count shelf.old)
+        ensures ok { IfOk result (λ p. Published (wants_of profiles.now) p (H.fault_count shelf.old)
             (H.fault_count shelf.new) (H.cell shelf.old) (H.cell shelf.new)) }
+        ensures bounded { IfOk result
+            (Bounded self.old.most (wants_of profiles.now) (may_stand_in self.old)) }
+        ensures within { RemovesWithin self.old.most (H.changes shelf.old) (H.changes shelf.new) }
+        ensures knows { OnOk result (Knows self.new (H.cell shelf.new)) }
+        ensures keys { IfOk result (λ p. (n : List ℕ) → may_stand_in self.new n
+            ≡ may_stand_after (wants_of profiles.now) p (may_stand_in self.old) n) }
+        ensures err { OnErr result (InterruptedWithin self.old.most (wants_of profiles.now)
+            (may_stand_in self.old) (H.fault_count shelf.old) (H.fault_count shelf.new)
+            (H.cell shelf.old) (H.cell shelf.new)) }
         ensures later { H.fault_count shelf.old ≤ H.fault_count shelf.new }
         ensures opened { H.opened shelf.new ≡ H.opened shelf.old }
-        ensures log { IfOk result (λ troubles. Tells (H.cell shelf.old)
-            → Logged self.old profiles.now
-            troubles.items (H.cell shelf.old) (H.changes shelf.old) (H.changes shelf.new)) }
+        ensures most { self.new.most ≡ self.old.most }
+        ensures log { IfOk result (λ p. Tells (H.cell shelf.old) → LoggedBy self.old profiles.now p
+            (H.cell shelf.old) (H.changes shelf.old) (H.changes shelf.new)) }
     {
         let gone = self.unwanted(alloc, profiles)?;
-        let mut troubles = Vec::new(alloc);
-        self.clear(alloc, shelf, &gone, profiles, &mut troubles)?;
-        self.place(alloc, shelf, profiles, &mut troubles)?;
-        Ok(troubles)
+        if !is_within(self.most, gone.len()) {
+            return Ok(Publication::TooManyRemovals(gone.len()));
+        }
+        let troubles = self.replace(alloc, shelf, &gone, profiles)?;
+        Ok(Publication::Done(Seq::from_vec(troubles)))
     }
 
-    /// A publisher for a shelf on which these names are.
-    pub fn new(alloc: Global, names: &[Text]) -> Result<Publisher, AllocError>
-        ensures { IfOk result (λ p. (cell : List ℕ → Cell) → Lists names.now cell → Knows p cell) }
+    /// A publisher for a shelf on which these names are. No publication of it removes more names than `most`.
+    pub fn new(alloc: Global, names: &[Text], most: Option<u64>) -> Result<Publisher, AllocError>
+        ensures knows { IfOk result
+            (λ p. (cell : List ℕ → Cell) → Lists names.now cell → Knows p cell) }
+        ensures keys { IfOk result (λ p. (n : List ℕ) → may_stand_in p n
+            ≡ list_any (λ m. bytes_eq m n) names.now) }
+        ensures most { IfOk result (λ p. p.most ≡ most) }
     {
         let mut own = HashMap::with_capacity(alloc, names.len())?;
         for name in names {
             own.insert(name.share()?, Known::Unread)?;
         }
-        Ok(Publisher { own })
+        Ok(Publisher { own, most })
     }
 }

@@ -5,7 +5,8 @@ ghost use Rattle.std.specs.Ordering.{nat_cmp};
 ghost use Rattle.outside.specs.Causes.{Caused, HasCause};
 ghost use Rattle.outside.specs.Cells.{Sets, AllBut, AreSame};
 ghost use Rattle.outside.specs.declared.shelf.Change.TheVariants.{Put};
-ghost use Rattle.publication.specs.Changing.{holds, removal, putting, planned, done, Made, Begun, Makes, Begins, Tells};
+ghost use Rattle.publication.specs.Bounds.{answer_over, granted, removals_over, shelf_of};
+ghost use Rattle.publication.specs.Changing.{holds, removal, putting, planned, done, Made, Begun, Makes, Begins, MadeOver, BegunOver, Tells};
 ghost use Rattle.publication.specs.Halves.{swept, cleared, placed, brought, LeftAs};
 ghost use Rattle.publication.specs.Leavings.{Left, IsEndAt, IsFailure};
 ghost use Rattle.publication.specs.Listings.{Lists};
@@ -17,11 +18,12 @@ ghost use Rattle.publication.specs.Wants.{goes, proper, wants_of};
 ghost use Rattle.publication.specs.declared.until_failure.PublishError.TheVariants.{Memory};
 ghost use Rattle.publication.specs.declared.want.Want.{Want};
 
+use crate::answer::{Publication, is_within};
 use crate::own_name::{is_own, object_of};
 use crate::profile::Profile;
 use crate::reading::holds;
 use crate::want::{Want, wants};
-use base::Text;
+use base::{Seq, Text};
 use outside::{Shelf, StoreError};
 use std::alloc::{AllocError, AllocFailed, Global};
 use std::collections::HashSet;
@@ -219,10 +221,12 @@ fn bring_all<H: Shelf>(
     alloc: Global,
     shelf: &mut H,
     listed: &[Text],
+    names: &HashSet<Text>,
     wants: &[Want],
 ) -> Result<(), PublishError>
     requires proper { proper wants.now ≡ true }
     requires listed { Lists listed.now (H.cell shelf.old) }
+    requires names { Names names.now wants.now }
     ensures ok { OnOk result ((n : List ℕ) → H.cell shelf.new n
         ≡ brought wants.now n (H.cell shelf.old n)) }
     ensures err { IfErr result (λ e. LeftAs e (brought wants.now) (H.cell shelf.old)
@@ -236,35 +240,117 @@ fn bring_all<H: Shelf>(
     ensures opened { H.opened shelf.new ≡ H.opened shelf.old }
     ensures cause { Caused IsFailure (H.fault_count shelf.old) (H.fault_count shelf.new) result }
 {
-    let names = wanted_names(alloc, wants)?;
-    clear(alloc, shelf, listed, &names, wants)?;
+    clear(alloc, shelf, listed, names, wants)?;
     place(alloc, shelf, wants)
+}
+
+/// Publishes wants on a shelf on which these names are.
+fn publish_wants<H: Shelf>(
+    alloc: Global,
+    shelf: &mut H,
+    listed: &[Text],
+    names: &HashSet<Text>,
+    wants: &[Want],
+) -> Result<(), PublishError>
+    requires proper { proper wants.now ≡ true }
+    requires listed { Lists listed.now (H.cell shelf.old) }
+    requires names { Names names.now wants.now }
+    ensures ok { OnOk result (Stands (published wants.now [] untouched) (H.cell shelf.old)
+        (H.cell shelf.new)) }
+    ensures err { IfErr result (λ e. Left e (published wants.now [] untouched)
+        (H.cell shelf.old) (H.cell shelf.new)) }
+    ensures made { OnOk result (Tells (H.cell shelf.old) → Makes wants.now listed.now
+        (H.cell shelf.old) (H.cell shelf.new) (H.changes shelf.old) (H.changes shelf.new)) }
+    ensures begun { OnErr result (Tells (H.cell shelf.old) → Begins wants.now listed.now
+        (H.cell shelf.old) (H.cell shelf.new) (H.changes shelf.old) (H.changes shelf.new)) }
+    ensures opened { H.opened shelf.new ≡ H.opened shelf.old }
+    ensures cause { Caused IsFailure (H.fault_count shelf.old) (H.fault_count shelf.new) result }
+{
+    bring_all(alloc, shelf, listed, names, wants)
+}
+
+/// Whether it is an own name that no profile wants.
+fn is_unwanted(name: &Text, names: &HashSet<Text>, wants: &[Want]) -> bool
+    requires { Names names.now wants.now }
+    ensures { result ≡ goes wants.now name.now }
+{
+    is_own(name.as_str()) && !names.contains(name)
+}
+
+/// How many of these names are own ones that no profile wants.
+fn count_removals(listed: &[Text], names: &HashSet<Text>, wants: &[Want]) -> usize
+    requires { Names names.now wants.now }
+    ensures { result ≡ removals_over wants.now listed.now }
+{
+    let mut removals = 0;
+    for name in listed {
+        if is_unwanted(name, names, wants) {
+            removals += 1;
+        }
+    }
+    removals
+}
+
+/// Publishes wants on a shelf on which these names are, where no more of them are to go than it may remove.
+fn publish_within<H: Shelf>(
+    alloc: Global,
+    shelf: &mut H,
+    listed: &[Text],
+    wants: &[Want],
+    most: Option<u64>,
+) -> Result<Publication, PublishError>
+    requires proper { proper wants.now ≡ true }
+    requires listed { Lists listed.now (H.cell shelf.old) }
+    ensures answer { IfOk result (λ p. p ≡ answer_over most listed.now wants.now) }
+    ensures ok { OnOk result (Stands (shelf_of (granted most listed.now wants.now))
+        (H.cell shelf.old) (H.cell shelf.new)) }
+    ensures err { IfErr result (λ e. Left e (shelf_of (granted most listed.now wants.now))
+        (H.cell shelf.old) (H.cell shelf.new)) }
+    ensures made { OnOk result (Tells (H.cell shelf.old) → MadeOver
+        (granted most listed.now wants.now) listed.now (H.cell shelf.old) (H.cell shelf.new)
+        (H.changes shelf.old) (H.changes shelf.new)) }
+    ensures begun { OnErr result (Tells (H.cell shelf.old) → BegunOver
+        (granted most listed.now wants.now) listed.now (H.cell shelf.old) (H.cell shelf.new)
+        (H.changes shelf.old) (H.changes shelf.new)) }
+    ensures opened { H.opened shelf.new ≡ H.opened shelf.old }
+    ensures cause { Caused IsFailure (H.fault_count shelf.old) (H.fault_count shelf.new) result }
+{
+    let names = wanted_names(alloc, wants)?;
+    let removals = count_removals(listed, &names, wants);
+    if !is_within(most, removals) {
+        return Ok(Publication::TooManyRemovals(removals));
+    }
+    publish_wants(alloc, shelf, listed, &names, wants)?;
+    Ok(Publication::Done(Seq::new(alloc)))
 }
 
 /// Publishes profiles on a shelf on which these names are: first each own name that no profile wants is removed, in
 /// the order of the list, and then each file of theirs is read, and put where its bytes differ. The first call that
-/// fails ends it.
+/// fails ends it. Where more of the names were to go than `most`, no call is made, and it gives how many.
 pub fn publish_until_failure<H: Shelf>(
     alloc: Global,
     shelf: &mut H,
     listed: &[Text],
     profiles: &[Profile],
-) -> Result<(), PublishError>
+    most: Option<u64>,
+) -> Result<Publication, PublishError>
     requires proper { proper (wants_of profiles.now) ≡ true }
     requires listed { Lists listed.now (H.cell shelf.old) }
-    ensures ok { OnOk result (Stands (published (wants_of profiles.now) [] untouched)
+    ensures answer { IfOk result
+        (λ p. p ≡ answer_over most listed.now (wants_of profiles.now)) }
+    ensures ok { OnOk result (Stands (shelf_of (granted most listed.now (wants_of profiles.now)))
         (H.cell shelf.old) (H.cell shelf.new)) }
-    ensures err { IfErr result (λ e. Left e (published (wants_of profiles.now) [] untouched)
-        (H.cell shelf.old) (H.cell shelf.new)) }
-    ensures made { OnOk result (Tells (H.cell shelf.old) →
-        Makes (wants_of profiles.now) listed.now (H.cell shelf.old) (H.cell shelf.new)
+    ensures err { IfErr result (λ e. Left e (shelf_of (granted most listed.now
+        (wants_of profiles.now))) (H.cell shelf.old) (H.cell shelf.new)) }
+    ensures made { OnOk result (Tells (H.cell shelf.old) → MadeOver (granted most listed.now
+        (wants_of profiles.now)) listed.now (H.cell shelf.old) (H.cell shelf.new)
         (H.changes shelf.old) (H.changes shelf.new)) }
-    ensures begun { OnErr result (Tells (H.cell shelf.old) →
-        Begins (wants_of profiles.now) listed.now (H.cell shelf.old) (H.cell shelf.new)
+    ensures begun { OnErr result (Tells (H.cell shelf.old) → BegunOver (granted most listed.now
+        (wants_of profiles.now)) listed.now (H.cell shelf.old) (H.cell shelf.new)
         (H.changes shelf.old) (H.changes shelf.new)) }
     ensures opened { H.opened shelf.new ≡ H.opened shelf.old }
     ensures cause { Caused IsFailure (H.fault_count shelf.old) (H.fault_count shelf.new) result }
 {
     let wants = wants(alloc, profiles)?;
-    bring_all(alloc, shelf, listed, &wants)
+    publish_within(alloc, shelf, listed, &wants, most)
 }

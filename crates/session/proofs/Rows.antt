@@ -1,8 +1,10 @@
 -- Written sessions.
-use Rattle.std.proofs.Common.{◌≡◌, ℕ, List, [], ◌∷◌, ◌++◌, Option, Some, None, refl, codes}
+use Rattle.std.proofs.Common.{◌≡◌, ℕ, Bool, true, false, List, [], ◌∷◌, ◌++◌, Option, Some, None, refl, codes}
 use Rattle.std.specs.Prelude.{option_map}
 use Rattle.std.specs.Fmt.{digits}
 use Rattle.outside.specs.declared.source.MemFile.{MemFile}
+use Rattle.publication.specs.declared.answer.Publication.{Publication}
+use Rattle.publication.specs.declared.answer.Publication.TheVariants as publication
 use Rattle.publication.specs.declared.trouble.Trouble.{Trouble}
 use Rattle.publication.specs.declared.trouble.Which.TheVariants.{Json}
 use Rattle.publication.specs.declared.trouble.Call.TheVariants.{Put}
@@ -15,7 +17,7 @@ file name text = record { name = name; content = Some text }
 
 -- a round whose devices meet no fault
 abbrev plain : List ℕ → Round
-plain line = record { line = line; scan = Done; troubles = [] }
+plain line = record { line = line; scan = Done; publication = publication.Done [] }
 
 abbrev written : Option (State Toy) → Option (List ℕ)
 written s = option_map (λ (t : State Toy). t.text) s
@@ -27,7 +29,7 @@ stands_at name s = option_map (λ (t : State Toy). t.shelf name) s
 abbrev idle : List Round
 idle = plain (codes "show h") ∷ plain (codes "turn 1") ∷ plain (codes "stop") ∷ []
 
-idle_text : written (reached toy idle (started new_toy [])) ≡ Some (codes "no object\nturns 0 left 0\nbad line\n")
+idle_text : written (reached toy idle (started new_toy [] [])) ≡ Some (codes "no object\nturns 0 left 0\nbad line\n")
 unfolding digits
 idle_text = refl
 
@@ -40,7 +42,7 @@ sites = site (codes "1") ∷ site (codes "2") ∷ site (codes "2") ∷ [] where
 abbrev changing : List Round
 changing = plain (codes "scan") ∷ plain (codes "turn 2") ∷ plain (codes "scan") ∷ plain (codes "show h") ∷ plain (codes "build") ∷ plain (codes "show h") ∷ []
 
-changing_text : written (reached toy changing (started new_toy sites)) ≡ Some (codes "files 2 objects 1\nturns 2 left 2\nfiles 2 objects 1\npending\nrun h\nobjects 1 ok 1 faults 0 run 1\nprofile {\"v\":2}\n")
+changing_text : written (reached toy changing (started new_toy sites [])) ≡ Some (codes "files 2 objects 1\nturns 2 left 2\nfiles 2 objects 1\npending\nrun h\nobjects 1 ok 1 faults 0 run 1\nprofile {\"v\":2}\n")
 unfolding digits
 changing_text = refl
 
@@ -54,35 +56,61 @@ abbrev json_not_put : Trouble
 json_not_put = record { object = codes "h"; which = Json; call = Put }
 
 abbrev mending : List Round
-mending = plain (codes "build") ∷ record { line = codes "scan"; scan = BrokeOff; troubles = [] } ∷ plain (codes "show h")
-    ∷ record { line = codes "build"; scan = Done; troubles = json_not_put ∷ [] } ∷ plain (codes "build") ∷ []
+mending = plain (codes "build") ∷ record { line = codes "scan"; scan = BrokeOff; publication = publication.Done [] } ∷ plain (codes "show h")
+    ∷ record { line = codes "build"; scan = Done; publication = publication.Done (json_not_put ∷ []) } ∷ plain (codes "build") ∷ []
 
-mending_text : written (reached toy mending (started new_toy pictures)) ≡ Some (codes "run h\nobjects 1 ok 1 faults 0 run 1\nsource fault\nprofile {\"a\":1}\nshelf fault h\nrun h\nobjects 1 ok 1 faults 0 run 1\nobjects 1 ok 1 faults 0 run 0\n")
+mending_text : written (reached toy mending (started new_toy pictures [])) ≡ Some (codes "run h\nobjects 1 ok 1 faults 0 run 1\nsource fault\nprofile {\"a\":1}\nshelf fault h\nrun h\nobjects 1 ok 1 faults 0 run 1\nobjects 1 ok 1 faults 0 run 0\n")
 unfolding digits
 mending_text = refl
 
-mending_shelf : stands_at (codes "h.json") (reached toy mending (started new_toy pictures)) ≡ Some (Has (Some (codes "{\"a\":2}\n")))
+mending_shelf : stands_at (codes "h.json") (reached toy mending (started new_toy pictures [])) ≡ Some (Has (Some (codes "{\"a\":2}\n")))
 unfolding digits
 mending_shelf = refl
 
 abbrev troubled : List Round
-troubled = plain (codes "build") ∷ plain (codes "scan") ∷ record { line = codes "build"; scan = Done; troubles = json_not_put ∷ [] } ∷ []
+troubled = plain (codes "build") ∷ plain (codes "scan") ∷ record { line = codes "build"; scan = Done; publication = publication.Done (json_not_put ∷ []) } ∷ []
 
-troubled_json : stands_at (codes "h.json") (reached toy troubled (started new_toy pictures)) ≡ Some Unspecified
+troubled_json : stands_at (codes "h.json") (reached toy troubled (started new_toy pictures [])) ≡ Some Unspecified
 unfolding digits
 troubled_json = refl
 
-troubled_dep : stands_at (codes "h.dep") (reached toy troubled (started new_toy pictures)) ≡ Some (Has (Some (codes "template h.pan\n")))
+troubled_dep : stands_at (codes "h.dep") (reached toy troubled (started new_toy pictures [])) ≡ Some (Has (Some (codes "template h.pan\n")))
 unfolding digits
 troubled_dep = refl
 
-gone : stands_at (codes "z.json") (reached toy troubled (started new_toy pictures)) ≡ Some (Has None)
+gone : stands_at (codes "z.json") (reached toy troubled (started new_toy pictures [])) ≡ Some (Has None)
 unfolding digits
 gone = refl
 
-foreign : stands_at (codes "z.txt") (reached toy troubled (started new_toy pictures)) ≡ Some AtStart
+foreign : stands_at (codes "z.txt") (reached toy troubled (started new_toy pictures [])) ≡ Some AtStart
 unfolding digits
 foreign = refl
 
-quits : next toy (plain (codes "quit")) (started new_toy pictures) ≡ Quits (started new_toy pictures)
+quits : next toy (plain (codes "quit")) (started new_toy pictures []) ≡ Quits (started new_toy pictures [])
 quits = refl
+
+-- the object's template is gone, and its profile would have gone with it; the next build makes it go
+abbrev losing : List (List MemFile)
+losing = (file (codes "h.pan") (codes "object template h;\n'/v' = 1;\n") ∷ []) ∷ [] ∷ [] ∷ []
+
+abbrev refused : List Round
+refused = plain (codes "build") ∷ record { line = codes "build"; scan = Done; publication = publication.TooManyRemovals 2 } ∷ []
+
+refused_text : written (reached toy refused (started new_toy losing [])) ≡ Some (codes "run h\nobjects 1 ok 1 faults 0 run 1\ntoo many removals 2\nobjects 0 ok 0 faults 0 run 0\n")
+unfolding digits
+refused_text = refl
+
+refused_shelf : stands_at (codes "h.json") (reached toy refused (started new_toy losing [])) ≡ Some (Has (Some (codes "{\"v\":1}\n")))
+unfolding digits
+refused_shelf = refl
+
+abbrev may_stand_at : List ℕ → Option (State Toy) → Option Bool
+may_stand_at name s = option_map (λ (t : State Toy). t.may_stand name) s
+
+refused_names : may_stand_at (codes "h.dep") (reached toy refused (started new_toy losing [])) ≡ Some true
+unfolding digits
+refused_names = refl
+
+mended : may_stand_at (codes "h.dep") (reached toy (refused ++ plain (codes "build") ∷ []) (started new_toy losing [])) ≡ Some false
+unfolding digits
+mended = refl

@@ -12,7 +12,7 @@ ghost use Rattle.std.specs.Prelude.{◌≡◌};
 ghost use Rattle.session.specs.Sessions.{ended_by};
 
 use base::{Bytes, Text};
-pub use texts::{count_faults, report};
+pub use texts::{count_faults, push_too_many, report};
 
 /// How a session comes to its end.
 #[derive(Clone, Copy, Debug, PartialEq, Eq)]
@@ -25,6 +25,8 @@ pub enum Ended {
     NumbersSpent,
     /// A picture is past the limits of a scan or of an engine.
     TooMuch,
+    /// A build was to remove so many names, which is more than it may.
+    TooManyRemovals(usize),
 }
 
 /// How a session ends after its last report.

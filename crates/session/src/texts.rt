@@ -1,5 +1,5 @@
 ghost use Rattle.std.specs.Prelude.{◌≡◌, ◌++◌, IfOk, OnOk, decimal, flat_map};
-ghost use Rattle.session.specs.Texts.{run_line, fault_line, is_fault, faults_in, totals, report};
+ghost use Rattle.session.specs.Texts.{run_line, fault_line, is_fault, faults_in, totals, report, too_many_line};
 
 use crate::{Answer, Outcome};
 use itoa::Buffer;
@@ -67,6 +67,14 @@ fn push_count(text: &mut Vec<u8>, word: &str, count: usize) -> Result<(), AllocE
     let mut buffer = Buffer::new();
     text.extend_from_slice(word.as_bytes())?;
     text.extend_from_slice(buffer.format(count).as_bytes())
+}
+
+/// The line of a publication that was to remove so many names, which is more than it may.
+pub fn push_too_many(text: &mut Vec<u8>, removals: usize) -> Result<(), AllocError>
+    ensures { OnOk result (text.new.items ≡ text.old.items ++ too_many_line removals) }
+{
+    push_count(text, "too many removals ", removals)?;
+    text.extend_from_slice(b"\n")
 }
 
 /// The numbers of objects, of profiles, of faults and of runs, a line.

@@ -1,5 +1,5 @@
 -- Ends of a build.
-use Rattle.std.proofs.Common.{◌≡◌, ℕ, List, [], Option, Some, None, refl, sym, ap, subst, ◌∙◌, ◌⊎◌, inl, inr, Bool, append-nil, IfErr, OnErr, IfSome, arith}
+use Rattle.std.proofs.Common.{◌≡◌, ℕ, List, [], Option, Some, None, false, refl, sym, ap, subst, ◌∙◌, ◌⊎◌, inl, inr, Bool, append-nil, IfErr, OnErr, IfSome, arith}
 use Rattle.std.specs.Prelude.{Result, Ok, Err, IfOk, OnOk, bytes_eq}
 use Rattle.std.proofs.lemmas.Result.{IfErr-weaker}
 use Rattle.outside.specs.Cells.{Cell, AreSame}
@@ -7,9 +7,10 @@ use Rattle.outside.specs.Causes.{Caused}
 use Rattle.outside.specs.Contents.{Appends, AppendsPart}
 use Rattle.outside.specs.declared.source.MemFile.{MemFile}
 use Rattle.publication.specs.Leavings.{Leaves}
-use Rattle.publication.specs.OwnNames.{is_file_of}
-use Rattle.publication.specs.Stands.{Stand, Stands, Meets, untouched}
-use Rattle.publication.specs.Troubles.{published}
+use Rattle.publication.specs.OwnNames.{is_file_of, is_own}
+use Rattle.publication.specs.Bounds.{answer_over, granted, shelf_of}
+use Rattle.publication.specs.Stands.{Stand, Stands, Meets}
+use Rattle.publication.specs.declared.answer.Publication.{Publication}
 use Rattle.publication.specs.declared.want.Want.{Want}
 use Rattle.session.specs.Sessions.{end_line}
 use Rattle.session.specs.declared.Ended.{Ended}
@@ -18,7 +19,18 @@ use Rattle.site_build.specs.declared.ends.Device.TheVariants as D
 use Rattle.site_build.specs.declared.ends.End.{End}
 use Rattle.site_build.specs.declared.ends.End.TheVariants as E
 use Rattle.site_build.specs.Ends.{IsEndOf, IsFailureOf, IsRoundEnd, OfName, OfSink, OfSource, Stopped}
-use Rattle.site_build.specs.Session.{Session, Finished, WritesEarly, line_alone}
+use Rattle.site_build.specs.Session.{Session, Finished, WritesEarly, ended_behind, line_alone, session_over, text_behind}
+use Rattle.site_build.specs.Rounds.{given_by, session_at}
+use Rattle.site_build.specs.declared.building.Reached.{Reached}
+use Rattle.site_build.specs.declared.building.Reached.TheVariants as reached
+use Rattle.compiler.specs.Compiler.{compiler}
+use Rattle.compiler.specs.Standing.{Gives, compiled_in}
+use Rattle.compiler.specs.declared.building.Built.{Built}
+use Rattle.engine_turns.specs.declared.core_data.Core.{Core}
+use Rattle.rebuild.specs.Engines.{Meanings}
+use Rattle.publication.specs.Wants.{wants_of}
+use Rattle.session.specs.Sessions.{answers_in, ended_by, profiles_of}
+use Rattle.session.specs.Texts.{report}
 
 -- nothing is a first part of every text
 pub none_of : (text : List ℕ) (held : Option (List ℕ)) → AppendsPart held text held
@@ -62,12 +74,16 @@ early_part text old new E.Out kind part = part
 early_part text old new E.Memory kind part = part
 
 -- where only the text could not be written, the publication was done
-pub done_stopped : (e : End) (ws : List Want) (old new : List ℕ → Cell) → IsEndOf OfSink e → Stands (published ws [] untouched) old new → Stopped e (published ws [] untouched) old new
-done_stopped E.Source ws old new kind done = cc
-done_stopped E.Shelf ws old new kind done = cc
-done_stopped (E.Publishing m) ws old new kind done = cc
-done_stopped E.Out ws old new kind done = done
-done_stopped E.Memory ws old new kind done = ([], record { others = λ n other. rw other at (done n); own = λ n closed. inr (done n) })
+pub done_stopped : (e : End) (o : Option (List Want)) (old new : List ℕ → Cell) → IsEndOf OfSink e → Stands (shelf_of o) old new → Stopped e (shelf_of o) old new
+done_stopped E.Source o old new kind done = cc
+done_stopped E.Shelf o old new kind done = cc
+done_stopped (E.Publishing m) o old new kind done = cc
+done_stopped E.Out o old new kind done = done
+done_stopped E.Memory o old new kind done = ([], record { others = λ n other. others o n other (done n); own = λ n closed. inr (done n) })
+  where
+    others : (o : Option (List Want)) (n : List ℕ) → is_own n ≡ false → Meets (shelf_of o n) (old n) (new n) → new n ≡ old n
+    others None n other meets = meets
+    others (Some ws) n other meets = rw other at meets
 
 -- what an end left behind of a shelf that had not changed before
 meets_from : (s : Stand) (old mid new : Cell) → mid ≡ old → Meets s mid new → Meets s old new
@@ -79,49 +95,15 @@ leaves_from is_open shelf old mid new same l = record {
   own = λ n closed. elim (l.own n closed) as (λ _. (new n ≡ old n) ⊎ Meets (shelf n) (old n) (new n)) [ inl s ↦ inl (s ∙ same n) | inr m ↦ inr (meets_from (shelf n) (old n) (mid n) (new n) (same n) m) ];
 }
 
-stopped_from : (e : End) (shelf : List ℕ → Stand) (old mid new : List ℕ → Cell) → AreSame old mid → Stopped e shelf mid new → Stopped e shelf old new
+pub stopped_from : (e : End) (shelf : List ℕ → Stand) (old mid new : List ℕ → Cell) → AreSame old mid → Stopped e shelf mid new → Stopped e shelf old new
 stopped_from E.Source shelf old mid new same stopped = λ n. stopped n ∙ same n
 stopped_from E.Shelf shelf old mid new same stopped = λ n. stopped n ∙ same n
 stopped_from (E.Publishing m) shelf old mid new same stopped = leaves_from (is_file_of m) shelf old mid new same stopped
 stopped_from E.Out shelf old mid new same stopped = λ n. meets_from (shelf n) (old n) (mid n) (new n) (same n) (stopped n)
 stopped_from E.Memory shelf old mid new same stopped = (stopped.0, leaves_from (bytes_eq stopped.0) shelf old mid new same stopped.1)
 
-finished_from : (s : Session) (how : Ended) (text_old text_new : Option (List ℕ)) (old mid new : List ℕ → Cell) → AreSame old mid → Finished s how text_old text_new mid new → Finished s how text_old text_new old new
+pub finished_from : (s : Session) (how : Ended) (text_old text_new : Option (List ℕ)) (old mid new : List ℕ → Cell) → AreSame old mid → Finished s how text_old text_new mid new → Finished s how text_old text_new old new
 finished_from s how text_old text_new old mid new same f = record { ended = f.ended; text = f.text; shelf = λ n. meets_from (s.shelf n) (old n) (mid n) (new n) (same n) (f.shelf n) }
-
--- a command's session is that of its scan, over a shelf that opening left as it was
-stopped_at : (told now : Option (List (List MemFile))) (F : List (List MemFile) → Session) (old mid new : List ℕ → Cell) (e : End) → now ≡ told → AreSame old mid → IfSome now (λ ps. Stopped e (F ps).shelf mid new) → IfSome told (λ ps. Stopped e (F ps).shelf old new)
-stopped_at None None F old mid new e is same stopped = tt
-stopped_at None (Some qs) F old mid new e is same stopped = tt
-stopped_at (Some ps) None F old mid new e is same stopped = cc
-stopped_at (Some ps) (Some qs) F old mid new e is same stopped =
-    let pictures : qs ≡ ps = cc in (stopped_from e (F ps).shelf old mid new same (rw pictures at stopped))
-
-finished_at : (told now : Option (List (List MemFile))) (F : List (List MemFile) → Session) (how : Ended) (text_old text_new : Option (List ℕ)) (old mid new : List ℕ → Cell) → now ≡ told → AreSame old mid → IfSome now (λ ps. Finished (F ps) how text_old text_new mid new) → IfSome told (λ ps. Finished (F ps) how text_old text_new old new)
-finished_at None None F how text_old text_new old mid new is same f = tt
-finished_at None (Some qs) F how text_old text_new old mid new is same f = tt
-finished_at (Some ps) None F how text_old text_new old mid new is same f = cc
-finished_at (Some ps) (Some qs) F how text_old text_new old mid new is same f =
-    let pictures : qs ≡ ps = cc in (finished_from (F ps) how text_old text_new old mid new same (rw pictures at f))
-
-early_at : (told now : Option (List (List MemFile))) (F : List (List MemFile) → Session) (e : End) (text_old text_new : Option (List ℕ)) → now ≡ told → IfSome now (λ ps. WritesEarly (F ps).text e text_old text_new) → IfSome told (λ ps. WritesEarly (F ps).text e text_old text_new)
-early_at None None F e text_old text_new is w = tt
-early_at None (Some qs) F e text_old text_new is w = tt
-early_at (Some ps) None F e text_old text_new is w = cc
-early_at (Some ps) (Some qs) F e text_old text_new is w =
-    let pictures : qs ≡ ps = cc in (rw pictures at w)
-
-pub stopped_result : (told now : Option (List (List MemFile))) (F : List (List MemFile) → Session) (old mid new : List ℕ → Cell) (r : Result Ended End) → now ≡ told → AreSame old mid → IfErr r (λ e. IfSome now (λ ps. Stopped e (F ps).shelf mid new)) → IfErr r (λ e. IfSome told (λ ps. Stopped e (F ps).shelf old new))
-stopped_result told now F old mid new (Ok how) is same stopped = tt
-stopped_result told now F old mid new (Err e) is same stopped = stopped_at told now F old mid new e is same stopped
-
-pub finished_result : (told now : Option (List (List MemFile))) (F : List (List MemFile) → Session) (text_old text_new : Option (List ℕ)) (old mid new : List ℕ → Cell) (r : Result Ended End) → now ≡ told → AreSame old mid → IfOk r (λ how. IfSome now (λ ps. Finished (F ps) how text_old text_new mid new)) → IfOk r (λ how. IfSome told (λ ps. Finished (F ps) how text_old text_new old new))
-finished_result told now F text_old text_new old mid new (Ok how) is same f = finished_at told now F how text_old text_new old mid new is same f
-finished_result told now F text_old text_new old mid new (Err e) is same f = tt
-
-pub early_result : (told now : Option (List (List MemFile))) (F : List (List MemFile) → Session) (text_old text_new : Option (List ℕ)) (r : Result Ended End) → now ≡ told → IfErr r (λ e. IfSome now (λ ps. WritesEarly (F ps).text e text_old text_new)) → IfErr r (λ e. IfSome told (λ ps. WritesEarly (F ps).text e text_old text_new))
-early_result told now F text_old text_new (Ok how) is w = tt
-early_result told now F text_old text_new (Err e) is w = early_at told now F e text_old text_new is w
 
 -- a scan or a start that failed touched no name
 stopped_none : (e : End) (shelf : List ℕ → Stand) (old : List ℕ → Cell) → IsEndOf OfSource e → Stopped e shelf old old
@@ -183,3 +165,32 @@ line_unwritten text old new (Err e) kind part = early_part text old new e kind p
 pub line_written : {T : Type 0} (how : Ended) (old new : Option (List ℕ)) (shelf : List ℕ → Cell) (r : Result Ended T) → IfOk r (λ reached. reached ≡ how) → OnOk r (Appends old (end_line how) new) → IfOk r (λ reached. Finished (line_alone how) reached old new shelf shelf)
 line_written how old new shelf (Ok reached) is text = record { ended = sym is; text = text; shelf = λ n. refl }
 line_written how old new shelf (Err e) is text = tt
+
+-- a report, or a line in its place
+pub told_ok : (most : Option ℕ) (names : List (List ℕ)) (ws : List Want) (report : List ℕ) (how : Ended) (p : Publication) (r : Result Ended End) (held held' : Option (List ℕ)) (old new : List ℕ → Cell) → p ≡ answer_over most names ws → Stands (shelf_of (granted most names ws)) old new → IfOk r (λ reached. reached ≡ ended_behind p how) → OnOk r (Appends held (text_behind p report) held') → IfOk r (λ reached. Finished (session_over most names ws report how) reached held held' old new)
+told_ok most names ws report how p (Ok reached) held held' old new is shelf ended text = record {
+  ended = sym (ended ∙ ap (λ q. ended_behind q how) is);
+  text = subst (λ q. Appends held (text_behind q report) held') is text;
+  shelf = shelf;
+}
+told_ok most names ws report how p (Err e) held held' old new is shelf ended text = tt
+
+pub told_text : (most : Option ℕ) (names : List (List ℕ)) (ws : List Want) (report : List ℕ) (how : Ended) (p : Publication) (r : Result Ended End) (held held' : Option (List ℕ)) → p ≡ answer_over most names ws → IfErr r (IsEndOf OfSink) → OnErr r (AppendsPart held (text_behind p report) held') → IfErr r (λ e. WritesEarly (session_over most names ws report how).text e held held')
+told_text most names ws report how p r held held' is kind part = subst (λ q. IfErr r (λ e. WritesEarly (text_behind q report) e held held')) is (line_unwritten (text_behind p report) held held' r kind part)
+
+-- a fact behind a result that is Ok
+pub on_ok : {T E P : Type 0} (r : Result T E) → P → OnOk r P
+on_ok (Ok x) p = p
+on_ok (Err e) p = tt
+
+-- what a settled engine gives is the session of the engine
+pub given_is : {T : Type 0} (M : Meanings T) (most : Option ℕ) (names : List (List ℕ)) (b : Built) (core : Core T) (how : Reached) → how ≡ reached.All → Gives (compiler (M core.dirs core.limits) core.dirs) (compiled_in core) b → given_by most names b ≡ session_at most names M how core
+given_is M most names b core how all gives = subst (λ h. given_by most names b ≡ session_at most names M h core) (sym all)
+    (ap (λ ps. session_over most names (wants_of ps) b.report.items (ended_by b.has_faults)) gives.profiles
+    ∙ ap (λ text. session_over most names (wants_of (profiles_of (answers_in (compiler (M core.dirs core.limits) core.dirs) (compiled_in core)))) text (ended_by b.has_faults)) gives.report
+    ∙ ap (λ f. session_over most names (wants_of (profiles_of (answers_in (compiler (M core.dirs core.limits) core.dirs) (compiled_in core)))) (report (answers_in (compiler (M core.dirs core.limits) core.dirs) (compiled_in core)) ((compiler (M core.dirs core.limits) core.dirs).runs (compiled_in core))) (ended_by f)) gives.has_faults)
+
+-- what this end leaves, an end that is this one leaves
+pub stopped_at : {T : Type 0} (r : Result T End) (e : End) (shelf : List ℕ → Stand) (old new : List ℕ → Cell) → IfErr r (λ x. x ≡ e) → Stopped e shelf old new → IfErr r (λ x. Stopped x shelf old new)
+stopped_at (Ok x) e shelf old new is stopped = tt
+stopped_at (Err x) e shelf old new is stopped = subst (λ y. Stopped y shelf old new) (sym is) stopped

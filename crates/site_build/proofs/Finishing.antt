@@ -7,12 +7,14 @@ use Rattle.compiler.proofs.Counting.{at_most}
 use Rattle.engine_turns.specs.declared.core_data.Core.{Core}
 use Rattle.outside.specs.declared.source.MemFile.{MemFile}
 use Rattle.publication.specs.Wants.{wants_of}
+use Rattle.publication.specs.declared.answer.Publication.{Publication}
+use Rattle.publication.specs.declared.answer.Publication.TheVariants.{Done, TooManyRemovals}
 use Rattle.rebuild.specs.Engines.{Meanings}
 use Rattle.session.specs.Machines.{Machine}
 use Rattle.session.specs.Sessions.{State, ended_by}
 use Rattle.session.specs.declared.Ended.{Ended}
-use Rattle.site_build.specs.Rounds.{Reaches, SpendsBy, build_of, given_by, session_at, session_with}
-use Rattle.site_build.specs.Session.{Session, session_for, state_for}
+use Rattle.site_build.specs.Rounds.{Reaches, SpendsBy, build_of, given_by, session_at}
+use Rattle.site_build.specs.Session.{Session, ended_behind, session_for, session_over, state_for}
 use Rattle.site_build.proofs.Settling.{spent_nothing}
 use Rattle.site_build.specs.declared.building.Reached.{Reached}
 use Rattle.site_build.specs.declared.building.Reached.TheVariants as reached
@@ -21,19 +23,19 @@ pub some_map : {A : Type 0} (o : Option A) (P Q : A → Type 0) → ((x : A) →
 some_map None P Q f p = tt
 some_map (Some x) P Q f p = f x p
 
-pub given_is : {E : Type 0} (machine : Machine E) (e : E) (b : Built) → Gives machine e b → given_by b ≡ build_of machine e
-given_is machine e b gives = λ i. session_with (wants_of (gives.profiles i)) (gives.report i) (gives.has_faults i)
+pub given_is : {E : Type 0} (most : Option ℕ) (names : List (List ℕ)) (machine : Machine E) (e : E) (b : Built) → Gives machine e b → given_by most names b ≡ build_of most names machine e
+given_is most names machine e b gives = λ i. session_over most names (wants_of (gives.profiles i)) (gives.report i) (ended_by (gives.has_faults i))
 
-module _ {T : Type 0} (M : Meanings T) (w : Work) (how : Reached) (core : Core T) (before mid : Counts) where
+module _ {T : Type 0} (M : Meanings T) (w : Work) (names : List (List ℕ)) (how : Reached) (core : Core T) (before mid : Counts) where
   -- what holds of a build that came so far holds of the command's session
-  pub comes_to : (Q : Session → Type 0) (coming : Option (List (List MemFile))) → IfSome coming (λ ps. Reaches M w how ps core before mid) → Q (session_at M how core) → IfSome coming (λ ps. Q (session_for M w ps))
-  comes_to Q coming reaches q = some_map coming (λ ps. Reaches M w how ps core before mid) (λ ps. Q (session_for M w ps)) (λ ps r. subst Q (sym r.session) q) reaches
+  pub comes_to : (Q : Session → Type 0) (coming : Option (List (List MemFile))) → IfSome coming (λ ps. Reaches M w how ps core before mid) → Q (session_at w.most_removed names M how core) → IfSome coming (λ ps. Q (session_for M w names ps))
+  comes_to Q coming reaches q = some_map coming (λ ps. Reaches M w how ps core before mid) (λ ps. Q (session_for M w names ps)) (λ ps r. subst Q (sym (r.session names)) q) reaches
 
-  pub comes_ok : {A E : Type 0} (Q : A → Session → Type 0) (coming : Option (List (List MemFile))) (r : Result A E) → IfSome coming (λ ps. Reaches M w how ps core before mid) → IfOk r (λ x. Q x (session_at M how core)) → IfOk r (λ x. IfSome coming (λ ps. Q x (session_for M w ps)))
+  pub comes_ok : {A E : Type 0} (Q : A → Session → Type 0) (coming : Option (List (List MemFile))) (r : Result A E) → IfSome coming (λ ps. Reaches M w how ps core before mid) → IfOk r (λ x. Q x (session_at w.most_removed names M how core)) → IfOk r (λ x. IfSome coming (λ ps. Q x (session_for M w names ps)))
   comes_ok Q coming (Ok x) reaches q = comes_to (Q x) coming reaches q
   comes_ok Q coming (Err e) reaches q = tt
 
-  pub comes_err : {A E : Type 0} (Q : E → Session → Type 0) (coming : Option (List (List MemFile))) (r : Result A E) → IfSome coming (λ ps. Reaches M w how ps core before mid) → IfErr r (λ e. Q e (session_at M how core)) → IfErr r (λ e. IfSome coming (λ ps. Q e (session_for M w ps)))
+  pub comes_err : {A E : Type 0} (Q : E → Session → Type 0) (coming : Option (List (List MemFile))) (r : Result A E) → IfSome coming (λ ps. Reaches M w how ps core before mid) → IfErr r (λ e. Q e (session_at w.most_removed names M how core)) → IfErr r (λ e. IfSome coming (λ ps. Q e (session_for M w names ps)))
   comes_err Q coming (Ok x) reaches q = tt
   comes_err Q coming (Err e) reaches q = comes_to (Q e) coming reaches q
 
@@ -42,18 +44,19 @@ spends_most reached.All s before mid spent = at_most s before mid spent
 spends_most reached.NumbersSpent s before mid spent = spent
 spends_most reached.TooMuch s before mid spent = spent
 
-spends_by : {T : Type 0} (M : Meanings T) {E : Type 0} (how : Reached) (core : Core T) (how' : Ended) (s : State E) (before mid : Counts) → (session_at M how core).ended ≡ how' → SpendsBy how s before mid → SpendsAs how' s before mid
-spends_by M reached.All core how' s before mid is spent = at _ is
+spends_by : {T : Type 0} (most : Option ℕ) (names : List (List ℕ)) (M : Meanings T) {E : Type 0} (how : Reached) (core : Core T) (how' : Ended) (s : State E) (before mid : Counts) → (session_at most names M how core).ended ≡ how' → SpendsBy how s before mid → SpendsAs how' s before mid
+spends_by most names M reached.All core how' s before mid is spent = at _ _ is
   where
-    at : (b : Bool) → ended_by b ≡ how' → SpendsAs how' s before mid
-    at true same = subst (λ x. SpendsAs x s before mid) same spent
-    at false same = subst (λ x. SpendsAs x s before mid) same spent
-spends_by M reached.NumbersSpent core how' s before mid is spent = subst (λ x. SpendsAs x s before mid) is spent
-spends_by M reached.TooMuch core how' s before mid is spent = subst (λ x. SpendsAs x s before mid) is spent
+    at : (p : Publication) (b : Bool) → ended_behind p (ended_by b) ≡ how' → SpendsAs how' s before mid
+    at (Done troubles) true same = subst (λ x. SpendsAs x s before mid) same spent
+    at (Done troubles) false same = subst (λ x. SpendsAs x s before mid) same spent
+    at (TooManyRemovals removals) b same = subst (λ x. SpendsAs x s before mid) same spent
+spends_by most names M reached.NumbersSpent core how' s before mid is spent = subst (λ x. SpendsAs x s before mid) is spent
+spends_by most names M reached.TooMuch core how' s before mid is spent = subst (λ x. SpendsAs x s before mid) is spent
 
-module _ {T : Type 0} (M : Meanings T) (w : Work) (how : Reached) (core : Core T) (before mid : Counts) (coming : Option (List (List MemFile))) (reaches : IfSome coming (λ ps. Reaches M w how ps core before mid)) where
-  pub spent_ok : {A : Type 0} (r : Result Ended A) → IfOk r (λ how'. (session_at M how core).ended ≡ how') → IfOk r (λ how'. IfSome coming (λ ps. SpendsAs how' (state_for M w ps) before mid))
-  spent_ok (Ok how') is = some_map coming (λ ps. Reaches M w how ps core before mid) (λ ps. SpendsAs how' (state_for M w ps) before mid) (λ ps r. spends_by M how core how' (state_for M w ps) before mid is r.spent) reaches
+module _ {T : Type 0} (M : Meanings T) (w : Work) (names : List (List ℕ)) (how : Reached) (core : Core T) (before mid : Counts) (coming : Option (List (List MemFile))) (reaches : IfSome coming (λ ps. Reaches M w how ps core before mid)) where
+  pub spent_ok : {A : Type 0} (r : Result Ended A) → IfOk r (λ how'. (session_at w.most_removed names M how core).ended ≡ how') → IfOk r (λ how'. IfSome coming (λ ps. SpendsAs how' (state_for M w ps) before mid))
+  spent_ok (Ok how') is = some_map coming (λ ps. Reaches M w how ps core before mid) (λ ps. SpendsAs how' (state_for M w ps) before mid) (λ ps r. spends_by w.most_removed names M how core how' (state_for M w ps) before mid is r.spent) reaches
   spent_ok (Err e) is = tt
 
   pub spent_err : {A B : Type 0} (r : Result A B) → OnErr r (IfSome coming (λ ps. HasSpentAtMost (state_for M w ps) before mid))

@@ -1,9 +1,9 @@
 -- How far a build comes, from what its take and its turns did.
-use Rattle.std.proofs.Common.{◌≡◌, ℕ, true, false, List, [], Option, Some, None, IfSome, refl, sym, ap, ap₂, ◌∙◌, subst, arith, codes}
+use Rattle.std.proofs.Common.{◌≡◌, ℕ, true, false, List, [], Option, Some, None, IfSome, refl, sym, ap, ◌∙◌, subst, arith, codes}
 use Rattle.command_words.specs.declared.commands.Work.{Work}
 use Rattle.outside.specs.declared.source.MemFile.{MemFile}
 use Rattle.engine_turns.specs.declared.core_data.Core.{Core}
-use Rattle.publication.specs.Stands.{untouched}
+use Rattle.publication.specs.declared.answer.Publication.TheVariants as publication
 use Rattle.rebuild.specs.Engines.{Meanings, turns_left_of}
 use Rattle.session.specs.Machines.{Machine}
 use Rattle.session.specs.Sessions.{State, Next, GoesOn, SpendsNumbers, IsTooMuch, Scanned, NotBegun, BrokeOff, Done, state_in, with_turns, built, reported, started, scanned, writes}
@@ -34,49 +34,49 @@ module _ {T : Type 0} (M : Meanings T) (w : Work) (ps : List (List MemFile)) whe
   m = engine_for M w
 
   abbrev pub first : Here T
-  first = started nothing ps
+  first = started nothing ps []
 
   abbrev pub at_end : Here T → Next (Compiled T)
-  at_end t = GoesOn (reported m [] t)
+  at_end t = GoesOn (reported m (publication.Done []) t)
 
   pub end_rises : IsRising at_end
   end_rises t = record { in_runs = omega arith; in_steps = omega arith }
 
-  pub build_rises : IsRising (built m [])
+  pub build_rises : IsRising (built m (publication.Done []))
   build_rises t = turns_rise m at_end end_rises (m.turns_left t.engine) t
 
   pub at_first : (core : Core T) (start : Counts) → IsIn w.directories (limits_of w) core nothing → IsAt w.directories (limits_of w) first core start start
   at_first core start is = record { engine = is; spent = spent_none first start refl refl }
 
   -- a publication and a report over nothing
-  reports : (s : Here T) → s.text ≡ [] → s.shelf ≡ untouched → session_after m (at_end s) ≡ build_of m s.engine
-  reports s text shelf = ap₂ (λ before stand. session_after m (at_end (record s { text = before; shelf = stand }))) text shelf
+  reports : (names : List (List ℕ)) (s : Here T) → s.text ≡ [] → session_after m w.most_removed names (at_end s) ≡ build_of w.most_removed names m s.engine
+  reports names s text = ap (λ before. session_after m w.most_removed names (at_end (record s { text = before }))) text
 
-  round_is : round_for M w ps ≡ scanned m Done first (built m [])
+  round_is : round_for M w ps ≡ scanned m Done first (built m (publication.Done []))
   round_is = refl
 
   module _ (core : Core T) (start now : Counts) (coming : Option (List (List MemFile))) (faults faults' : ℕ) where
     pub reaches_spent : TakesNext m w.directories (limits_of w) first took.SpendsNumbers core start now coming faults faults' → Reaches M w reached.NumbersSpent ps core start now
-    reaches_spent t = let leads : round_for M w ps ≡ SpendsNumbers t.state = subst (λ scan. scanned m scan first (built m []) ≡ SpendsNumbers t.state) t.failed (t.leads (built m [])) in record {
-      session = ap (session_after m) leads;
+    reaches_spent t = let leads : round_for M w ps ≡ SpendsNumbers t.state = subst (λ scan. scanned m scan first (built m (publication.Done [])) ≡ SpendsNumbers t.state) t.failed (t.leads (built m (publication.Done []))) in record {
+      session = λ names. ap (session_after m w.most_removed names) leads;
       spent = subst (λ s. HasSpentAtMost s start now) (sym (ap state_in leads)) t.stands;
     }
 
     pub reaches_too_much : TakesNext m w.directories (limits_of w) first took.IsTooMuch core start now coming faults faults' → Reaches M w reached.TooMuch ps core start now
-    reaches_too_much t = let leads : round_for M w ps ≡ IsTooMuch t.state = subst (λ scan. scanned m scan first (built m []) ≡ IsTooMuch t.state) t.failed (t.leads (built m [])) in record {
-      session = ap (session_after m) leads;
+    reaches_too_much t = let leads : round_for M w ps ≡ IsTooMuch t.state = subst (λ scan. scanned m scan first (built m (publication.Done [])) ≡ IsTooMuch t.state) t.failed (t.leads (built m (publication.Done []))) in record {
+      session = λ names. ap (session_after m w.most_removed names) leads;
       spent = subst (λ s. HasSpentAtMost s start now) (sym (ap state_in leads)) t.stands;
     }
 
     -- a scan that failed made no run and no step
-    stands_still : (scan : Scanned) (s : Here T) → has_failed scan ≡ true → scanned m scan first (built m []) ≡ writes s (codes "source fault\n") → (s.runs ≡ 0) × (s.steps ≡ 0)
+    stands_still : (scan : Scanned) (s : Here T) → has_failed scan ≡ true → scanned m scan first (built m (publication.Done [])) ≡ writes s (codes "source fault\n") → (s.runs ≡ 0) × (s.steps ≡ 0)
     stands_still NotBegun s failed leads = (sym (ap (λ n. (state_in n).runs) leads), sym (ap (λ n. (state_in n).steps) leads))
     stands_still BrokeOff s failed leads = (sym (ap (λ n. (state_in n).runs) leads), sym (ap (λ n. (state_in n).steps) leads))
     stands_still Done s failed leads = cc
 
     pub cut_failed : TakesNext m w.directories (limits_of w) first took.Failed core start now coming faults faults' → HasSpentAtMost (state_for M w ps) start now
     cut_failed t =
-        let still = stands_still t.scan t.state t.failed (t.leads (built m [])) in
+        let still = stands_still t.scan t.state t.failed (t.leads (built m (publication.Done []))) in
         let steps : now.steps ≡ start.steps = (let a = t.stands.spent.in_steps in let b = still.1 in omega (arith, a, b)) in
         let runs : now.runs ≡ start.runs = t.stands.spent.in_runs ∙ ap (λ k. counted_more k start.runs) still.0 in
         let same : now ≡ start = (λ i. record { runs = runs i; steps = steps i }) in
@@ -88,14 +88,14 @@ module _ {T : Type 0} (M : Meanings T) (w : Work) (ps : List (List MemFile)) whe
       left_is = ap m.turns_left (sym t.stands.engine.is) ∙ sym is_left
 
       turns_are : round_for M w ps ≡ with_turns m left t.state at_end
-      turns_are = subst (λ scan. scanned m scan first (built m []) ≡ built m [] t.state) t.failed (t.leads (built m [])) ∙ ap (λ k. with_turns m k t.state at_end) left_is
+      turns_are = subst (λ scan. scanned m scan first (built m (publication.Done [])) ≡ built m (publication.Done []) t.state) t.failed (t.leads (built m (publication.Done []))) ∙ ap (λ k. with_turns m k t.state at_end) left_is
 
       pub cut_turning : (later : Counts) → HasSpentAtMost (state_in (with_turns m left t.state at_end)) start later → HasSpentAtMost (state_for M w ps) start later
       cut_turning later most = subst (λ n. HasSpentAtMost (state_in n) start later) (sym turns_are) most
 
       pub reaches_all : (last : Core T) (later : Counts) → MakesTurns m w.directories (limits_of w) left t.state true last start later → Reaches M w reached.All ps last start later
       reaches_all last later made = record {
-        session = ap (session_after m) leads ∙ reports made.state (made.moved.text ∙ t.text) (made.moved.shelf ∙ t.shelf) ∙ along last (λ dirs limits e. build_of (compiler (M dirs limits) dirs) e ≡ session_at M reached.All last) w.directories (limits_of w) made.state.engine made.stands.engine refl;
+        session = λ names. ap (session_after m w.most_removed names) leads ∙ reports names made.state (made.moved.text ∙ t.text) ∙ along last (λ dirs limits e. build_of w.most_removed names (compiler (M dirs limits) dirs) e ≡ session_at w.most_removed names M reached.All last) w.directories (limits_of w) made.state.engine made.stands.engine refl;
         spent = subst (λ n. HasSpent (state_in n) start later) (sym leads) (record { in_runs = made.stands.spent.in_runs; in_steps = made.stands.spent.in_steps });
       }
         where
@@ -104,7 +104,7 @@ module _ {T : Type 0} (M : Meanings T) (w : Work) (ps : List (List MemFile)) whe
 
       pub reaches_none : (last : Core T) (later : Counts) → MakesTurns m w.directories (limits_of w) left t.state false last start later → Reaches M w reached.NumbersSpent ps last start later
       reaches_none last later made = record {
-        session = ap (session_after m) leads;
+        session = λ names. ap (session_after m w.most_removed names) leads;
         spent = subst (λ n. HasSpentAtMost (state_in n) start later) (sym leads) made.stands;
       }
         where

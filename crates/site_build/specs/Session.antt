@@ -1,6 +1,6 @@
 -- The session of a build, by what a runner means, its work, and the pictures that the source has to
 -- give; and how a build ends.
-use Rattle.std.specs.Prelude.{◌≡◌, ℕ, List, Option, Some, None, option_map, ◌⊎◌}
+use Rattle.std.specs.Prelude.{◌≡◌, ℕ, List, [], Option, Some, None, IfSome, option_map, ◌⊎◌}
 use Rattle.command_words.specs.declared.commands.Work.{Work}
 use Rattle.compiler.specs.Compiler.{Compiled, compiler, nothing}
 use Rattle.outside.specs.Cells.{Cell, AreSame}
@@ -9,14 +9,18 @@ use Rattle.outside.specs.Pictures.{later_pictures}
 use Rattle.outside.specs.declared.shelf.Change.{Change}
 use Rattle.outside.specs.declared.source.MemFile.{MemFile}
 use Rattle.pan_ast.specs.declared.work.Limits.{Limits}
-use Rattle.publication.specs.Changing.{AreListed, Makes, Begins}
+use Rattle.publication.specs.Bounds.{answer_over, granted, shelf_of}
+use Rattle.publication.specs.Changing.{AreListed, MadeOver, BegunOver, Tells}
 use Rattle.publication.specs.Stands.{Stand, Stands, untouched}
-use Rattle.publication.specs.Wants.{wants_of}
+use Rattle.publication.specs.declared.answer.Publication.{Publication}
+use Rattle.publication.specs.declared.answer.Publication.TheVariants as publication
 use Rattle.publication.specs.declared.want.Want.{Want}
 use Rattle.rebuild.specs.Engines.{Meanings}
 use Rattle.session.specs.Machines.{Machine}
-use Rattle.session.specs.Sessions.{State, Next, GoesOn, Quits, SpendsNumbers, IsTooMuch, build_round, next, state_in, started, answers, profiles_of, end_of, end_line}
+use Rattle.session.specs.Sessions.{State, Next, GoesOn, Quits, SpendsNumbers, IsTooMuch, build_round, next, state_in, started, wants_in, end_of, end_line}
 use Rattle.session.specs.declared.Ended.{Ended}
+use Rattle.session.specs.declared.Ended.TheVariants as ended
+use Rattle.site_build.specs.Ends.{Stopped}
 use Rattle.site_build.specs.declared.ends.End.{End}
 use Rattle.site_build.specs.declared.ends.End.TheVariants as E
 
@@ -32,17 +36,33 @@ pub record Session : Type 0 where
 abbrev pub line_alone : Ended → Session
 line_alone how = record { text = end_line how; ended = how; shelf = untouched; wants = None }
 
--- the session of what a round leads to
-abbrev pub session_after : {E : Type 0} → Machine E → Next E → Session
-session_after machine (GoesOn t) = record {
-  text = t.text;
-  ended = end_of (GoesOn t);
-  shelf = t.shelf;
-  wants = Some (wants_of (profiles_of (answers machine t)));
+-- what is written behind a publication in place of a report, and how the session ends then: where
+-- too many names were to go, a line tells how many
+abbrev pub text_behind : Publication → List ℕ → List ℕ
+text_behind (publication.Done troubles) report = report
+text_behind (publication.TooManyRemovals removals) report =
+    end_line (ended.TooManyRemovals removals)
+
+abbrev pub ended_behind : Publication → Ended → Ended
+ended_behind (publication.Done troubles) how = how
+ended_behind (publication.TooManyRemovals removals) how = ended.TooManyRemovals removals
+
+-- the session that publishes over a shelf with these names, where no call fails
+abbrev pub session_over : Option ℕ → List (List ℕ) → List Want → List ℕ → Ended → Session
+session_over most names ws report how = record {
+  text = text_behind (answer_over most names ws) report;
+  ended = ended_behind (answer_over most names ws) how;
+  shelf = shelf_of (granted most names ws);
+  wants = granted most names ws;
 }
-session_after machine (Quits t) = line_alone (end_of (Quits t))
-session_after machine (SpendsNumbers t) = line_alone (end_of (SpendsNumbers t))
-session_after machine (IsTooMuch t) = line_alone (end_of (IsTooMuch t))
+
+-- the session of what a round leads to, over a shelf with these names
+abbrev pub session_after : {E : Type 0} → Machine E → Option ℕ → List (List ℕ) → Next E → Session
+session_after machine most names (GoesOn t) =
+    session_over most names (wants_in machine t) t.text (end_of (GoesOn t))
+session_after machine most names (Quits t) = line_alone (end_of (Quits t))
+session_after machine most names (SpendsNumbers t) = line_alone (end_of (SpendsNumbers t))
+session_after machine most names (IsTooMuch t) = line_alone (end_of (IsTooMuch t))
 
 abbrev pub limits_of : Work → Limits
 limits_of w = record { max_iteration = w.iterations; max_recursion = w.recursion }
@@ -54,10 +74,12 @@ module _ {T : Type 0} (means : Meanings T) where
 
   -- what a build's round leads to, from an engine that has taken nothing
   abbrev pub round_for : Work → List (List MemFile) → Next (Compiled T)
-  round_for w pictures = next (engine_for w) build_round (started nothing pictures)
+  round_for w pictures = next (engine_for w) build_round (started nothing pictures [])
 
-  abbrev pub session_for : Work → List (List MemFile) → Session
-  session_for w pictures = session_after (engine_for w) (round_for w pictures)
+  -- over a shelf with these names
+  abbrev pub session_for : Work → List (List ℕ) → List (List MemFile) → Session
+  session_for w names pictures =
+      session_after (engine_for w) w.most_removed names (round_for w pictures)
 
   -- where the session then stands, with the runs and the steps that were made
   abbrev pub state_for : Work → List (List MemFile) → State (Compiled T)
@@ -91,21 +113,31 @@ TakesEarly E.Source old new = (new ≡ old) ⊎ IsPassed old new
 TakesEarly E.Out old new = (new ≡ old) ⊎ IsPassed old new
 TakesEarly E.Memory old new = (new ≡ old) ⊎ IsPassed old new
 
--- A session came to its end: all changes of its publication were made, over the names on the shelf
--- in byte order, and no other; without a publication nothing was done.
-abbrev pub Publishes : Option (List Want) → (List ℕ → Cell) → (List ℕ → Cell) → Option (List Change)
-    → Option (List Change) → Type 0
-Publishes None old new before now = (now ≡ before) × AreSame old new
-Publishes (Some ws) old new before now =
-    (names : List (List ℕ)) × AreListed names old × Makes ws names old new before now
-
--- It ended early: nothing was done, or a first part of those changes.
-abbrev pub PublishesPart : Option (List Want) → (List ℕ → Cell) → (List ℕ → Cell)
-    → Option (List Change) → Option (List Change) → Type 0
-PublishesPart None old new before now = (now ≡ before) × AreSame old new
-PublishesPart (Some ws) old new before now =
-    ((now ≡ before) × AreSame old new)
-    ⊎ ((names : List (List ℕ)) × AreListed names old × Begins ws names old new before now)
-
 abbrev pub IsPerhapsOpened : List ℕ → Option (List ℕ) → Option (List ℕ) → Type 0
 IsPerhapsOpened folder old new = (new ≡ old) ⊎ (new ≡ Some folder)
+
+-- A build came to its end: its session is that of the names on the shelf, in byte order. All changes
+-- of its publication were made, over these names, and no other; without a publication nothing was
+-- done.
+pub record Finishes {T : Type 0} (means : Meanings T) (w : Work) (how : Ended)
+    (coming : Option (List (List MemFile))) (held_old held_new : Option (List ℕ))
+    (old new : List ℕ → Cell) (before now : Option (List Change)) : Type 0 where
+  pub names : List (List ℕ)
+  pub listed : AreListed names old
+  pub session : IfSome coming (λ ps. Finished (session_for means w names ps) how held_old held_new
+      old new)
+  pub order : Tells old → IfSome coming (λ ps. MadeOver (session_for means w names ps).wants names
+      old new before now)
+
+-- It ended early: nothing was done to the shelf, or the names on it were listed, and a part of that
+-- at most was done.
+pub record Breaks {T : Type 0} (means : Meanings T) (w : Work) (end : End)
+    (coming : Option (List (List MemFile))) (held_old held_new : Option (List ℕ))
+    (old new : List ℕ → Cell) (before now : Option (List Change)) : Type 0 where
+  pub names : List (List ℕ)
+  pub listed : ((now ≡ before) × AreSame old new) ⊎ AreListed names old
+  pub text : IfSome coming (λ ps. WritesEarly (session_for means w names ps).text end held_old
+      held_new)
+  pub shelf : IfSome coming (λ ps. Stopped end (session_for means w names ps).shelf old new)
+  pub order : Tells old → IfSome coming (λ ps. BegunOver (session_for means w names ps).wants names
+      old new before now)

@@ -5,10 +5,10 @@ ghost use Rattle.std.specs.Ordering.{nat_cmp};
 ghost use Rattle.outside.specs.Causes.{Caused};
 ghost use Rattle.outside.specs.Cells.{AreSame};
 ghost use Rattle.outside.specs.Contents.{Appends, AppendsPart};
-ghost use Rattle.publication.specs.Changing.{Makes, Begins, Tells};
+ghost use Rattle.publication.specs.Bounds.{answer_over, granted, shelf_of};
+ghost use Rattle.publication.specs.Changing.{MadeOver, BegunOver, Tells};
 ghost use Rattle.publication.specs.Listings.{Lists};
-ghost use Rattle.publication.specs.Stands.{Stands, untouched};
-ghost use Rattle.publication.specs.Troubles.{published};
+ghost use Rattle.publication.specs.Stands.{Stands};
 ghost use Rattle.publication.specs.Wants.{proper, wants_of};
 ghost use Rattle.site_build.specs.Ends.{IsEndOf, IsFailureOf, Stopped, OfSource, OfShelf, OfName, OfSink};
 ghost use Rattle.site_build.specs.declared.ends.Device.{Device};
@@ -16,7 +16,7 @@ ghost use Rattle.site_build.specs.declared.ends.Device.{Device};
 use crate::ends::End;
 use base::Text;
 use outside::{Shelf, Sink, Source, StoreError};
-use publication::{Profile, PublishError, listed, publish_until_failure};
+use publication::{Profile, Publication, PublishError, listed, publish_until_failure};
 use std::alloc::Global;
 
 /// Opens the source at a folder.
@@ -70,32 +70,36 @@ pub fn list_shelf<H: Shelf>(alloc: Global, shelf: &mut H) -> Result<Vec<Text>, E
     }
 }
 
-/// Publishes profiles on a shelf on which these names are. The first call that fails ends it.
+/// Publishes profiles on a shelf on which these names are, where no more of them are to go than `most`. The first call
+/// that fails ends it.
 pub fn publish<H: Shelf>(
     alloc: Global,
     shelf: &mut H,
     listed: &[Text],
     profiles: &[Profile],
-) -> Result<(), End>
+    most: Option<u64>,
+) -> Result<Publication, End>
     requires proper { proper (wants_of profiles.now) ≡ true }
     requires listed { Lists listed.now (H.cell shelf.old) }
-    ensures ok { OnOk result (Stands (published (wants_of profiles.now) [] untouched)
+    ensures answer { IfOk result
+        (λ p. p ≡ answer_over most listed.now (wants_of profiles.now)) }
+    ensures ok { OnOk result (Stands (shelf_of (granted most listed.now (wants_of profiles.now)))
         (H.cell shelf.old) (H.cell shelf.new)) }
-    ensures err { IfErr result (λ e. Stopped e (published (wants_of profiles.now) [] untouched)
-        (H.cell shelf.old) (H.cell shelf.new)) }
-    ensures made { OnOk result (Tells (H.cell shelf.old) →
-        Makes (wants_of profiles.now) listed.now (H.cell shelf.old) (H.cell shelf.new)
+    ensures err { IfErr result (λ e. Stopped e (shelf_of (granted most listed.now
+        (wants_of profiles.now))) (H.cell shelf.old) (H.cell shelf.new)) }
+    ensures made { OnOk result (Tells (H.cell shelf.old) → MadeOver (granted most listed.now
+        (wants_of profiles.now)) listed.now (H.cell shelf.old) (H.cell shelf.new)
         (H.changes shelf.old) (H.changes shelf.new)) }
-    ensures begun { OnErr result (Tells (H.cell shelf.old) →
-        Begins (wants_of profiles.now) listed.now (H.cell shelf.old) (H.cell shelf.new)
+    ensures begun { OnErr result (Tells (H.cell shelf.old) → BegunOver (granted most listed.now
+        (wants_of profiles.now)) listed.now (H.cell shelf.old) (H.cell shelf.new)
         (H.changes shelf.old) (H.changes shelf.new)) }
     ensures opened { H.opened shelf.new ≡ H.opened shelf.old }
     ensures kind { IfErr result (IsEndOf OfName) }
     ensures cause { Caused (IsFailureOf Device.Shelf) (H.fault_count shelf.old)
         (H.fault_count shelf.new) result }
 {
-    match publish_until_failure(alloc, shelf, listed, profiles) {
-        Ok(()) => Ok(()),
+    match publish_until_failure(alloc, shelf, listed, profiles, most) {
+        Ok(publication) => Ok(publication),
         Err(PublishError::Failed(object)) => Err(End::Publishing(object)),
         Err(PublishError::Memory) => Err(End::Memory),
     }

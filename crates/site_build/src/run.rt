@@ -1,9 +1,8 @@
 ghost use Rattle.std.specs.Prelude.{◌≡◌, ◌≤◌, ◌⊎◌, IfOk, IfErr, OnOk, OnErr, IfSome, Some};
 ghost use Rattle.compiler.specs.Standing.{counts, HasSpentAtMost, SpendsAs};
 ghost use Rattle.outside.specs.Causes.{Caused};
-ghost use Rattle.publication.specs.Changing.{Tells};
-ghost use Rattle.site_build.specs.Ends.{IsFailureOf, Stopped};
-ghost use Rattle.site_build.specs.Session.{session_for, state_for, Finished, WritesEarly, TakesEarly, IsPassed, IsPerhapsOpened, Publishes, PublishesPart};
+ghost use Rattle.site_build.specs.Ends.{IsFailureOf};
+ghost use Rattle.site_build.specs.Session.{state_for, Finishes, Breaks, TakesEarly, IsPassed, IsPerhapsOpened};
 ghost use Rattle.site_build.specs.declared.ends.Device.{Device};
 
 use crate::building::build_over;
@@ -20,7 +19,7 @@ use std::sync::ledger::Ledger;
 /// A build: opens SOURCE and OUT, compiles the source's next picture, publishes the profiles and writes the report.
 ///
 /// Objects are built and checked by the runner, each where the engine wants it. What is written, what stands on the shelf
-/// and how it ends are those of the session of the work and the picture, by what the runner means. The first call of a
+/// and how it ends are those of the session of the work, the names on the shelf and the picture, by what the runner means. The first call of a
 /// device that fails, and want of memory, end it early; then nothing is written behind what was. `steps` rises by the
 /// session's steps: one for each file that is taken, for each item that is compared, and the work of each run.
 pub fn build_site<R: Runner, S: Source, H: Shelf, O: Sink, L: Ledger>(
@@ -32,19 +31,12 @@ pub fn build_site<R: Runner, S: Source, H: Shelf, O: Sink, L: Ledger>(
     out: &mut O,
     steps: &mut Steps<L>,
 ) -> Result<Ended, End>
-    ensures ok { IfOk result (λ ended. IfSome (S.coming source.old) (λ ps. Finished (session_for
-        R.meaning work.now ps) ended (O.held out.old) (O.held out.new) (H.cell shelf.old)
-        (H.cell shelf.new))) }
-    ensures text { IfErr result (λ e. IfSome (S.coming source.old) (λ ps. WritesEarly (session_for
-        R.meaning work.now ps).text e (O.held out.old) (O.held out.new))) }
-    ensures shelf { IfErr result (λ e. IfSome (S.coming source.old) (λ ps. Stopped e (session_for
-        R.meaning work.now ps).shelf (H.cell shelf.old) (H.cell shelf.new))) }
-    ensures made { OnOk result (Tells (H.cell shelf.old) → IfSome (S.coming source.old) (λ ps.
-        Publishes (session_for R.meaning work.now ps).wants (H.cell shelf.old) (H.cell shelf.new)
-        (H.changes shelf.old) (H.changes shelf.new))) }
-    ensures begun { OnErr result (Tells (H.cell shelf.old) → IfSome (S.coming source.old) (λ ps.
-        PublishesPart (session_for R.meaning work.now ps).wants (H.cell shelf.old)
-        (H.cell shelf.new) (H.changes shelf.old) (H.changes shelf.new))) }
+    ensures ok { IfOk result (λ ended. Finishes R.meaning work.now ended (S.coming source.old)
+        (O.held out.old) (O.held out.new) (H.cell shelf.old) (H.cell shelf.new)
+        (H.changes shelf.old) (H.changes shelf.new)) }
+    ensures part { IfErr result (λ e. Breaks R.meaning work.now e (S.coming source.old)
+        (O.held out.old) (O.held out.new) (H.cell shelf.old) (H.cell shelf.new)
+        (H.changes shelf.old) (H.changes shelf.new)) }
     ensures spent { IfOk result (λ ended. IfSome (S.coming source.old) (λ ps. SpendsAs ended
         (state_for R.meaning work.now ps) (counts (R.runs_of runner.old) steps.old)
         (counts (R.runs_of runner.new) steps.new))) }

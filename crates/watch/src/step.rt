@@ -5,7 +5,8 @@ ghost use Rattle.engine_turns.specs.States.{pictured};
 ghost use Rattle.outside.specs.Cells.{Cell};
 ghost use Rattle.outside.specs.declared.source.MemFile.{MemFile};
 ghost use Rattle.pan_ast.specs.declared.work.Limits.{Limits};
-ghost use Rattle.publication.specs.Published.{Knows, Interrupted};
+ghost use Rattle.publication.specs.Published.{Knows, InterruptedWithin, may_stand_in};
+ghost use Rattle.publication.specs.declared.publisher.Publisher.{Publisher};
 ghost use Rattle.publication.specs.Wants.{wants_of};
 ghost use Rattle.rebuild.specs.Answers.{why_at};
 ghost use Rattle.rebuild.specs.Engines.{situation_of, turns_left_of};
@@ -16,11 +17,11 @@ ghost use Rattle.session.specs.Texts.{about, outcome_text, deps_text};
 ghost use Rattle.watch.specs.Steps.{At, Went, Worked, Cut, Publishes, spot};
 
 use crate::reading::{Order, read_order};
-use crate::texts::{push_deps, push_files, push_shown, push_turns};
+use crate::texts::{push_deps, push_files, push_publication, push_shown, push_turns};
 use base::Steps;
 use compiler::{Took, build, deps, make_turns, push_cause, shown, take_next};
 use outside::{Shelf, Source};
-use publication::{Publisher, push_lines};
+use publication::Publisher;
 use rebuild::Engine;
 use runner::Runner;
 use std::alloc::{AllocError, Global};
@@ -49,11 +50,14 @@ fn scan_line<R: Runner, S: Source, L: Ledger>(
     requires dirs { R.dirs_of runner.old ≡ engine.old.core.dirs }
     requires kept { IsKept engine.old.core }
     ensures went { IfOk result (λ step. (dirs : List (List ℕ)) (limits : Limits) (s : Here R.Rest)
-        (has_faults : Bool) (shelf_count : ℕ) (cell start : List ℕ → Cell) (began : Counts) →
+        (has_faults : Bool) (shelf_count : ℕ) (cell start : List ℕ → Cell) (publisher : Publisher)
+        (began : Counts) →
         let before = spot engine.old.core (S.coming source.old) has_faults
-        (counts (R.runs_of runner.old) steps.old) (S.fault_count source.old) shelf_count cell in
+        (counts (R.runs_of runner.old) steps.old) (S.fault_count source.old) shelf_count cell
+        publisher in
         let after = spot engine.new.core (S.coming source.new) has_faults
-        (counts (R.runs_of runner.new) steps.new) (S.fault_count source.new) shelf_count cell in
+        (counts (R.runs_of runner.new) steps.new) (S.fault_count source.new) shelf_count cell
+        publisher in
         At dirs limits s before start began → Went (compiler (R.meaning dirs limits) dirs) dirs
         limits orders.Scan s step text.new.items before after start began) }
     ensures work { OnErr result ((dirs : List (List ℕ)) (limits : Limits) (s : Here R.Rest)
@@ -98,11 +102,11 @@ fn turn_line<R: Runner, L: Ledger>(
     requires kept { IsKept engine.old.core }
     ensures went { IfOk result (λ step. (dirs : List (List ℕ)) (limits : Limits) (s : Here R.Rest)
         (coming : Option (List (List MemFile))) (has_faults : Bool) (source_count shelf_count : ℕ)
-        (cell start : List ℕ → Cell) (began : Counts) →
+        (cell start : List ℕ → Cell) (publisher : Publisher) (began : Counts) →
         let before = spot engine.old.core coming has_faults
-        (counts (R.runs_of runner.old) steps.old) source_count shelf_count cell in
+        (counts (R.runs_of runner.old) steps.old) source_count shelf_count cell publisher in
         let after = spot engine.new.core coming has_faults
-        (counts (R.runs_of runner.new) steps.new) source_count shelf_count cell in
+        (counts (R.runs_of runner.new) steps.new) source_count shelf_count cell publisher in
         At dirs limits s before start began → Went (compiler (R.meaning dirs limits) dirs) dirs
         limits (orders.Turns number) s step text.new.items before after start began) }
     ensures work { OnErr result ((dirs : List (List ℕ)) (limits : Limits) (s : Here R.Rest)
@@ -138,18 +142,19 @@ fn publish_built<R: Runner, H: Shelf>(
     ensures done { OnOk result (Publishes (compiler (R.meaning engine.now.core.dirs
         engine.now.core.limits) engine.now.core.dirs) (compiled_in engine.now.core) has_faults.new
         text.new.items (H.fault_count shelf.old) (H.fault_count shelf.new) (H.cell shelf.old)
-        (H.cell shelf.new)) }
+        (H.cell shelf.new) publisher.old publisher.new) }
     ensures knows { OnOk result (Knows publisher.new (H.cell shelf.new)) }
-    ensures left { OnErr result (Interrupted (wants_of (profiles_of (answers_in (compiler (R.meaning
-        engine.now.core.dirs engine.now.core.limits) engine.now.core.dirs)
-        (compiled_in engine.now.core)))) (H.fault_count shelf.old) (H.fault_count shelf.new)
-        (H.cell shelf.old) (H.cell shelf.new)) }
+    ensures left { OnErr result (InterruptedWithin publisher.old.most (wants_of (profiles_of
+        (answers_in (compiler (R.meaning engine.now.core.dirs engine.now.core.limits)
+        engine.now.core.dirs) (compiled_in engine.now.core)))) (may_stand_in publisher.old)
+        (H.fault_count shelf.old) (H.fault_count shelf.new) (H.cell shelf.old)
+        (H.cell shelf.new)) }
     ensures later { H.fault_count shelf.old ≤ H.fault_count shelf.new }
     ensures opened { H.opened shelf.new ≡ H.opened shelf.old }
 {
     let built = build(alloc, engine)?;
-    let troubles = publisher.publish(alloc, shelf, &built.profiles)?;
-    push_lines(alloc, text, &troubles)?;
+    let publication = publisher.publish(alloc, shelf, &built.profiles)?;
+    push_publication(alloc, text, &publication)?;
     text.extend_from_slice(&built.report)?;
     *has_faults = built.has_faults;
     Ok(())
@@ -213,20 +218,20 @@ fn build_line<R: Runner, S: Source, H: Shelf, L: Ledger>(
         (start : List ℕ → Cell) (began : Counts) →
         let before = spot engine.old.core (S.coming source.old) has_faults.old
         (counts (R.runs_of runner.old) steps.old) (S.fault_count source.old)
-        (H.fault_count shelf.old) (H.cell shelf.old) in
+        (H.fault_count shelf.old) (H.cell shelf.old) publisher.old in
         let after = spot engine.new.core (S.coming source.new) has_faults.new
         (counts (R.runs_of runner.new) steps.new) (S.fault_count source.new)
-        (H.fault_count shelf.new) (H.cell shelf.new) in
+        (H.fault_count shelf.new) (H.cell shelf.new) publisher.new in
         At dirs limits s before start began → Went (compiler (R.meaning dirs limits) dirs) dirs
         limits orders.Build s step text.new.items before after start began) }
     ensures cut { OnErr result ((dirs : List (List ℕ)) (limits : Limits) (s : Here R.Rest)
         (start : List ℕ → Cell) (began : Counts) →
         let before = spot engine.old.core (S.coming source.old) has_faults.old
         (counts (R.runs_of runner.old) steps.old) (S.fault_count source.old)
-        (H.fault_count shelf.old) (H.cell shelf.old) in
+        (H.fault_count shelf.old) (H.cell shelf.old) publisher.old in
         let after = spot engine.new.core (S.coming source.new) has_faults.new
         (counts (R.runs_of runner.new) steps.new) (S.fault_count source.new)
-        (H.fault_count shelf.new) (H.cell shelf.new) in
+        (H.fault_count shelf.new) (H.cell shelf.new) publisher.new in
         At dirs limits s before start began → Cut (compiler (R.meaning dirs limits) dirs)
         orders.Build s before after start) }
     ensures work { OnErr result ((dirs : List (List ℕ)) (limits : Limits) (s : Here R.Rest)
@@ -284,20 +289,20 @@ pub fn work_on<R: Runner, S: Source, H: Shelf, L: Ledger>(
         (start : List ℕ → Cell) (began : Counts) →
         let before = spot engine.old.core (S.coming source.old) has_faults.old
         (counts (R.runs_of runner.old) steps.old) (S.fault_count source.old)
-        (H.fault_count shelf.old) (H.cell shelf.old) in
+        (H.fault_count shelf.old) (H.cell shelf.old) publisher.old in
         let after = spot engine.new.core (S.coming source.new) has_faults.new
         (counts (R.runs_of runner.new) steps.new) (S.fault_count source.new)
-        (H.fault_count shelf.new) (H.cell shelf.new) in
+        (H.fault_count shelf.new) (H.cell shelf.new) publisher.new in
         At dirs limits s before start began → Went (compiler (R.meaning dirs limits) dirs) dirs
         limits (order_of line.now) s step text.new.items before after start began) }
     ensures cut { OnErr result ((dirs : List (List ℕ)) (limits : Limits) (s : Here R.Rest)
         (start : List ℕ → Cell) (began : Counts) →
         let before = spot engine.old.core (S.coming source.old) has_faults.old
         (counts (R.runs_of runner.old) steps.old) (S.fault_count source.old)
-        (H.fault_count shelf.old) (H.cell shelf.old) in
+        (H.fault_count shelf.old) (H.cell shelf.old) publisher.old in
         let after = spot engine.new.core (S.coming source.new) has_faults.new
         (counts (R.runs_of runner.new) steps.new) (S.fault_count source.new)
-        (H.fault_count shelf.new) (H.cell shelf.new) in
+        (H.fault_count shelf.new) (H.cell shelf.new) publisher.new in
         At dirs limits s before start began → Cut (compiler (R.meaning dirs limits) dirs)
         (order_of line.now) s before after start) }
     ensures work { OnErr result ((dirs : List (List ℕ)) (limits : Limits) (s : Here R.Rest)

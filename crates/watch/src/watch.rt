@@ -10,7 +10,7 @@ ghost use Rattle.pan_ast.specs.declared.work.Limits.{Limits};
 ghost use Rattle.publication.specs.Published.{Knows};
 ghost use Rattle.session.specs.Sessions.{started};
 ghost use Rattle.watch.specs.Steps.{spot};
-ghost use Rattle.watch.specs.Played.{Finished, Stopped, IsEndOf, reel};
+ghost use Rattle.watch.specs.Played.{Finished, HasNames, Stopped, IsEndOf, reel};
 
 use crate::ends::End;
 use crate::step::{Step, work_on};
@@ -71,26 +71,28 @@ pub fn play<R: Runner, S: Source, H: Shelf, N: Lines, O: Sink, L: Ledger>(
     requires kept { IsKept engine.old.core }
     requires knows { Knows publisher.old (H.cell shelf.old) }
     ensures ok { IfOk result (λ faults. (dirs : List (List ℕ)) (limits : Limits)
-        (e : Compiled R.Rest) (ps : List (List MemFile)) → IsIn dirs limits engine.old.core e
-        → S.coming source.old ≡ Some ps →
+        (e : Compiled R.Rest) (ps : List (List MemFile)) (names : List (List ℕ))
+        → IsIn dirs limits engine.old.core e → S.coming source.old ≡ Some ps
+        → HasNames publisher.old names →
         let first = spot engine.old.core (S.coming source.old) false
         (counts (R.runs_of runner.old) steps.old) (S.fault_count source.old)
-        (H.fault_count shelf.old) (H.cell shelf.old) in
+        (H.fault_count shelf.old) (H.cell shelf.old) publisher.old in
         let here = spot engine.new.core (S.coming source.new) faults
         (counts (R.runs_of runner.new) steps.new) (S.fault_count source.new)
-        (H.fault_count shelf.new) (H.cell shelf.new) in
-        Finished (compiler (R.meaning dirs limits) dirs) dirs limits (started e ps)
+        (H.fault_count shelf.new) (H.cell shelf.new) publisher.new in
+        Finished (compiler (R.meaning dirs limits) dirs) dirs limits (started e ps names)
         (reel (N.left lines.old) (N.left lines.new) (O.held out.old) (O.held out.new)) first here) }
     ensures err { IfErr result (λ end. (dirs : List (List ℕ)) (limits : Limits)
-        (e : Compiled R.Rest) (ps : List (List MemFile)) → IsIn dirs limits engine.old.core e
-        → S.coming source.old ≡ Some ps → (faults : Bool) × (
+        (e : Compiled R.Rest) (ps : List (List MemFile)) (names : List (List ℕ))
+        → IsIn dirs limits engine.old.core e → S.coming source.old ≡ Some ps
+        → HasNames publisher.old names → (faults : Bool) × (
         let first = spot engine.old.core (S.coming source.old) false
         (counts (R.runs_of runner.old) steps.old) (S.fault_count source.old)
-        (H.fault_count shelf.old) (H.cell shelf.old) in
+        (H.fault_count shelf.old) (H.cell shelf.old) publisher.old in
         let here = spot engine.new.core (S.coming source.new) faults
         (counts (R.runs_of runner.new) steps.new) (S.fault_count source.new)
-        (H.fault_count shelf.new) (H.cell shelf.new) in
-        Stopped (compiler (R.meaning dirs limits) dirs) dirs limits (started e ps) end
+        (H.fault_count shelf.new) (H.cell shelf.new) publisher.new in
+        Stopped (compiler (R.meaning dirs limits) dirs) dirs limits (started e ps names) end
         (reel (N.left lines.old) (N.left lines.new) (O.held out.old) (O.held out.new)) first
         here)) }
     ensures source_opened { S.opened source.new ≡ S.opened source.old }

@@ -1,4 +1,4 @@
-use Rattle.std.proofs.Common.{◌≡◌, ◌-◌, List, ℕ}
+use Rattle.std.proofs.Common.{◌≡◌, ◌-◌, List, [], ℕ}
 use Rattle.compiler.specs.Compiler.{Compiled, compiler}
 use Rattle.compiler.specs.Standing.{counts, IsIn, IsKept}
 use Rattle.engine_turns.specs.States.{pictured}
@@ -15,6 +15,6 @@ invariant-loop-i g l = record {
   kept : IsKept l.engine.core;
   out : g.O.Sink.fault_count l.out ≡ g.O.Sink.fault_count l.fn.out;
   played : (dirs : List (List ℕ)) (limits : Limits) (e : Compiled g.row.R-Rest.Denot) (ps : List (List MemFile)) → IsIn dirs limits l.fn.engine.core e → l.fn.source.coming ≡ ps →
-      Playing (compiler (g.R.Runner.meaning dirs limits) dirs) dirs limits (started e ps) (4 - l._i) l.has_faults l.engine.core l.source.coming
+      Playing (compiler (g.R.Runner.meaning dirs limits) dirs) dirs limits (started e ps []) (4 - l._i) l.has_faults l.engine.core l.source.coming
       (counts (g.R.Runner.runs_of l.fn.runner) l.fn.steps) (counts (g.R.Runner.runs_of l.runner) l.steps) (g.O.Sink.held l.fn.out) (g.O.Sink.held l.out);
 }

@@ -6,7 +6,7 @@ use Rattle.demo.specs.declared.ends.End.TheVariants as ends
 use Rattle.pan_top.specs.Demos.{shown_by}
 use Rattle.pan_top.specs.declared.status.Status.TheVariants as S
 use Rattle.pan_top.proofs.Counting.{counted_on, counted_same}
-use Rattle.pan_top.proofs.Shown.{shown_plain, shown_said, shown_part}
+use Rattle.pan_top.proofs.Shown.{never_many, shown_plain, shown_said, shown_part}
 use Rattle.pan_top.proofs.showing.show.Goals as goal
 
 pub returns-in-Ok-NumbersSpent-clause-shows : goal.returns-in-Ok-NumbersSpent-clause-shows
@@ -82,3 +82,14 @@ returns-in-Err-Out-clause-count g c = let cause = c.in-Err-Out.ensures.out_cause
 
 pub returns-in-Err-Memory-clause-count : goal.returns-in-Err-Memory-clause-count
 returns-in-Err-Memory-clause-count g c = counted_same (S.Memory ≡ S.OutFault) _ _ (c.in-Err-Memory.ensures.out_cause.kept (λ is. let e : ends.Memory ≡ ends.Out = sym c.in-Err-Memory.field-0-is ∙ is in cc)) (λ is. cc)
+
+-- no demo ends so
+pub unreachable-requires : goal.unreachable-requires
+unreachable-requires g c =
+    let x = shown_by g.R.Runner.meaning c.args.demonstration.now in
+    let before = counts (g.R.Runner.runs_of c.args.runner.now) c.args.steps.now in
+    let now = counts (g.R.Runner.runs_of c.demo.new.runner) c.demo.new.steps in
+    let old = g.O.Sink.held c.args.out.now in
+    let mid = g.O.Sink.held c.demo.new.out in
+    let ends : Ends x (ended.TooManyRemovals c.in-Ok-TooManyRemovals.field-0-0) before now old mid = rw (c.limits_given-limits.ensures, c.in-Ok-TooManyRemovals.field-0-is) at c.in-Ok-TooManyRemovals.ensures.ok in
+    never_many x c.in-Ok-TooManyRemovals.field-0-0 ends.ended

@@ -10,7 +10,7 @@ use Rattle.pan_top.specs.Statuses.{status_after}
 use Rattle.pan_top.specs.Watches.{Plays}
 use Rattle.pan_top.specs.declared.status.Status.TheVariants as S
 use Rattle.pan_top.proofs.Counting.{counted_of, counted_same}
-use Rattle.pan_top.proofs.Watched.{early_held, ended, halted, memory_wrote, not_sinks, same_scene}
+use Rattle.pan_top.proofs.Watched.{early_held, ended, halted, listed_after, memory_wrote, not_sinks, same_scene}
 use Rattle.pan_top.proofs.watching.watch.Goals as goal
 
 -- the devices could not be opened
@@ -61,7 +61,7 @@ returns-in-Ok-play g c =
     let core = c.in-Ok-start.engine.core in
     let is : IsIn w.directories (limits_of w) core nothing = subst (λ l. IsIn w.directories l core nothing) c.limits.ensures (subst (λ d. IsIn d c.limits.result core nothing) c.as_slice.ensures c.in-Ok-start.ensures.at) in
     let how = c.after.ensures ∙ ap status_after c.ended_by.ensures in
-    let played = ended M w c.after.result mid after core c.play.new.engine.core c.in-Ok-play.has_faults is c.in-Ok-play.ensures.ok how (c.in-Ok-play.ensures.source_opened ∙ c.in-Ok.ensures.source_opened) (c.in-Ok-play.ensures.shelf_opened ∙ c.in-Ok.ensures.shelf_opened) c.in-Ok-play.ensures.lines_cause.done c.in-Ok-play.ensures.out_cause.done in
+    let played = ended M w c.after.result mid after c.in-Ok.publisher c.play.new.publisher c.in-Ok.ensures.most (listed_after c.in-Ok.publisher (g.H.Shelf.cell c.args.shelf.now) (g.H.Shelf.cell c.open.new.shelf) c.in-Ok.ensures.same c.in-Ok.ensures.names) core c.play.new.engine.core c.in-Ok-play.has_faults is c.in-Ok-play.ensures.ok how (c.in-Ok-play.ensures.source_opened ∙ c.in-Ok.ensures.source_opened) (c.in-Ok-play.ensures.shelf_opened ∙ c.in-Ok.ensures.shelf_opened) c.in-Ok-play.ensures.lines_cause.done c.in-Ok-play.ensures.out_cause.done in
     inl (subst (λ s. Plays M w c.after.result s after) (same_scene (g.S.Source.coming c.args.source.now) (g.S.Source.coming c.open.new.source) (g.S.Source.opened c.args.source.now) (g.S.Source.fault_count c.args.source.now) (g.S.Source.fault_count c.open.new.source) (g.H.Shelf.cell c.args.shelf.now) (g.H.Shelf.cell c.open.new.shelf) (g.H.Shelf.changes c.args.shelf.now) (g.H.Shelf.opened c.args.shelf.now) (g.H.Shelf.fault_count c.args.shelf.now) (g.H.Shelf.fault_count c.open.new.shelf) (g.N.Lines.left c.args.lines.now) (g.N.Lines.fault_count c.args.lines.now) (g.O.Sink.held c.args.out.now) (g.O.Sink.fault_count c.args.out.now) (g.R.Runner.runs_of c.args.runner.now) (g.R.Runner.runs_of c.start.new.runner) c.args.steps.now c.in-Ok.ensures.coming c.in-Ok.ensures.source_cause.done c.in-Ok.ensures.same c.in-Ok.ensures.shelf_cause.done c.start.ensures.runs) played)
 
 pub returns : goal.returns
@@ -72,5 +72,5 @@ returns g c =
     let mid = (scene (g.S.Source.coming c.open.new.source) (g.S.Source.opened c.args.source.now) (g.S.Source.fault_count c.open.new.source) (g.H.Shelf.cell c.open.new.shelf) (g.H.Shelf.changes c.args.shelf.now) (g.H.Shelf.opened c.args.shelf.now) (g.H.Shelf.fault_count c.open.new.shelf) (g.N.Lines.left c.args.lines.now) (g.N.Lines.fault_count c.args.lines.now) (g.O.Sink.held c.args.out.now) (g.O.Sink.fault_count c.args.out.now) (counts (g.R.Runner.runs_of c.start.new.runner) c.args.steps.now)) in
     let core = c.in-Ok-start.engine.core in
     let is : IsIn w.directories (limits_of w) core nothing = subst (λ l. IsIn w.directories l core nothing) c.limits.ensures (subst (λ d. IsIn d c.limits.result core nothing) c.as_slice.ensures c.in-Ok-start.ensures.at) in
-    let played = halted M w c.close.result mid after c.in-Err-play.end core c.play.new.engine.core (g.O.Sink.held c.play.new.out) is c.in-Err-play.ensures.err c.close.ensures.closes (c.in-Err-play.ensures.source_opened ∙ c.in-Ok.ensures.source_opened) (c.in-Err-play.ensures.shelf_opened ∙ c.in-Ok.ensures.shelf_opened) (counted_of c.in-Err-play.end _ _ c.in-Err-play.ensures.lines_cause) (c.close.ensures.count (g.O.Sink.fault_count c.args.out.now) (counted_of c.in-Err-play.end _ _ c.in-Err-play.ensures.out_cause)) in
+    let played = halted M w c.close.result mid after c.in-Ok.publisher c.play.new.publisher c.in-Ok.ensures.most (listed_after c.in-Ok.publisher (g.H.Shelf.cell c.args.shelf.now) (g.H.Shelf.cell c.open.new.shelf) c.in-Ok.ensures.same c.in-Ok.ensures.names) c.in-Err-play.end core c.play.new.engine.core (g.O.Sink.held c.play.new.out) is c.in-Err-play.ensures.err c.close.ensures.closes (c.in-Err-play.ensures.source_opened ∙ c.in-Ok.ensures.source_opened) (c.in-Err-play.ensures.shelf_opened ∙ c.in-Ok.ensures.shelf_opened) (counted_of c.in-Err-play.end _ _ c.in-Err-play.ensures.lines_cause) (c.close.ensures.count (g.O.Sink.fault_count c.args.out.now) (counted_of c.in-Err-play.end _ _ c.in-Err-play.ensures.out_cause)) in
     inl (subst (λ s. Plays M w c.close.result s after) (same_scene (g.S.Source.coming c.args.source.now) (g.S.Source.coming c.open.new.source) (g.S.Source.opened c.args.source.now) (g.S.Source.fault_count c.args.source.now) (g.S.Source.fault_count c.open.new.source) (g.H.Shelf.cell c.args.shelf.now) (g.H.Shelf.cell c.open.new.shelf) (g.H.Shelf.changes c.args.shelf.now) (g.H.Shelf.opened c.args.shelf.now) (g.H.Shelf.fault_count c.args.shelf.now) (g.H.Shelf.fault_count c.open.new.shelf) (g.N.Lines.left c.args.lines.now) (g.N.Lines.fault_count c.args.lines.now) (g.O.Sink.held c.args.out.now) (g.O.Sink.fault_count c.args.out.now) (g.R.Runner.runs_of c.args.runner.now) (g.R.Runner.runs_of c.start.new.runner) c.args.steps.now c.in-Ok.ensures.coming c.in-Ok.ensures.source_cause.done c.in-Ok.ensures.same c.in-Ok.ensures.shelf_cause.done c.start.ensures.runs) played)

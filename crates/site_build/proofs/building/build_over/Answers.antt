@@ -4,7 +4,8 @@ use Rattle.publication.proofs.Planning.{on_err}
 use Rattle.compiler.specs.Compiler.{nothing}
 use Rattle.compiler.specs.Standing.{counts, HasSpentAtMost, IsIn}
 use Rattle.site_build.specs.Ends.{IsEndOf, OfSource, Stopped}
-use Rattle.site_build.specs.Rounds.{Reaches, MadeOver, BegunOver, session_at}
+use Rattle.publication.specs.Changing.{MadeOver, BegunOver}
+use Rattle.site_build.specs.Rounds.{Reaches, session_at}
 use Rattle.site_build.specs.Session.{Finished, WritesEarly, limits_of, session_for, state_for}
 use Rattle.site_build.proofs.Ending.{source_stopped, uncaused_shelf, uncaused_out, uncaused_source}
 use Rattle.site_build.proofs.Finishing.{comes_to, comes_ok, comes_err, spent_ok, spent_err, cut_none}
@@ -17,7 +18,7 @@ returns-in_err-engine-clause-cut g c = cut_none (state_for g.R.Runner.meaning c.
 pub returns-in_err-reached-clause-shelf : goal.returns-in_err-reached-clause-shelf
 returns-in_err-reached-clause-shelf g c =
     let kind : IfErr c.from_residual-in_err-reached.result (IsEndOf OfSource) = search rules in
-    source_stopped c.from_residual-in_err-reached.result (g.S.Source.coming c.args.source.now) (session_for g.R.Runner.meaning c.args.work.now) (g.H.Shelf.cell c.args.shelf.now) kind
+    source_stopped c.from_residual-in_err-reached.result (g.S.Source.coming c.args.source.now) (session_for g.R.Runner.meaning c.args.work.now c.args.listed.now) (g.H.Shelf.cell c.args.shelf.now) kind
 
 pub returns-in_err-reached-clause-shelf_cause : goal.returns-in_err-reached-clause-shelf_cause
 returns-in_err-reached-clause-shelf_cause g c =
@@ -57,7 +58,7 @@ returns-clause-ok g c =
     let new = g.H.Shelf.cell c.finish.new.shelf in
     let held = g.O.Sink.held c.args.out.now in
     let held' = g.O.Sink.held c.finish.new.out in
-    comes_ok M work how last before now (λ ended s. Finished s ended held held' old new) coming c.finish.result reaches c.finish.ensures.ok
+    comes_ok M work c.args.listed.now how last before now (λ ended s. Finished s ended held held' old new) coming c.finish.result reaches c.finish.ensures.ok
 
 pub returns-clause-text : goal.returns-clause-text
 returns-clause-text g c =
@@ -76,7 +77,7 @@ returns-clause-text g c =
     let new = g.H.Shelf.cell c.finish.new.shelf in
     let held = g.O.Sink.held c.args.out.now in
     let held' = g.O.Sink.held c.finish.new.out in
-    comes_err M work how last before now (λ e s. WritesEarly s.text e held held') coming c.finish.result reaches c.finish.ensures.text
+    comes_err M work c.args.listed.now how last before now (λ e s. WritesEarly s.text e held held') coming c.finish.result reaches c.finish.ensures.text
 
 pub returns-clause-shelf : goal.returns-clause-shelf
 returns-clause-shelf g c =
@@ -95,7 +96,7 @@ returns-clause-shelf g c =
     let new = g.H.Shelf.cell c.finish.new.shelf in
     let held = g.O.Sink.held c.args.out.now in
     let held' = g.O.Sink.held c.finish.new.out in
-    comes_err M work how last before now (λ e s. Stopped e s.shelf old new) coming c.finish.result reaches c.finish.ensures.shelf
+    comes_err M work c.args.listed.now how last before now (λ e s. Stopped e s.shelf old new) coming c.finish.result reaches c.finish.ensures.shelf
 
 pub returns-clause-made : goal.returns-clause-made
 returns-clause-made g c =
@@ -116,7 +117,7 @@ returns-clause-made g c =
     let held' = g.O.Sink.held c.finish.new.out in
     let changes = g.H.Shelf.changes c.args.shelf.now in
     let changes' = g.H.Shelf.changes c.finish.new.shelf in
-    on_ok_weaker c.finish.result (λ made told. comes_to M work how last before now (λ s. MadeOver s.wants c.args.listed.now old new changes changes') coming reaches (made told)) c.finish.ensures.made
+    on_ok_weaker c.finish.result (λ made told. comes_to M work c.args.listed.now how last before now (λ s. MadeOver s.wants c.args.listed.now old new changes changes') coming reaches (made told)) c.finish.ensures.made
 
 pub returns-clause-begun : goal.returns-clause-begun
 returns-clause-begun g c =
@@ -137,7 +138,7 @@ returns-clause-begun g c =
     let held' = g.O.Sink.held c.finish.new.out in
     let changes = g.H.Shelf.changes c.args.shelf.now in
     let changes' = g.H.Shelf.changes c.finish.new.shelf in
-    on_err_weaker c.finish.result (λ begun told. comes_to M work how last before now (λ s. BegunOver s.wants c.args.listed.now old new changes changes') coming reaches (begun told)) c.finish.ensures.begun
+    on_err_weaker c.finish.result (λ begun told. comes_to M work c.args.listed.now how last before now (λ s. BegunOver s.wants c.args.listed.now old new changes changes') coming reaches (begun told)) c.finish.ensures.begun
 
 pub returns-clause-spent : goal.returns-clause-spent
 returns-clause-spent g c =
@@ -156,7 +157,7 @@ returns-clause-spent g c =
     let new = g.H.Shelf.cell c.finish.new.shelf in
     let held = g.O.Sink.held c.args.out.now in
     let held' = g.O.Sink.held c.finish.new.out in
-    spent_ok M work how last before now coming reaches c.finish.result (IfOk-weaker _ _ _ (λ ended. λ (f : Finished (session_at M how last) ended held held' old new). f.ended) c.finish.ensures.ok)
+    spent_ok M work c.args.listed.now how last before now coming reaches c.finish.result (IfOk-weaker _ _ _ (λ ended. λ (f : Finished (session_at work.most_removed c.args.listed.now M how last) ended held held' old new). f.ended) c.finish.ensures.ok)
 
 pub returns-clause-cut : goal.returns-clause-cut
 returns-clause-cut g c =
@@ -171,7 +172,7 @@ returns-clause-cut g c =
     let how = c.in_ok-reached.reached in
     let last = c.settle.new.engine.core in
     let reaches : IfSome coming (λ ps. Reaches M work how ps last before now) = subst (λ n. IfSome coming (λ ps. Reaches M work how ps last (counts n steps) now)) c.start.ensures.runs (c.in_ok-reached.ensures.ok work is) in
-    spent_err M work how last before now coming reaches c.finish.result
+    spent_err M work c.args.listed.now how last before now coming reaches c.finish.result
 
 pub returns-clause-pictures : goal.returns-clause-pictures
 returns-clause-pictures g c = round_takes c.finish.result _ _ c.finish.ensures.kind c.in_ok-reached.ensures.taken

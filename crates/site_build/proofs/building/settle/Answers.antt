@@ -1,5 +1,6 @@
 use Rattle.std.proofs.Common.{[], subst}
 use Rattle.publication.proofs.Planning.{on_err}
+use Rattle.publication.specs.declared.answer.Publication.TheVariants as publication
 use Rattle.session.specs.Sessions.{built}
 use Rattle.compiler.specs.Standing.{counts, HasSpentAtMost, MakesTurns, TakesNext}
 use Rattle.site_build.specs.Rounds.{Reaches}
@@ -13,7 +14,7 @@ returns-in_err-take_next-clause-cut g c =
     let M = g.R.Runner.meaning in
     let before = counts (g.R.Runner.runs_of c.args.runner.now) c.args.steps.now in
     let now = counts (g.R.Runner.runs_of c.take_next.new.runner) c.take_next.new.steps in
-    on_err c.from_residual.result (λ work is. if_told (λ ps. HasSpentAtMost (state_for M work ps) before now) (g.S.Source.coming c.args.source.now) (λ ps told. c.in_err-take_next.ensures.cut work.directories (limits_of work) (first M work ps) before (at_first M work ps c.args.engine.now.core before is) told (built (m M work ps) []) (build_rises M work ps)))
+    on_err c.from_residual.result (λ work is. if_told (λ ps. HasSpentAtMost (state_for M work ps) before now) (g.S.Source.coming c.args.source.now) (λ ps told. c.in_err-take_next.ensures.cut work.directories (limits_of work) (first M work ps) before (at_first M work ps c.args.engine.now.core before is) told (built (m M work ps) (publication.Done [])) (build_rises M work ps)))
 
 pub returns-in-Failed-clause-cut : goal.returns-in-Failed-clause-cut
 returns-in-Failed-clause-cut g c =

@@ -22,7 +22,7 @@ returns-in_ok-show_line-in-Show-clause-went g c =
     let core = c.args.engine.now.core in
     let text : c.show_line.new.text.items ≡ about outcome_text (shown_of (compiler (M core.dirs core.limits) core.dirs) c.in-Show.name.now (compiled_in core)) = search rules in
     λ dirs limits s start began at.
-    tells_of (compiler (M dirs limits) dirs) dirs limits s _ start began (order_of c.args.line.now) (Show c.in-Show.name.now) _ c.in-Show.ensures (λ line. ap (writes s) (sym (text ∙ along core (λ d l e. about outcome_text (shown_of (compiler (M core.dirs core.limits) core.dirs) c.in-Show.name.now (compiled_in core)) ≡ about outcome_text (shown_of (compiler (M d l) d) c.in-Show.name.now e)) dirs limits s.engine at.engine.engine refl))) at
+    tells_of (compiler (M dirs limits) dirs) dirs limits s _ start began (order_of c.args.line.now) (Show c.in-Show.name.now) _ c.in-Show.ensures (λ P. tt) (λ line. ap (writes s) (sym (text ∙ along core (λ d l e. about outcome_text (shown_of (compiler (M core.dirs core.limits) core.dirs) c.in-Show.name.now (compiled_in core)) ≡ about outcome_text (shown_of (compiler (M d l) d) c.in-Show.name.now e)) dirs limits s.engine at.engine.engine refl))) at
 
 pub returns-in_ok-push_cause-in-Why-clause-went : goal.returns-in_ok-push_cause-in-Why-clause-went
 returns-in_ok-push_cause-in-Why-clause-went g c =
@@ -30,7 +30,7 @@ returns-in_ok-push_cause-in-Why-clause-went g c =
     let core = c.args.engine.now.core in
     let text : c.push_cause.new.text.items ≡ cause_text (why_at (compiled_in core).situation c.in-Why.name.now) = search rules in
     λ dirs limits s start began at.
-    tells_of (compiler (M dirs limits) dirs) dirs limits s _ start began (order_of c.args.line.now) (Why c.in-Why.name.now) _ c.in-Why.ensures (λ line. ap (writes s) (sym (text ∙ along core (λ d l e. cause_text (why_at (compiled_in core).situation c.in-Why.name.now) ≡ cause_text (why_at e.situation c.in-Why.name.now)) dirs limits s.engine at.engine.engine refl))) at
+    tells_of (compiler (M dirs limits) dirs) dirs limits s _ start began (order_of c.args.line.now) (Why c.in-Why.name.now) _ c.in-Why.ensures (λ P. tt) (λ line. ap (writes s) (sym (text ∙ along core (λ d l e. cause_text (why_at (compiled_in core).situation c.in-Why.name.now) ≡ cause_text (why_at e.situation c.in-Why.name.now)) dirs limits s.engine at.engine.engine refl))) at
 
 pub returns-in_ok-deps_line-in-Deps-clause-went : goal.returns-in_ok-deps_line-in-Deps-clause-went
 returns-in_ok-deps_line-in-Deps-clause-went g c =
@@ -38,12 +38,12 @@ returns-in_ok-deps_line-in-Deps-clause-went g c =
     let core = c.args.engine.now.core in
     let text : c.deps_line.new.text.items ≡ about deps_text (deps_of (compiler (M core.dirs core.limits) core.dirs) c.in-Deps.name.now (compiled_in core)) = search rules in
     λ dirs limits s start began at.
-    tells_of (compiler (M dirs limits) dirs) dirs limits s _ start began (order_of c.args.line.now) (Deps c.in-Deps.name.now) _ c.in-Deps.ensures (λ line. ap (writes s) (sym (text ∙ along core (λ d l e. about deps_text (deps_of (compiler (M core.dirs core.limits) core.dirs) c.in-Deps.name.now (compiled_in core)) ≡ about deps_text (deps_of (compiler (M d l) d) c.in-Deps.name.now e)) dirs limits s.engine at.engine.engine refl))) at
+    tells_of (compiler (M dirs limits) dirs) dirs limits s _ start began (order_of c.args.line.now) (Deps c.in-Deps.name.now) _ c.in-Deps.ensures (λ P. tt) (λ line. ap (writes s) (sym (text ∙ along core (λ d l e. about deps_text (deps_of (compiler (M core.dirs core.limits) core.dirs) c.in-Deps.name.now (compiled_in core)) ≡ about deps_text (deps_of (compiler (M d l) d) c.in-Deps.name.now e)) dirs limits s.engine at.engine.engine refl))) at
 
 pub returns-in_ok-bad_line-in-BadLine-clause-went : goal.returns-in_ok-bad_line-in-BadLine-clause-went
 returns-in_ok-bad_line-in-BadLine-clause-went g c =
     let text : c.bad_line.new.text.items ≡ codes "bad line\n" = search rules in
-    λ dirs limits s start began at. tells_of (compiler (g.R.Runner.meaning dirs limits) dirs) dirs limits s _ start began (order_of c.args.line.now) BadLine _ c.in-BadLine.ensures (λ line. ap (writes s) (sym text)) at
+    λ dirs limits s start began at. tells_of (compiler (g.R.Runner.meaning dirs limits) dirs) dirs limits s _ start began (order_of c.args.line.now) BadLine _ c.in-BadLine.ensures (λ P. tt) (λ line. ap (writes s) (sym text)) at
 
 pub returns-in_err-show_line-in-Show-clause-work : goal.returns-in_err-show_line-in-Show-clause-work
 returns-in_err-show_line-in-Show-clause-work g c = on_err c.from_residual.result (λ dirs limits s began at coming.

@@ -16,45 +16,45 @@ loop-i-init g c = record {
   out = refl;
   source_opened = refl;
   shelf_opened = refl;
-  played = λ dirs limits e ps is told. none_yet (compiler (g.R.Runner.meaning dirs limits) dirs) dirs limits e ps (g.N.Lines.left c.args.lines.now) (g.O.Sink.held c.args.out.now) _ is told refl;
+  played = λ dirs limits e ps names is told has. none_yet (compiler (g.R.Runner.meaning dirs limits) dirs) dirs limits e ps (g.N.Lines.left c.args.lines.now) (g.O.Sink.held c.args.out.now) _ names is told refl has;
 }
 
 pub returns-in-Ok-false-clause-ok : goal.returns-in-Ok-false-clause-ok
 returns-in-Ok-false-clause-ok g c =
     let read : NextLine false c.next_line.new.into.items (g.N.Lines.left c.loop-i.lines) (g.N.Lines.left c.next_line.new.lines) = rw c.in-Ok-false.field-0-test at c.in-Ok-false.ensures.ok in
-    λ dirs limits e ps is told. inl (record { many = c.loop-i._i; lines = g.N.Lines.left c.loop-i.lines; played = c.loop-i.invariant.played dirs limits e ps is told; line = c.next_line.new.into.items; over = read })
+    λ dirs limits e ps names is told has. inl (record { many = c.loop-i._i; lines = g.N.Lines.left c.loop-i.lines; played = c.loop-i.invariant.played dirs limits e ps names is told has; line = c.next_line.new.into.items; over = read })
 
 pub returns-in-Err-clause-err : goal.returns-in-Err-clause-err
-returns-in-Err-clause-err g c = λ dirs limits e ps is told. (c.loop-i.has_faults, stopped_lines (compiler (g.R.Runner.meaning dirs limits) dirs) dirs limits _ _ _ _ _ _ _ _ _ _ _ c.in-Err.end c.in-Err.ensures.kind (c.loop-i.invariant.played dirs limits e ps is told) c.in-Err.ensures.err refl refl)
+returns-in-Err-clause-err g c = λ dirs limits e ps names is told has. (c.loop-i.has_faults, stopped_lines (compiler (g.R.Runner.meaning dirs limits) dirs) dirs limits _ _ _ _ _ _ _ _ _ _ _ c.in-Err.end c.in-Err.ensures.kind (c.loop-i.invariant.played dirs limits e ps names is told has) c.in-Err.ensures.err refl refl)
 
 pub returns-in-Ok-Quits-clause-ok : goal.returns-in-Ok-Quits-clause-ok
 returns-in-Ok-Quits-clause-ok g c =
     let read : NextLine true c.next_line.new.into.items (g.N.Lines.left c.loop-i.lines) (g.N.Lines.left c.next_line.new.lines) = rw c.in-Ok-true.field-0-test at c.in-Ok-true.ensures.ok in
-    λ dirs limits e ps is told. let played = c.loop-i.invariant.played dirs limits e ps is told in
+    λ dirs limits e ps names is told has. let played = c.loop-i.invariant.played dirs limits e ps names is told has in
     inr (quitted (compiler (g.R.Runner.meaning dirs limits) dirs) dirs limits _ _ _ _ _ _ (g.O.Sink.held c.loop-i.out) _ _ _ _ c.next_line.new.into.items c.work_on.new.text.items played read (rw (c.deref.ensures.value, c.in-Ok-Quits.field-0-is) at (c.in-Ok-Quits.ensures.went dirs limits played.state _ _ played.at)))
 
 pub returns-in-Ok-SpendsNumbers-clause-err : goal.returns-in-Ok-SpendsNumbers-clause-err
 returns-in-Ok-SpendsNumbers-clause-err g c =
     let read : NextLine true c.next_line.new.into.items (g.N.Lines.left c.loop-i.lines) (g.N.Lines.left c.next_line.new.lines) = rw c.in-Ok-true.field-0-test at c.in-Ok-true.ensures.ok in
-    λ dirs limits e ps is told. let played = c.loop-i.invariant.played dirs limits e ps is told in
+    λ dirs limits e ps names is told has. let played = c.loop-i.invariant.played dirs limits e ps names is told has in
     (c.work_on.new.has_faults, spent (compiler (g.R.Runner.meaning dirs limits) dirs) dirs limits _ _ _ _ _ _ (g.O.Sink.held c.loop-i.out) _ _ _ _ c.next_line.new.into.items c.work_on.new.text.items played read (rw (c.deref.ensures.value, c.in-Ok-SpendsNumbers.field-0-is) at (c.in-Ok-SpendsNumbers.ensures.went dirs limits played.state _ _ played.at)))
 
 pub returns-in-Ok-IsTooMuch-clause-err : goal.returns-in-Ok-IsTooMuch-clause-err
 returns-in-Ok-IsTooMuch-clause-err g c =
     let read : NextLine true c.next_line.new.into.items (g.N.Lines.left c.loop-i.lines) (g.N.Lines.left c.next_line.new.lines) = rw c.in-Ok-true.field-0-test at c.in-Ok-true.ensures.ok in
-    λ dirs limits e ps is told. let played = c.loop-i.invariant.played dirs limits e ps is told in
+    λ dirs limits e ps names is told has. let played = c.loop-i.invariant.played dirs limits e ps names is told has in
     (c.work_on.new.has_faults, exceeded (compiler (g.R.Runner.meaning dirs limits) dirs) dirs limits _ _ _ _ _ _ (g.O.Sink.held c.loop-i.out) _ _ _ _ c.next_line.new.into.items c.work_on.new.text.items played read (rw (c.deref.ensures.value, c.in-Ok-IsTooMuch.field-0-is) at (c.in-Ok-IsTooMuch.ensures.went dirs limits played.state _ _ played.at)))
 
 pub returns-in-Err-work_on-clause-err : goal.returns-in-Err-work_on-clause-err
 returns-in-Err-work_on-clause-err g c =
     let read : NextLine true c.next_line.new.into.items (g.N.Lines.left c.loop-i.lines) (g.N.Lines.left c.next_line.new.lines) = rw c.in-Ok-true.field-0-test at c.in-Ok-true.ensures.ok in
-    λ dirs limits e ps is told. let played = c.loop-i.invariant.played dirs limits e ps is told in
+    λ dirs limits e ps names is told has. let played = c.loop-i.invariant.played dirs limits e ps names is told has in
     (c.work_on.new.has_faults, broken (compiler (g.R.Runner.meaning dirs limits) dirs) dirs limits _ _ (g.N.Lines.left c.loop-i.lines) (g.N.Lines.left c.next_line.new.lines) _ _ _ _ _ _ _ c.next_line.new.into.items [] played (0, no_part (g.O.Sink.held c.loop-i.out)) (inr read) (rw c.deref.ensures.value at (c.in-Err-work_on.ensures.cut dirs limits played.state _ _ played.at)) (rw c.deref.ensures.value at (c.in-Err-work_on.ensures.work dirs limits played.state _ played.at.engine played.at.coming)))
 
 pub returns-in-Err-write-clause-err : goal.returns-in-Err-write-clause-err
 returns-in-Err-write-clause-err g c =
     let read : NextLine true c.next_line.new.into.items (g.N.Lines.left c.loop-i.lines) (g.N.Lines.left c.next_line.new.lines) = rw c.in-Ok-true.field-0-test at c.in-Ok-true.ensures.ok in
-    λ dirs limits e ps is told. let played = c.loop-i.invariant.played dirs limits e ps is told in
+    λ dirs limits e ps names is told has. let played = c.loop-i.invariant.played dirs limits e ps names is told has in
     (c.work_on.new.has_faults, stopped_out (compiler (g.R.Runner.meaning dirs limits) dirs) dirs limits _ _ _ _ _ _ _ _ _ _ _ c.in-Err-write.end c.next_line.new.into.items c.work_on.new.text.items c.in-Err-write.ensures.kind played read (rw (c.deref.ensures.value, c.in-Ok-GoesOn.field-0-is) at (c.in-Ok-GoesOn.ensures.went dirs limits played.state _ _ played.at)) (rw c.deref-in-loop-i.ensures.value at c.in-Err-write.ensures.err))
 
 pub loop-i-preserved : goal.loop-i-preserved
@@ -70,11 +70,11 @@ loop-i-preserved g c =
       out = c.in-Ok.ensures.cause.done ∙ c.loop-i.invariant.out;
       source_opened = c.work_on.ensures.source_opened ∙ c.loop-i.invariant.source_opened;
       shelf_opened = c.work_on.ensures.shelf_opened ∙ c.loop-i.invariant.shelf_opened;
-      played = λ dirs limits e ps is told. let played = c.loop-i.invariant.played dirs limits e ps is told in
+      played = λ dirs limits e ps names is told has. let played = c.loop-i.invariant.played dirs limits e ps names is told has in
           one_more (compiler (g.R.Runner.meaning dirs limits) dirs) dirs limits _ _ _ _ _ _ _ _ _ _ _ c.next_line.new.into.items c.work_on.new.text.items played read (rw (c.deref.ensures.value, c.in-Ok-GoesOn.field-0-is) at (c.in-Ok-GoesOn.ensures.went dirs limits played.state _ _ played.at)) whole;
     }
 
 pub returns-clause-err : goal.returns-clause-err
 returns-clause-err g c =
     let all : c.loop-i._i ≡ 1000000 = omega (arith, c.loop-i-test.false, c.loop-i.auto._i-end) in
-    λ dirs limits e ps is told. (c.loop-i.has_faults, rw all at (c.loop-i.invariant.played dirs limits e ps is told))
+    λ dirs limits e ps names is told has. (c.loop-i.has_faults, rw all at (c.loop-i.invariant.played dirs limits e ps names is told has))

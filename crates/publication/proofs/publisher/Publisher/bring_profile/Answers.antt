@@ -4,6 +4,7 @@ use Rattle.publication.specs.declared.trouble.Which.TheVariants.{Json}
 use Rattle.publication.specs.Published.{BringsFile}
 use Rattle.publication.proofs.Files.{json_failed, json_done, partly}
 use Rattle.publication.specs.OwnNames.{json_name}
+use Rattle.publication.proofs.Keys.{first_keys, keys_result}
 use Rattle.publication.proofs.Logging.{first_log, second_result, at_name}
 use Rattle.publication.proofs.publisher.Publisher.bring_profile.Goals as goal
 
@@ -25,3 +26,11 @@ pub returns-clause-log : goal.returns-clause-log
 returns-clause-log g c =
     let json : BringsFile c.args.profile.now.name Json c.args.profile.now.json None (g.H.Shelf.fault_count c.args.shelf.now) (g.H.Shelf.fault_count c.bring_file.new.shelf) (g.H.Shelf.cell c.args.shelf.now) (g.H.Shelf.cell c.bring_file.new.shelf) = rw (c.as_slice-json.ensures, c.in_default.is) at c.in_ok-trouble.ensures.ok in
     second_result c.args.profile.now c.bring_file-2.result (g.H.Shelf.cell c.args.shelf.now) (g.H.Shelf.cell c.bring_file.new.shelf) _ _ _ c.as_slice-dep.result.now _ _ _ c.requires.proper c.as_slice-dep.ensures json.brings.left (at_name (g.H.Shelf.cell c.args.shelf.now (json_name c.args.profile.now.name)) _ _ _ _ _ _ _ c.as_slice-json.ensures c.in_default.is c.in_ok-trouble.ensures.log) c.bring_file-2.ensures.ok c.bring_file-2.ensures.log
+
+pub returns-in-Some-clause-keys : goal.returns-in-Some-clause-keys
+returns-in-Some-clause-keys g c =
+    let failed = json_failed c.args.profile.now c.in-Some.trouble _ _ _ _ c.requires.proper (rw (c.as_slice-json.ensures, c.in-Some.is) at c.in_ok-trouble.ensures.ok) in
+    first_keys c.args.profile.now c.in-Some.trouble _ _ c.requires.proper (rw (c.as_slice-json.ensures, c.in-Some.is) at c.in_ok-trouble.ensures.ok).on failed.on.1 c.in_ok-trouble.ensures.keys
+
+pub returns-clause-keys : goal.returns-clause-keys
+returns-clause-keys g c = keys_result c.args.profile.now c.bring_file-2.result _ _ _ _ _ _ _ _ c.in_ok-trouble.ensures.keys c.bring_file-2.ensures.ok c.bring_file-2.ensures.keys

@@ -5,6 +5,7 @@ use Rattle.publication.specs.OwnNames.{is_own}
 use Rattle.publication.specs.Wants.{wants_of, goes}
 use Rattle.publication.proofs.Proper.{and_left, and_right}
 use Rattle.publication.proofs.Clearing.{sweep_step, goes_own}
+use Rattle.publication.proofs.Keys.{drop_step}
 use Rattle.publication.proofs.Logging.{removes_both}
 use Rattle.publication.proofs.Planning.{on_err}
 use Rattle.publication.proofs.Ending.{clearing_ended}
@@ -36,6 +37,9 @@ loop-name-preserved g c =
       knows = c.in_ok-sweep.ensures.knows;
       going = and_right (goes ws c.name-item.result) (list_all (goes ws) rest) all;
       log = rw so_far (removes_both _ _ _ _ _ _ _ _ c.loop-name.invariant.log c.in_ok-sweep.ensures.log);
+      most = c.sweep.ensures.most ∙ c.loop-name.invariant.most;
+      removals = omega (arith, c.loop-name.invariant.removals, c.sweep.ensures.removals);
+      keys = λ start began. drop_step ws c.name-item.result rest _ _ start _ _ (and_left (goes ws c.name-item.result) (list_all (goes ws) rest) all) (rw e at (c.loop-name.invariant.keys start began)) c.in_ok-sweep.ensures.keys;
       clearing = λ before start began. sweep_step ws c.name-item.result rest _ _ before _ _ start _ _ (and_left (goes ws c.name-item.result) (list_all (goes ws) rest) all) (rw e at (c.loop-name.invariant.clearing before start began)) c.in_ok-sweep.ensures.ok;
     }
 
@@ -48,3 +52,8 @@ pub returns-clause-log : goal.returns-clause-log
 returns-clause-log g c =
     let all : take c.loop-name.name-index c.args.names.now ≡ c.args.names.now = grind (arith, common_steps, c.loop-name-test.false) in
     rw all at c.loop-name.invariant.log
+
+pub returns-clause-keys : goal.returns-clause-keys
+returns-clause-keys g c =
+    let done : drop c.loop-name.name-index c.args.names.now ≡ [] = grind (arith, common_steps, c.loop-name-test.false) in
+    λ start began. rw done at (c.loop-name.invariant.keys start began)
