@@ -162,6 +162,13 @@ build() {
 # same source with the same options, but without the bound, into a folder of its own.
 tell_faults() { "$1" build ${options[@]+"${options[@]}"} -- "$source" "$room/shelf" >"$room/report" || true; }
 
+# A list that the program will not take, as its folders would not lie below SOURCE.
+tell_include() {
+  case ":$include:" in
+    *:/* | *:../* | *:..:* | */../* | */..:*) say "--include takes folders below SOURCE, joined by \`:\`, and not $include" ;;
+  esac
+}
+
 # Watching: the notes come first, and the lock is held for as long as it runs.
 watch() {
   local program=$1
@@ -194,6 +201,7 @@ esac
 if ! has_mode "$@"; then echo "usage fault"; help >&2; exit 2; fi
 program=$("$tools/pan-program")
 read_words "$@"
+[ "${PAN_NOTES:-}" = off ] || tell_include
 if [ "${PAN_NOTES:-}" = off ] || [ -z "$out" ]; then
   case $mode in build | watch) [ -z "$out" ] || { make_out >/dev/null; lock_out; } ;; esac
   exec "$program" "$@"

@@ -85,6 +85,8 @@ def words(folder):
     yield "a word that is missing", (ended.status, ended.text) == (2, "usage fault\n") and "OUT is missing" in ended.notes
     ended = pan(folder, "build", "site", "new/out", "--max-iteration", "0")
     yield "words that are wrong make no folder", ended.status == 2 and not (folder / "new").exists()
+    ended = pan(folder, "build", "site", "new/out", "--include", "../site")
+    yield "a folder beside SOURCE", ended.status == 2 and "--include takes folders below SOURCE" in ended.notes
     ended = pan(folder, "build", "nowhere", "new/out")
     yield "a source that is missing makes no folder", (ended.status, ended.text) == (3, "source fault\n") and not (
         folder / "new"
