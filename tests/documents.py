@@ -69,7 +69,9 @@ def spans_of(page):
 
 
 def is_there(span):
-    """A path of the repository that a span is; true for all that is none."""
+    """Whether a path of the repository that a span is leads somewhere; true for all that is none, and for NAME in it."""
+    if "NAME" in span:
+        return True
     part = re.match(r"(?:crates/)?([a-z_]+)/((?:specs|src|proofs|must-fail)(?:/[\w+]+)*)(\.\w+)?$", span)
     if part and (TOP / "crates" / part[1]).is_dir():
         path = TOP / "crates" / part[1] / part[2]
