@@ -189,7 +189,7 @@ def accidents(folder):
         pan(here, "build", "site", "out", *options)
         before = {path: path.read_bytes() for path in (here / "out").iterdir()}
         more = happens(here / "site")
-        ended = pan(here, "build", "site", "out", *options, *(more or []))
+        ended = pan(here, "build", "site", "out", *options, *(more if isinstance(more, list) else []))
         after = {path: path.read_bytes() for path in (here / "out").iterdir()}
         yield name, ended.status == 13 and len(before) == 6 and after == before
         yield f"{name}: its text", ended.text.startswith("too many removals ")
