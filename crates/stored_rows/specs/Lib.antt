@@ -1,0 +1,2 @@
+-- Rows in byte order of names, and what stands under a name.
+pub mod Rows
