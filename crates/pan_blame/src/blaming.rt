@@ -1,14 +1,14 @@
 ghost use Rattle.std.specs.Prelude.{◌≡◌, IfOk, IfSome, false, is_ok, is_some, map, option_map};
 ghost use Rattle.pan_blame.specs.Blamed.{blamed, blames, leaf_seen};
-ghost use Rattle.pan_blame.specs.Logs.{nothing, replayed};
+ghost use Rattle.assign_rules.specs.Profiles.{replayed};
 ghost use Rattle.pan_blame.specs.Marks.{all_marks, tag_in};
-ghost use Rattle.pan_blame.specs.Tags.{Tag};
+ghost use Rattle.pan_blame.specs.Tags.{Tag, nothing};
 ghost use Rattle.pan_blame.specs.Underway.{AreValues, IsDone, tags_by};
 
 use crate::leaves::push_leaves;
 use crate::marks::newest;
-use crate::paths::share_terms;
 use crate::replaying::{Replay, change};
+use assign_rules::share_terms;
 use base::Seq;
 use pan_ast::{Change, Place};
 use path_tree::{Name, Term, Tree};

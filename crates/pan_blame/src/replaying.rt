@@ -5,11 +5,11 @@ ghost use Rattle.path_tree.specs.Put.{put};
 ghost use Rattle.path_tree.specs.Remove.{remove};
 ghost use Rattle.pan_blame.specs.Tags.{made_at, path_before};
 ghost use Rattle.pan_blame.specs.Marks.{all_marks, ends_in_index, is_index, marked, marked_value, marks_at};
-ghost use Rattle.pan_blame.specs.Logs.{replayed_value};
+ghost use Rattle.assign_rules.specs.Profiles.{replayed_value};
 
 use crate::made::made;
 use crate::marks::{Layer, mark_all};
-use crate::paths::share_terms;
+use assign_rules::share_terms;
 use pan_ast::Change;
 use path_tree::{Name, PutError, Term, Tree};
 use questions::Key;

@@ -1,8 +1,7 @@
 use Rattle.std.proofs.Common.{rules, ◌≡◌, ◌+◌, ◌≤◌, ◌∷◌, suc, drop, length, false, true, subst, arith}
 use Rattle.std.proofs.lemmas.Grind.{common_steps}
-use Rattle.pan_blame.specs.Logs.{nothing}
 use Rattle.pan_blame.specs.Marks.{all_marks}
-use Rattle.pan_blame.specs.Tags.{Tag}
+use Rattle.pan_blame.specs.Tags.{Tag, nothing}
 use Rattle.pan_blame.specs.Underway.{AreValues, IsUnderway}
 use Rattle.pan_blame.proofs.Numbered.{begins_at, no_marks, none_left, refused, underway_at, ends}
 use Rattle.pan_blame.proofs.blaming.replay_log.Goals as goal
