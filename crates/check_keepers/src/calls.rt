@@ -1,0 +1,88 @@
+use anyhow::Result;
+use base::{Bytes, Text};
+use keepers::Keeper;
+use outside::StoreError;
+use std::alloc::Global;
+use stored_rows::StoredRow;
+
+/// A row whose bytes are its name's.
+pub(crate) fn row(alloc: Global, name: &str) -> Result<StoredRow> {
+    Ok(StoredRow {
+        name: Text::new(alloc, name)?,
+        bytes: Bytes::from_slice(alloc, name.as_bytes())?,
+    })
+}
+
+/// Rows, one for each letter.
+pub(crate) fn rows(alloc: Global, names: &str) -> Result<Vec<StoredRow>> {
+    let mut rows = Vec::new(alloc);
+    for letter in names.chars() {
+        let mut name = String::new(alloc);
+        name.push(letter)?;
+        rows.push(row(alloc, name.as_str())?)?;
+    }
+    Ok(rows)
+}
+
+/// Takes out a name for each letter of `gone`, and sets a row for each letter of `set`.
+pub(crate) fn replace<K: Keeper>(
+    alloc: Global,
+    keeper: &mut K,
+    gone: &str,
+    set: &str,
+) -> Result<Result<(), StoreError>> {
+    let mut names = Vec::new(alloc);
+    for row in &rows(alloc, gone)? {
+        names.push(row.name.share()?)?;
+    }
+    Ok(keeper.replace(&names, &rows(alloc, set)?))
+}
+
+/// The letters that a keeper holds, or why it tells none.
+pub(crate) fn letters<K: Keeper>(alloc: Global, keeper: &mut K) -> Result<String> {
+    let mut text = String::new(alloc);
+    let mut held = Vec::new(alloc);
+    if keeper.load(&mut held).is_err() {
+        text.push_str("not read")?;
+        return Ok(text);
+    }
+    for row in &held {
+        text.push_str(row.name.as_str())?;
+        if row.bytes.as_slice() != row.name.as_str().as_bytes() {
+            text.push_str(" with other bytes")?;
+        }
+    }
+    if held.is_empty() {
+        text.push_str("nothing")?;
+    }
+    Ok(text)
+}
+
+fn word(done: Result<(), StoreError>) -> &'static str {
+    match done {
+        Ok(()) => "done",
+        Err(StoreError::Failed) => "failed",
+        Err(StoreError::Memory) => "no memory",
+    }
+}
+
+/// Opens a keeper, changes its rows twice and tells what it holds, and its count of faults.
+pub(crate) fn print_calls<K: Keeper>(rt: &HostRuntime, what: &str, keeper: &mut K) -> Result<()> {
+    let alloc = rt.alloc();
+    println!(rt; "{what}")?;
+    println!(rt; "  open {}", word(keeper.open_store("rows.db")))?;
+    let done = replace(alloc, keeper, "", "ab")?;
+    println!(rt;
+        "  set a, b {}: {}",
+        word(done),
+        letters(alloc, keeper)?.as_str()
+    )?;
+    let done = replace(alloc, keeper, "a", "c")?;
+    println!(rt;
+        "  a out, set c {}: {}",
+        word(done),
+        letters(alloc, keeper)?.as_str()
+    )?;
+    println!(rt; "  {} faults", keeper.faults())?;
+    Ok(())
+}

@@ -1,0 +1,17 @@
+pub mod Laws
+pub mod FieldLaws
+pub mod TreeLaws
+pub mod RowLaws
+pub mod Texts
+pub mod Names
+pub mod Keys
+pub mod Twice
+pub mod Details
+pub mod Loop
+pub mod TreeReading
+pub mod Written
+pub mod TreeFits
+pub mod LoopAll
+pub mod PartsRead
+pub mod Codes
+pub mod Worked

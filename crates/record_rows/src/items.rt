@@ -1,0 +1,203 @@
+ghost use Rattle.std.specs.Prelude.{◌≡◌, Some, None, cond};
+ghost use Rattle.record_rows.specs.Forms.{some_at};
+ghost use Rattle.record_rows.specs.Fields.{a_term, index, terms, key, whole_key, key_in, is_item, item_in, is_trace, trace_in};
+ghost use Rattle.record_rows.specs.Trees.{dict_key};
+ghost use Rattle.record_rows.specs.Results.{Reads};
+
+use crate::error::RowsError;
+use crate::format::Format;
+use crate::noted::Noted;
+use crate::reading::{read_file_text, read_name, read_str, read_u32, read_u64};
+use base::Seq;
+use kept_state::limits::{MAX_INDEX, MAX_ITEMS, MAX_TERMS};
+use path_tree::{Key as DictKey, KeyError, Term};
+use questions::Key;
+use read_sets::{Item, Trace};
+use std::alloc::Global;
+
+/// A key of a dict.
+pub(crate) fn read_dict_key(alloc: Global, bytes: &[u8]) -> Result<(DictKey, &[u8]), RowsError>
+    ensures { Reads (λ x. (x.0, x.1.now)) result (dict_key.read bytes.now) }
+{
+    let (text, rest) = read_str(bytes)?;
+    match DictKey::parse(alloc, text) {
+        Ok(key) => Ok((key, rest)),
+        Err(KeyError::BadKey) => Err(RowsError::BadRows),
+        Err(KeyError::Memory) => Err(RowsError::Memory),
+    }
+}
+
+fn read_index(bytes: &[u8]) -> Result<(u32, &[u8]), RowsError>
+    ensures { Reads (λ x. (x.0, x.1.now)) result (index.read bytes.now) }
+{
+    let (number, rest) = read_u32(bytes)?;
+    if number > MAX_INDEX {
+        return Err(RowsError::BadRows);
+    }
+    Ok((number, rest))
+}
+
+fn read_term(alloc: Global, bytes: &[u8]) -> Result<(Term, &[u8]), RowsError>
+    ensures { Reads (λ x. (x.0, x.1.now)) result (a_term.read bytes.now) }
+{
+    match bytes {
+        [] => Err(RowsError::BadRows),
+        [0, rest @ ..] => {
+            let (key, rest) = read_dict_key(alloc, rest)?;
+            Ok((Term::Key(key), rest))
+        }
+        [1, rest @ ..] => {
+            let (index, rest) = read_index(rest)?;
+            Ok((Term::Index(index), rest))
+        }
+        [_, ..] => Err(RowsError::BadRows),
+    }
+}
+
+fn some_terms(alloc: Global, count: u32, bytes: &[u8]) -> Result<(Vec<Term>, &[u8]), RowsError>
+    ensures { Reads (λ x. (x.0.items, x.1.now)) result (some_at a_term.read count bytes.now) }
+{
+    let mut terms = Vec::new(alloc);
+    let mut rest = bytes;
+    for _ in 0..count {
+        let (term, after) = read_term(alloc, rest)?;
+        terms.push(term)?;
+        rest = after;
+    }
+    Ok((terms, rest))
+}
+
+fn read_terms(alloc: Global, bytes: &[u8]) -> Result<(Seq<Term>, &[u8]), RowsError>
+    ensures { Reads (λ x. (x.0, x.1.now)) result (terms.read bytes.now) }
+{
+    let (count, rest) = read_u32(bytes)?;
+    let (terms, rest) = some_terms(alloc, count, rest)?;
+    if terms.len() > MAX_TERMS {
+        return Err(RowsError::BadRows);
+    }
+    Ok((Seq::from_vec(terms), rest))
+}
+
+fn read_own_key(alloc: Global, bytes: &[u8]) -> Result<(Key, &[u8]), RowsError>
+    ensures { Reads (λ x. (x.0, x.1.now)) result (key.read bytes.now) }
+{
+    match bytes {
+        [] => Err(RowsError::BadRows),
+        [0, rest @ ..] => {
+            let (name, rest) = read_file_text(alloc, rest)?;
+            Ok((Key::File(name), rest))
+        }
+        [1, rest @ ..] => {
+            let (object, rest) = read_name(alloc, rest)?;
+            let (terms, rest) = read_terms(alloc, rest)?;
+            Ok((Key::Under { object, terms }, rest))
+        }
+        [_, ..] => Err(RowsError::BadRows),
+    }
+}
+
+fn read_whole_key(alloc: Global, bytes: &[u8]) -> Result<(Key, &[u8]), RowsError>
+    ensures { Reads (λ x. (x.0, x.1.now)) result (whole_key.read bytes.now) }
+{
+    match bytes {
+        [] => Err(RowsError::BadRows),
+        [0, rest @ ..] => {
+            let (name, rest) = read_file_text(alloc, rest)?;
+            Ok((Key::File(name), rest))
+        }
+        [1, rest @ ..] => {
+            let (object, rest) = read_name(alloc, rest)?;
+            let terms = Seq::new(alloc);
+            Ok((Key::Under { object, terms }, rest))
+        }
+        [_, ..] => Err(RowsError::BadRows),
+    }
+}
+
+fn read_key(alloc: Global, format: Format, bytes: &[u8]) -> Result<(Key, &[u8]), RowsError>
+    ensures { Reads (λ x. (x.0, x.1.now)) result ((key_in format).read bytes.now) }
+{
+    match format {
+        Format::First => read_whole_key(alloc, bytes),
+        Format::Second | Format::Third => read_own_key(alloc, bytes),
+    }
+}
+
+pub(crate) fn is_item(counter: u64, item: &Item) -> bool
+    ensures { result ≡ is_item counter item.now }
+{
+    if item.number >= counter {
+        return false;
+    }
+    match &item.key {
+        Key::File(_) => item.number != 2,
+        Key::Under { .. } => true,
+    }
+}
+
+fn read_item(
+    alloc: Global,
+    format: Format,
+    counter: u64,
+    bytes: &[u8],
+) -> Result<(Item, &[u8]), RowsError>
+    ensures { Reads (λ x. (x.0, x.1.now)) result ((item_in format counter).read bytes.now) }
+{
+    let (key, rest) = read_key(alloc, format, bytes)?;
+    let (number, rest) = read_u64(rest)?;
+    let item = Item { key, number };
+    if !is_item(counter, &item) {
+        return Err(RowsError::BadRows);
+    }
+    Ok((item, rest))
+}
+
+fn some_items(
+    alloc: Global,
+    format: Format,
+    counter: u64,
+    count: u32,
+    bytes: &[u8],
+) -> Result<(Vec<Item>, &[u8]), RowsError>
+    ensures { Reads (λ x. (x.0.items, x.1.now)) result
+        (some_at (item_in format counter).read count bytes.now) }
+{
+    let mut items = Vec::new(alloc);
+    let mut rest = bytes;
+    for _ in 0..count {
+        let (item, after) = read_item(alloc, format, counter, rest)?;
+        items.push(item)?;
+        rest = after;
+    }
+    Ok((items, rest))
+}
+
+/// The trace of these items, each of which has a key of its own.
+fn traced(alloc: Global, items: Vec<Item>) -> Result<Trace, RowsError>
+    ensures { Reads (λ t. t) result (cond (is_trace items.items) (Some items.items) None) }
+{
+    if items.len() > MAX_ITEMS {
+        return Err(RowsError::BadRows);
+    }
+    let mut noted = Noted::new(alloc);
+    for item in items {
+        if !noted.add(alloc, item)? {
+            return Err(RowsError::BadRows);
+        }
+    }
+    Ok(noted.into_trace())
+}
+
+/// What a run asked.
+pub(crate) fn read_trace(
+    alloc: Global,
+    format: Format,
+    counter: u64,
+    bytes: &[u8],
+) -> Result<(Trace, &[u8]), RowsError>
+    ensures { Reads (λ x. (x.0, x.1.now)) result ((trace_in format counter).read bytes.now) }
+{
+    let (count, rest) = read_u32(bytes)?;
+    let (items, rest) = some_items(alloc, format, counter, count, rest)?;
+    Ok((traced(alloc, items)?, rest))
+}

@@ -1,0 +1,148 @@
+ghost use Rattle.std.specs.Prelude.{◌≡◌};
+ghost use Rattle.questions.specs.Laws.{is_circular};
+ghost use Rattle.record_rows.specs.Fields.{built, content, short_bytes};
+ghost use Rattle.record_rows.specs.Rows.{has_file_number, are_object_parts, parts_of_object};
+ghost use Rattle.record_rows.specs.Results.{Reads};
+ghost use Rattle.record_rows.specs.Reading.{file_by, object_by};
+
+use crate::error::RowsError;
+use crate::faults::{read_fault, read_verdict};
+use crate::format::Format;
+use crate::items::read_trace;
+use crate::reading::{read_bytes, read_u64};
+use crate::trees::read_tree;
+use base::limits::MAX_FILE_BYTES;
+use base::{Bytes, Text};
+use kept_state::limits::FIRST_NUMBER;
+use kept_state::{KeptFile, KeptObject};
+use load_path::Content;
+use pan_ast::{Code, Fault};
+use path_tree::{Name, Tree};
+use std::alloc::Global;
+
+fn read_short_bytes(bytes: &[u8]) -> Result<(&[u8], &[u8]), RowsError>
+    ensures { Reads (λ x. (x.0.now, x.1.now)) result (short_bytes.read bytes.now) }
+{
+    let (held, rest) = read_bytes(bytes)?;
+    if held.len() > MAX_FILE_BYTES {
+        return Err(RowsError::BadRows);
+    }
+    Ok((held, rest))
+}
+
+fn read_content(alloc: Global, bytes: &[u8]) -> Result<(Content, &[u8]), RowsError>
+    ensures { Reads (λ x. (x.0, x.1.now)) result (content.read bytes.now) }
+{
+    match bytes {
+        [] => Err(RowsError::BadRows),
+        [0, rest @ ..] => Ok((Content::TooLong, rest)),
+        [1, rest @ ..] => {
+            let (held, rest) = read_short_bytes(rest)?;
+            Ok((Content::Bytes(Bytes::from_slice(alloc, held)?), rest))
+        }
+        [_, ..] => Err(RowsError::BadRows),
+    }
+}
+
+/// Whether a file with this content may have a number.
+pub(crate) fn has_file_number(counter: u64, number: u64, content: &Content) -> bool
+    ensures { result ≡ has_file_number counter number content.now }
+{
+    match content {
+        Content::TooLong => number == 1,
+        Content::Bytes(_) => FIRST_NUMBER <= number && number < counter,
+    }
+}
+
+/// The file with this name and these parts.
+pub(crate) fn read_file(
+    alloc: Global,
+    counter: u64,
+    name: Text,
+    bytes: &[u8],
+) -> Result<KeptFile, RowsError>
+    ensures { Reads (λ f. f) result
+        (file_by counter name bytes.now) }
+{
+    let (number, rest) = read_u64(bytes)?;
+    let (content, rest) = read_content(alloc, rest)?;
+    if !has_file_number(counter, number, &content) || !rest.is_empty() {
+        return Err(RowsError::BadRows);
+    }
+    Ok(KeptFile {
+        name,
+        number,
+        content,
+    })
+}
+
+fn read_built(alloc: Global, bytes: &[u8]) -> Result<(Result<Tree, Fault>, &[u8]), RowsError>
+    ensures { Reads (λ x. (x.0, x.1.now)) result (built.read bytes.now) }
+{
+    match bytes {
+        [] => Err(RowsError::BadRows),
+        [0, rest @ ..] => {
+            let (tree, rest) = read_tree(alloc, rest)?;
+            Ok((Ok(tree), rest))
+        }
+        [1, rest @ ..] => {
+            let (fault, rest) = read_fault(alloc, rest)?;
+            Ok((Err(fault), rest))
+        }
+        [_, ..] => Err(RowsError::BadRows),
+    }
+}
+
+fn is_circular(code: Code) -> bool
+    ensures { result ≡ is_circular code }
+{
+    matches!(code, Code::Circular)
+}
+
+/// Whether what is kept of an object goes together.
+pub(crate) fn are_parts(counter: u64, object: &KeptObject) -> bool
+    ensures { result ≡ are_object_parts counter (parts_of_object object.now) }
+{
+    match &object.built {
+        Ok(_) => FIRST_NUMBER <= object.number && object.number < counter,
+        Err(fault) => {
+            let failed = if is_circular(fault.code) { 2 } else { 1 };
+            object.number == failed
+                && object.verdict.is_none()
+                && object.check_reads.items().is_empty()
+        }
+    }
+}
+
+/// The object with this name and these parts.
+pub(crate) fn read_object(
+    alloc: Global,
+    format: Format,
+    counter: u64,
+    name: Name,
+    bytes: &[u8],
+) -> Result<KeptObject, RowsError>
+    ensures { Reads (λ o. o) result
+        (object_by format counter name bytes.now) }
+{
+    let (number, rest) = read_u64(bytes)?;
+    let (built, rest) = read_built(alloc, rest)?;
+    let (build_reads, rest) = read_trace(alloc, format, counter, rest)?;
+    let (verdict, rest) = read_verdict(alloc, rest)?;
+    let (check_reads, rest) = read_trace(alloc, format, counter, rest)?;
+    let object = KeptObject {
+        name,
+        number,
+        built,
+        build_reads,
+        verdict,
+        check_reads,
+    };
+    if !are_parts(counter, &object) {
+        return Err(RowsError::BadRows);
+    }
+    if !rest.is_empty() {
+        return Err(RowsError::BadRows);
+    }
+    Ok(object)
+}

@@ -1,0 +1,157 @@
+ghost use Rattle.std.specs.Prelude.{◌≡◌, Ok, true, OnOk, OnErr, Some, None};
+ghost use Rattle.sqlite.specs.Held.{state};
+ghost use Rattle.sqlite.specs.State.{Survives};
+ghost use Rattle.outside.specs.Causes.{HasCause};
+ghost use Rattle.keepers.specs.Keeping.{Follows, Lists, unchanged, replaced};
+ghost use Rattle.row_table.specs.Cells.{cells};
+ghost use Rattle.row_table.specs.Steps.{Holds};
+ghost use Rattle.sqlite_keeper.specs.Refusals.{IsRefusal, store_error_of};
+
+use base::Text;
+use keepers::{Faults, Keeper};
+use outside::StoreError;
+use row_table::{make_ready, read_rows, write_rows};
+use sqlite::{Alter, Connection, Error, ErrorCode};
+use std::alloc::Global;
+use stored_rows::StoredRow;
+
+/// A keeper over a connection, whose database has its table and nothing else.
+///
+/// Its rows are those that the last commit left, as long as the connection is open and its disk
+/// returned what was written. A connection with another schema, or within a transaction, is a fault,
+/// and so is a `load` or a `replace` before the first `open_store` that was done.
+#[derive(Drop)]
+pub struct SqliteKeeper<S: Alter + Drop> {
+    alloc: Global,
+    connection: Connection<S>,
+    opened: Option<Text>,
+    faults: Faults,
+}
+
+/// What an error of the database is to the caller: want of memory, or else a fault.
+pub fn store_error(error: &Error) -> StoreError
+    ensures { result ≡ store_error_of error.now }
+{
+    match error {
+        Error::SqliteFailure(ErrorCode::OutOfMemory) => StoreError::Memory,
+        _ => StoreError::Failed,
+    }
+}
+
+/// What a call on the rows is to the caller, who counts its faults: one that did not do what it is for
+/// is a fault.
+fn judge(faults: &mut Faults, done: Result<bool, Error>) -> Result<(), StoreError>
+    ensures cause { HasCause faults.old.count faults.new.count result }
+    ensures ok { OnOk result (done ≡ Ok true) }
+    ensures err { OnErr result (IsRefusal done) }
+{
+    let error = match done {
+        Ok(true) => return Ok(()),
+        Ok(false) => StoreError::Failed,
+        Err(error) => store_error(&error),
+    };
+    if error == StoreError::Failed {
+        faults.add();
+    }
+    Err(error)
+}
+
+impl<S: Alter + Drop> SqliteKeeper<S> {
+    /// A keeper over this connection, still to be opened.
+    pub fn adopt(alloc: Global, connection: Connection<S>) -> SqliteKeeper<S>
+        ensures opened { result.opened ≡ None }
+        ensures connection { result.connection ≡ connection }
+        ensures faults { result.faults.count ≡ 0 }
+    {
+        SqliteKeeper {
+            alloc,
+            connection,
+            opened: None,
+            faults: Faults::new(),
+        }
+    }
+
+    /// Gives the connection back.
+    pub fn into_connection(self) -> Connection<S>
+        ensures { result ≡ self.connection }
+    {
+        let SqliteKeeper {
+            alloc: _,
+            connection,
+            opened: _,
+            faults: _,
+        } = self;
+        connection
+    }
+}
+
+impl<S: Alter + Drop> Keeper for SqliteKeeper<S> {
+    ghost use Rattle.sqlite.specs.Held.{state};
+    ghost use Rattle.row_table.specs.Cells.{cells};
+
+    ghost opened = { λ k. k.opened };
+
+    ghost cell = { λ k. cells (state S.Store k.connection) };
+
+    ghost fault_count = { λ k. k.faults.count };
+
+    fn faults(&self) -> u64 {
+        self.faults.count()
+    }
+
+    #[tactic(auto, using(crate::proofs::Following::follows_itself, crate::proofs::Following::follows))]
+    fn open_store(&mut self, file: &str) -> Result<(), StoreError>
+        ensures opened { OnOk result (self.new.opened ≡ Some file.now) }
+        ensures refused { OnErr result (self.new.opened ≡ self.old.opened) }
+        ensures same { Follows unchanged (cells (state S.Store self.old.connection))
+            (cells (state S.Store self.new.connection)) }
+        ensures cause { HasCause self.old.faults.count self.new.faults.count result }
+        // What a crash may leave, it could leave before, or it has the same rows.
+        ensures survives { Survives (state S.Store self.old.connection) (state S.Store self.new.connection)
+            (Holds unchanged (state S.Store self.old.connection)) }
+    {
+        let file = Text::new(self.alloc, file)?;
+        judge(&mut self.faults, make_ready(&mut self.connection))?;
+        self.opened = Some(file);
+        Ok(())
+    }
+
+    #[tactic(auto, using(crate::proofs::Following::follows_itself, crate::proofs::Following::follows))]
+    fn load(&mut self, into: &mut Vec<StoredRow>) -> Result<(), StoreError>
+        ensures ok { OnOk result (Lists (cells (state S.Store self.new.connection)) into.new.items) }
+        ensures opened { self.new.opened ≡ self.old.opened }
+        ensures same { Follows unchanged (cells (state S.Store self.old.connection))
+            (cells (state S.Store self.new.connection)) }
+        ensures cause { HasCause self.old.faults.count self.new.faults.count result }
+        // What a crash may leave, it could leave before.
+        ensures survives { Survives (state S.Store self.old.connection) (state S.Store self.new.connection) (λ _. ⊥) }
+    {
+        if self.opened.is_none() {
+            self.faults.add();
+            return Err(StoreError::Failed);
+        }
+        judge(&mut self.faults, read_rows(&mut self.connection, into))
+    }
+
+    #[tactic(auto, using(crate::proofs::Following::follows_itself, crate::proofs::Following::follows_done, crate::proofs::Following::follows_refused))]
+    fn replace(&mut self, gone: &[Text], rows: &[StoredRow]) -> Result<(), StoreError>
+        ensures ok { OnOk result (Follows (replaced gone.now rows.now)
+            (cells (state S.Store self.old.connection)) (cells (state S.Store self.new.connection))) }
+        ensures refused { OnErr result (Follows unchanged (cells (state S.Store self.old.connection))
+            (cells (state S.Store self.new.connection))) }
+        ensures opened { self.new.opened ≡ self.old.opened }
+        ensures cause { HasCause self.old.faults.count self.new.faults.count result }
+        // What a crash may leave, it could leave before, or all of the change is made.
+        ensures survives { Survives (state S.Store self.old.connection) (state S.Store self.new.connection)
+            (Holds (replaced gone.now rows.now) (state S.Store self.old.connection)) }
+    {
+        if self.opened.is_none() {
+            self.faults.add();
+            return Err(StoreError::Failed);
+        }
+        judge(
+            &mut self.faults,
+            write_rows(&mut self.connection, gone, rows),
+        )
+    }
+}
