@@ -123,6 +123,47 @@ def answers_before_it_asks(folder):
     yield "a watcher's end", watcher.quit() == 0
 
 
+def reads_by_path(folder):
+    """An object that reads a path of another one is compiled where what stands at that path has changed, and else not."""
+    source = folder / "source"
+
+    def write_b(*statements):
+        write(source, "b.pan", "\n".join(["object template b;", *statements]) + "\n")
+
+    write(source, "a.pan", "object template a;\n'/p' = value('b:/x');\n")
+    write(source, "c.pan", "object template c;\n'/p' = 1;\nvalid '/p' = value('b:/y') > 0;\n")
+    write(source, "d.pan", "object template d;\n'/p' = exists('b:/z');\n")
+    write_b("'/x' = 1;", "'/y' = 1;")
+    watcher = Watcher(source, folder / "out")
+    yield "objects that read paths", watcher.ask("build", "objects")[-1] == "objects 4 ok 4 faults 0 run 4"
+    write_b("'/x' = 1;", "'/y' = 1;", "'/w' = 1;")
+    yield "a path that nobody reads", watcher.ask("build", "objects") == ["run b", "objects 4 ok 4 faults 0 run 1"]
+    yield "why not", watcher.ask("why a", ".") == ["not run"]
+    write_b("'/x' = 1;", "'/y' = 2;")
+    yield "a path that a check reads", watcher.ask("build", "objects")[:-1] == ["run b", "run c"]
+    yield "why by a path", watcher.ask("why c", ".") == ["changed object b"]
+    write_b("'/y' = 2;")
+    yield "a path that goes", watcher.ask("build", "objects") == [
+        "run a",
+        "run b",
+        "fault a F28 a.pan:2:8 b:/x",
+        "objects 4 ok 3 faults 1 run 2",
+    ]
+    write_b("'/x' = 1;", "'/y' = 2;")
+    yield "a path that comes back", watcher.ask("build", "objects")[:-1] == ["run a", "run b"]
+    write_b("'/x' = 1;", "'/y' = 2;", "'/z' = 1;")
+    yield "a path at which nothing was", watcher.ask("build", "objects")[:-1] == ["run b", "run d"]
+    write_b("'/x' = 5;", "'/y' = 2;", "'/z' = 1;")
+    yield "a scan between", watcher.ask("scan", "files") == ["files 4 objects 4"]
+    write_b("'/x' = 1;", "'/y' = 2;", "'/z' = 1;")
+    yield "a value that was another one between", watcher.ask("build", "objects")[:-1] == ["run b"]
+    write_b("'/x' = error('no');")
+    yield "an object that fails", watcher.ask("build", "objects")[-1] == "objects 4 ok 0 faults 4 run 4"
+    write_b("'/x' = 1;", "'/y' = 2;", "'/z' = 1;")
+    yield "one that fails no more", watcher.ask("build", "objects")[-1] == "objects 4 ok 4 faults 0 run 4"
+    yield "the end of who reads paths", watcher.quit() == 0
+
+
 def random_template(random, kind, name):
     """A template that includes, looks for, and reads a few of the same small set of names."""
     lines = [f"{kind}template {name};"]
@@ -215,7 +256,7 @@ def history(number):
 
 def main(words):
     passed = failed = 0
-    for part in (chain_star_and_circle, many_defaults, answers_before_it_asks):
+    for part in (chain_star_and_circle, many_defaults, answers_before_it_asks, reads_by_path):
         with tempfile.TemporaryDirectory() as room:
             for name, is_well in part(Path(room)):
                 passed, failed = passed + is_well, failed + (not is_well)

@@ -17,7 +17,7 @@ use base::{Bytes, Seq, Steps, Text};
 use outside::{
     Held, MemFile, MemLines, MemShelf, MemSink, MemSource, Shelf, Sink, Source, are_distinct,
 };
-use pan_top::pan;
+use pan_top::{Devices, pan};
 use std::alloc::{AllocError, Global};
 use std::marker::Brand;
 use std::mem;
@@ -128,32 +128,25 @@ fn run<L: Ledger>(rt: &HostRuntime, case: Case, words: &str, steps: &mut Steps<L
     }
     let mut pictures = Vec::new(alloc);
     pictures.push(Seq::from_vec(files))?;
-    let mut runner = Written::new(alloc);
-    let mut source = MemSource::new(alloc, pictures, source_fails);
-    let mut shelf = MemShelf::new(alloc, held, shelf_fails);
-    let mut lines = MemLines::new(lines, lines_fails);
-    let mut sink = MemSink::new(alloc, sink_fails);
+    let devices = Devices {
+        source: MemSource::new(alloc, pictures, source_fails),
+        shelf: MemShelf::new(alloc, held, shelf_fails),
+        lines: MemLines::new(lines, lines_fails),
+        out: MemSink::new(alloc, sink_fails),
+    };
     let words = words_of(alloc, words)?;
-    let status = pan(
-        alloc,
-        &words,
-        &mut runner,
-        &mut source,
-        &mut shelf,
-        &mut lines,
-        &mut sink,
-        steps,
-    );
+    let ended = pan(alloc, &words, Written::new(alloc), devices, steps);
+    let devices = &ended.devices;
     print!(rt;
         "status {} faults {} {} {} runs {}\n{}",
-        status.exit_code(),
-        source.faults(),
-        shelf.faults(),
-        sink.faults(),
-        runner.runs(),
-        str::from_utf8(sink.written())?
+        ended.status.exit_code(),
+        devices.source.faults(),
+        devices.shelf.faults(),
+        devices.out.faults(),
+        ended.runner.runs(),
+        str::from_utf8(devices.out.written())?
     )?;
-    print_shelf(rt, shelf.held())
+    print_shelf(rt, devices.shelf.held())
 }
 
 /// A line's first word, and what stands behind the blank that follows it.

@@ -1,9 +1,9 @@
 //! The engine of a session: pictures that a source gives are taken, turns are made, and what is settled is answered as
 //! the texts and profiles of a session.
 //!
-//! In reading order: `starting` (an engine and its runner before the first picture), `taking` (the source's next picture),
-//! `turning` (turns), `answering` (what is said of a name), `building` (what a build publishes and reports), `laws` (that
-//! the list of a picture's objects is the one that there is).
+//! In reading order: `works` (an engine with its runner), `starting` (them before the first picture), `taking` (the source's
+//! next picture), `turning` (turns), `answering` (what is said of a name), `building` (what a build publishes and reports),
+//! `laws` (that the list of a picture's objects is the one that there is).
 #![tactic(auto)]
 
 mod answering;
@@ -12,10 +12,12 @@ mod laws;
 mod starting;
 mod taking;
 mod turning;
+mod works;
 
 pub use answering::{deps, push_cause, shown};
 pub use building::{Built, build};
 pub use laws::object_lists;
-pub use starting::start;
+pub use starting::{new_works, start};
 pub use taking::{Took, take_next};
 pub use turning::make_turns;
+pub use works::Works;

@@ -1,16 +1,16 @@
 ghost use Rattle.std.specs.Prelude.{◌≡◌, ◌≤◌, ◌⊎◌, ◌+◌, List, ℕ, IfOk, OnOk, OnErr, Ok, Some, length, option_map};
 ghost use Rattle.outside.specs.Causes.{Counted};
 ghost use Rattle.pan_ast.specs.declared.work.Limits.{Limits};
-ghost use Rattle.engine_turns.specs.States.{pictured};
 ghost use Rattle.scans.specs.Outcomes.{IsPassed, IsPerhapsPassed};
 ghost use Rattle.session.specs.Sessions.{Next, Done, state_in, scanned};
 ghost use Rattle.compiler.specs.Compiler.{Compiled, compiler};
-ghost use Rattle.compiler.specs.Standing.{Here, Counts, counts, IsKept, IsAt, HasSpentAtMost, IsRising, Takes, TakesNext};
+ghost use Rattle.compiler.specs.Standing.{Here, Counts, counts, IsAt, HasSpentAtMost, IsRising, Takes, TakesNext};
 
+use crate::works::Works;
 use base::Steps;
 use load_path::Picture;
 use outside::Source;
-use rebuild::{Engine, TakeError};
+use rebuild::TakeError;
 use runner::Runner;
 use scans::{ScanError, scan};
 use std::alloc::{AllocError, Global};
@@ -29,26 +29,20 @@ pub enum Took {
 /// The engine takes a picture, or says why it does not.
 fn take<R: Runner, L: Ledger>(
     alloc: Global,
-    engine: &mut Engine<R>,
-    runner: &mut R,
+    works: &mut Works<R>,
     picture: Picture,
     steps: &mut Steps<L>,
 ) -> Result<Took, AllocError>
-    requires files { R.files_of runner.old ≡ pictured engine.old.core.files.items }
-    requires dirs { R.dirs_of runner.old ≡ engine.old.core.dirs }
-    requires kept { IsKept engine.old.core }
     ensures took { IfOk result (λ how. (dirs : List (List ℕ)) (limits : Limits) (s : Here R.Rest)
-        (start : Counts) → IsAt dirs limits s engine.old.core start
-        (counts (R.runs_of runner.old) steps.old) → Takes (compiler (R.meaning dirs limits) dirs)
-        dirs limits picture s how engine.new.core start (counts (R.runs_of runner.new) steps.new)) }
+        (start : Counts) → IsAt dirs limits s works.old.engine.core start
+        (counts (R.runs_of works.old.runner) steps.old) → Takes (compiler (R.meaning dirs limits)
+        dirs) dirs limits picture s how works.new.engine.core start (counts (R.runs_of
+        works.new.runner) steps.new)) }
     ensures source { IfOk result (λ how. how ≡ Took.Failed → ⊥) }
-    ensures files { R.files_of runner.new ≡ pictured engine.new.core.files.items }
-    ensures dirs { R.dirs_of runner.new ≡ engine.new.core.dirs }
-    ensures kept { IsKept engine.new.core }
-    ensures runs { R.runs_of runner.new ≡ R.runs_of runner.old }
+    ensures runs { R.runs_of works.new.runner ≡ R.runs_of works.old.runner }
     ensures steps { steps.new ≤ steps.old + length picture }
 {
-    match engine.take(alloc, picture, runner, steps) {
+    match works.engine.take(alloc, picture, &mut works.runner, steps) {
         Ok(()) => Ok(Took::Taken),
         Err(TakeError::TooManyObjects) => Ok(Took::IsTooMuch),
         Err(TakeError::NumbersSpent) => Ok(Took::SpendsNumbers),
@@ -59,30 +53,23 @@ fn take<R: Runner, L: Ledger>(
 /// The engine takes the source's next picture, or says why it does not.
 pub fn take_next<R: Runner, S: Source, L: Ledger>(
     alloc: Global,
-    engine: &mut Engine<R>,
-    runner: &mut R,
+    works: &mut Works<R>,
     source: &mut S,
     steps: &mut Steps<L>,
 ) -> Result<Took, AllocError>
-    requires files { R.files_of runner.old ≡ pictured engine.old.core.files.items }
-    requires dirs { R.dirs_of runner.old ≡ engine.old.core.dirs }
-    requires kept { IsKept engine.old.core }
     ensures took { IfOk result (λ how. (dirs : List (List ℕ)) (limits : Limits) (s : Here R.Rest)
-        (start : Counts) → IsAt dirs limits s engine.old.core start
-        (counts (R.runs_of runner.old) steps.old) → S.coming source.old ≡ Some s.coming
-        → TakesNext (compiler (R.meaning dirs limits) dirs) dirs limits s how engine.new.core start
-        (counts (R.runs_of runner.new) steps.new) (S.coming source.new)
+        (start : Counts) → IsAt dirs limits s works.old.engine.core start
+        (counts (R.runs_of works.old.runner) steps.old) → S.coming source.old ≡ Some s.coming
+        → TakesNext (compiler (R.meaning dirs limits) dirs) dirs limits s how works.new.engine.core
+        start (counts (R.runs_of works.new.runner) steps.new) (S.coming source.new)
         (S.fault_count source.old) (S.fault_count source.new)) }
     ensures cut { OnErr result ((dirs : List (List ℕ)) (limits : Limits) (s : Here R.Rest)
-        (start : Counts) → IsAt dirs limits s engine.old.core start
-        (counts (R.runs_of runner.old) steps.old) → S.coming source.old ≡ Some s.coming
+        (start : Counts) → IsAt dirs limits s works.old.engine.core start
+        (counts (R.runs_of works.old.runner) steps.old) → S.coming source.old ≡ Some s.coming
         → (next : Here R.Rest → Next (Compiled R.Rest)) → IsRising next → HasSpentAtMost
         (state_in (scanned (compiler (R.meaning dirs limits) dirs) Done s next)) start
-        (counts (R.runs_of runner.new) steps.new)) }
-    ensures files { R.files_of runner.new ≡ pictured engine.new.core.files.items }
-    ensures dirs { R.dirs_of runner.new ≡ engine.new.core.dirs }
-    ensures kept { IsKept engine.new.core }
-    ensures runs { R.runs_of runner.new ≡ R.runs_of runner.old }
+        (counts (R.runs_of works.new.runner) steps.new)) }
+    ensures runs { R.runs_of works.new.runner ≡ R.runs_of works.old.runner }
     ensures taken { IfOk result (λ how. (how ≡ Took.Failed → ⊥)
         → IsPassed (S.coming source.old) (S.coming source.new)) }
     ensures perhaps { IsPerhapsPassed (S.coming source.old) (S.coming source.new) }
@@ -91,7 +78,7 @@ pub fn take_next<R: Runner, S: Source, L: Ledger>(
         (S.fault_count source.new) }
 {
     match scan(alloc, source) {
-        Ok(picture) => take(alloc, engine, runner, picture, steps),
+        Ok(picture) => take(alloc, works, picture, steps),
         Err(ScanError::TooMuch) => Ok(Took::IsTooMuch),
         Err(ScanError::Fault) => Ok(Took::Failed),
         Err(ScanError::Memory) => Err(AllocError),

@@ -1,7 +1,6 @@
 ghost use Rattle.std.specs.Prelude.{◌≡◌, ◌≤◌, [], List, ℕ, IfOk, OnOk, OnErr, Some};
 ghost use Rattle.compiler.specs.Compiler.{Compiled, compiler, nothing};
-ghost use Rattle.compiler.specs.Standing.{Here, Counts, counts, HasSpentAtMost, IsAt, IsIn, IsKept, compiled_in};
-ghost use Rattle.engine_turns.specs.States.{pictured};
+ghost use Rattle.compiler.specs.Standing.{Here, Counts, counts, HasSpentAtMost, IsAt, IsIn, compiled_in, machine_in};
 ghost use Rattle.outside.specs.Causes.{Caused};
 ghost use Rattle.outside.specs.Contents.{Appends, AppendsPart};
 ghost use Rattle.outside.specs.declared.source.MemFile.{MemFile};
@@ -13,12 +12,12 @@ ghost use Rattle.demo.specs.Played.{Goes, Says};
 
 use crate::ends::End;
 use crate::pictures::pictures;
+use crate::plan::Plan;
 use crate::report::last_line;
 use base::{Seq, Steps, Text};
-use compiler::{Took, build, make_turns, start, take_next};
+use compiler::{Took, Works, build, make_turns, start, take_next};
 use outside::{Sink, StoreError, SureSource};
 use pan_ast::Limits;
-use rebuild::Engine;
 use runner::Runner;
 use session::{Ended, ended_by};
 use std::alloc::{AllocError, Global};
@@ -37,17 +36,15 @@ pub enum Step {
 /// Writes the last line of the report of a settled engine, and tells whether an object has a fault.
 fn push_line<R: Runner>(
     alloc: Global,
-    engine: &Engine<R>,
+    works: &Works<R>,
     line: &mut Vec<u8>,
 ) -> Result<bool, AllocError>
     requires line { line.old.items ≡ [] }
-    requires settled { turns_left_of engine.now.core ≡ 0 }
-    requires kept { IsKept engine.now.core }
-    ensures { IfOk result (λ faults. Says (compiler (R.meaning engine.now.core.dirs
-        engine.now.core.limits) engine.now.core.dirs) (compiled_in engine.now.core) faults
-        line.new.items) }
+    requires settled { turns_left_of works.now.engine.core ≡ 0 }
+    ensures { IfOk result (λ faults. Says (machine_in R.meaning works.now.engine.core)
+        (compiled_in works.now.engine.core) faults line.new.items) }
 {
-    let built = build(alloc, engine)?;
+    let built = build(alloc, works)?;
     line.extend_from_slice(last_line(&built.report))?;
     Ok(built.has_faults)
 }
@@ -55,51 +52,45 @@ fn push_line<R: Runner>(
 /// Builds the source's next picture.
 fn build_next<R: Runner, L: Ledger>(
     alloc: Global,
-    engine: &mut Engine<R>,
-    runner: &mut R,
+    works: &mut Works<R>,
     source: &mut SureSource,
     line: &mut Vec<u8>,
     has_faults: &mut bool,
     steps: &mut Steps<L>,
 ) -> Result<Step, AllocError>
     requires line { line.old.items ≡ [] }
-    requires files { R.files_of runner.old ≡ pictured engine.old.core.files.items }
-    requires dirs { R.dirs_of runner.old ≡ engine.old.core.dirs }
-    requires kept { IsKept engine.old.core }
     ensures went { IfOk result (λ step. (dirs : List (List ℕ)) (limits : Limits) (s : Here R.Rest)
-        (start : Counts) → IsAt dirs limits s engine.old.core start
-        (counts (R.runs_of runner.old) steps.old) → source.old.coming ≡ s.coming → s.text ≡ []
+        (start : Counts) → IsAt dirs limits s works.old.engine.core start
+        (counts (R.runs_of works.old.runner) steps.old) → source.old.coming ≡ s.coming → s.text ≡ []
         → Goes (compiler (R.meaning dirs limits) dirs) dirs limits s step line.new.items
-        has_faults.new engine.new.core source.new.coming start
-        (counts (R.runs_of runner.new) steps.new)) }
+        has_faults.new works.new.engine.core source.new.coming start
+        (counts (R.runs_of works.new.runner) steps.new)) }
     ensures cut { OnErr result ((dirs : List (List ℕ)) (limits : Limits) (s : Here R.Rest)
-        (start : Counts) → IsAt dirs limits s engine.old.core start
-        (counts (R.runs_of runner.old) steps.old) → source.old.coming ≡ s.coming → HasSpentAtMost
-        (state_in (next (compiler (R.meaning dirs limits) dirs) build_round s)) start
-        (counts (R.runs_of runner.new) steps.new)) }
-    ensures files { R.files_of runner.new ≡ pictured engine.new.core.files.items }
-    ensures dirs { R.dirs_of runner.new ≡ engine.new.core.dirs }
-    ensures kept { IsKept engine.new.core }
+        (start : Counts) → IsAt dirs limits s works.old.engine.core start
+        (counts (R.runs_of works.old.runner) steps.old) → source.old.coming ≡ s.coming →
+        HasSpentAtMost (state_in (next (compiler (R.meaning dirs limits) dirs) build_round s)) start
+        (counts (R.runs_of works.new.runner) steps.new)) }
 {
-    match take_next(alloc, engine, runner, source, steps)? {
+    match take_next(alloc, works, source, steps)? {
         Took::Failed => unreachable!(),
         Took::Taken => {}
         Took::SpendsNumbers => return Ok(Step::SpendsNumbers),
         Took::IsTooMuch => return Ok(Step::IsTooMuch),
     }
-    let left = engine.turns_left();
-    if !make_turns(alloc, engine, runner, left, steps)? {
+    let left = works.engine.turns_left();
+    if !make_turns(alloc, works, left, steps)? {
         return Ok(Step::SpendsNumbers);
     }
-    *has_faults = push_line(alloc, engine, line)?;
-    engine.forget_runs();
+    *has_faults = push_line(alloc, works, line)?;
+    works.engine.forget_runs();
     Ok(Step::Reports)
 }
 
 fn write<O: Sink>(out: &mut O, text: &[u8]) -> Result<(), End>
     ensures ok { OnOk result (Appends (O.held out.old) text.now (O.held out.new)) }
     ensures err { OnErr result (AppendsPart (O.held out.old) text.now (O.held out.new)) }
-    ensures cause { Caused (λ e. e ≡ End.Out) (O.fault_count out.old) (O.fault_count out.new) result }
+    ensures cause { Caused (λ e. e ≡ End.Out) (O.fault_count out.old) (O.fault_count out.new)
+        result }
 {
     match out.write(text) {
         Ok(()) => Ok(()),
@@ -111,27 +102,23 @@ fn write<O: Sink>(out: &mut O, text: &[u8]) -> Result<(), End>
 /// Makes the builds, one after the other, and writes the last line of each report.
 fn play<R: Runner, O: Sink, L: Ledger>(
     alloc: Global,
-    engine: &mut Engine<R>,
-    runner: &mut R,
+    works: &mut Works<R>,
     source: &mut SureSource,
     out: &mut O,
     steps: &mut Steps<L>,
 ) -> Result<Ended, End>
-    requires files { R.files_of runner.old ≡ pictured engine.old.core.files.items }
-    requires dirs { R.dirs_of runner.old ≡ engine.old.core.dirs }
-    requires kept { IsKept engine.old.core }
     ensures ok { IfOk result (λ how. (dirs : List (List ℕ)) (limits : Limits)
-        (e : Compiled R.Rest) (ps : List (List MemFile)) → IsIn dirs limits engine.old.core e
+        (e : Compiled R.Rest) (ps : List (List MemFile)) → IsIn dirs limits works.old.engine.core e
         → source.old.coming ≡ ps
         → Ends (builds (compiler (R.meaning dirs limits) dirs) 4 (started e ps [])) how
-        (counts (R.runs_of runner.old) steps.old) (counts (R.runs_of runner.new) steps.new)
-        (O.held out.old) (O.held out.new)) }
+        (counts (R.runs_of works.old.runner) steps.old) (counts (R.runs_of works.new.runner)
+        steps.new) (O.held out.old) (O.held out.new)) }
     ensures err { OnErr result ((dirs : List (List ℕ)) (limits : Limits)
-        (e : Compiled R.Rest) (ps : List (List MemFile)) → IsIn dirs limits engine.old.core e
+        (e : Compiled R.Rest) (ps : List (List MemFile)) → IsIn dirs limits works.old.engine.core e
         → source.old.coming ≡ ps
         → Breaks (builds (compiler (R.meaning dirs limits) dirs) 4 (started e ps []))
-        (counts (R.runs_of runner.old) steps.old) (counts (R.runs_of runner.new) steps.new)
-        (O.held out.old) (O.held out.new)) }
+        (counts (R.runs_of works.old.runner) steps.old) (counts (R.runs_of works.new.runner)
+        steps.new) (O.held out.old) (O.held out.new)) }
     ensures out_cause { Caused (λ e. e ≡ End.Out) (O.fault_count out.old) (O.fault_count out.new)
         result }
 {
@@ -139,15 +126,7 @@ fn play<R: Runner, O: Sink, L: Ledger>(
     let mut has_faults = false;
     for _i in 0..BUILDS {
         line.clear();
-        match build_next(
-            alloc,
-            engine,
-            runner,
-            source,
-            &mut line,
-            &mut has_faults,
-            steps,
-        ) {
+        match build_next(alloc, works, source, &mut line, &mut has_faults, steps) {
             Ok(Step::Reports) => {}
             Ok(Step::SpendsNumbers) => return Ok(Ended::NumbersSpent),
             Ok(Step::IsTooMuch) => return Ok(Ended::TooMuch),
@@ -170,21 +149,17 @@ fn root(alloc: Global) -> Result<Seq<Text>, AllocError>
     Ok(Seq::from_vec(dirs))
 }
 
-/// An engine with these limits.
-fn new_engine<R: Runner>(
+/// Makes the engine one that has taken no picture, with these limits, over the root.
+fn start_at_root<R: Runner>(
     alloc: Global,
-    runner: &mut R,
+    works: &mut Works<R>,
     limits: Limits,
-) -> Result<Engine<R>, AllocError>
-    ensures at { IfOk result (λ engine. IsIn demo_dirs limits engine.core nothing) }
-    ensures kept { IfOk result (λ engine. IsKept engine.core) }
-    ensures files { IfOk result
-        (λ engine. R.files_of runner.new ≡ pictured engine.core.files.items) }
-    ensures dirs { IfOk result (λ engine. R.dirs_of runner.new ≡ engine.core.dirs) }
-    ensures runs { R.runs_of runner.new ≡ R.runs_of runner.old }
+) -> Result<(), AllocError>
+    ensures at { OnOk result (IsIn demo_dirs limits works.new.engine.core nothing) }
+    ensures runs { R.runs_of works.new.runner ≡ R.runs_of works.old.runner }
 {
     let dirs = root(alloc)?;
-    start(alloc, runner, limits, dirs.as_slice())
+    start(alloc, works, limits, dirs.as_slice())
 }
 
 /// Four builds of a site of so many machines that is made from a number, in memory and over one engine; the last line of
@@ -196,23 +171,23 @@ fn new_engine<R: Runner>(
 /// first part of the session's text was written.
 pub fn demo<R: Runner, O: Sink, L: Ledger>(
     alloc: Global,
-    count: u32,
-    start: u64,
-    limits: Limits,
-    runner: &mut R,
+    plan: Plan,
+    works: &mut Works<R>,
     out: &mut O,
     steps: &mut Steps<L>,
 ) -> Result<Ended, End>
-    ensures ok { IfOk result (λ how. Ends (demo_session R.meaning limits count start) how
-        (counts (R.runs_of runner.old) steps.old) (counts (R.runs_of runner.new) steps.new)
-        (O.held out.old) (O.held out.new)) }
-    ensures err { OnErr result (Breaks (demo_session R.meaning limits count start)
-        (counts (R.runs_of runner.old) steps.old) (counts (R.runs_of runner.new) steps.new)
-        (O.held out.old) (O.held out.new)) }
+    ensures ok { IfOk result (λ how. Ends
+        (demo_session R.meaning plan.limits plan.count plan.start) how
+        (counts (R.runs_of works.old.runner) steps.old)
+        (counts (R.runs_of works.new.runner) steps.new) (O.held out.old) (O.held out.new)) }
+    ensures err { OnErr result (Breaks
+        (demo_session R.meaning plan.limits plan.count plan.start)
+        (counts (R.runs_of works.old.runner) steps.old)
+        (counts (R.runs_of works.new.runner) steps.new) (O.held out.old) (O.held out.new)) }
     ensures out_cause { Caused (λ e. e ≡ End.Out) (O.fault_count out.old) (O.fault_count out.new)
         result }
 {
-    let mut source = SureSource::new(alloc, pictures(alloc, count, start)?);
-    let mut engine = new_engine(alloc, runner, limits)?;
-    play(alloc, &mut engine, runner, &mut source, out, steps)
+    let mut source = SureSource::new(alloc, pictures(alloc, plan.count, plan.start)?);
+    start_at_root(alloc, works, plan.limits)?;
+    play(alloc, works, &mut source, out, steps)
 }

@@ -6,6 +6,7 @@ ghost use Rattle.engine_turns.specs.Places.{row_place, row_in, file_in, file_num
 use base::Text;
 use load_path::Content;
 use pan_ast::Fault;
+use path_numbers::PathTable;
 use path_tree::{Name, Tree};
 use read_sets::{Key, Trace};
 use runner::Built;
@@ -45,6 +46,8 @@ pub enum Cause {
 pub struct Row<T> {
     pub name: Name,
     pub last: Option<Last>,
+    /// The numbers of the paths of the last tree that have one of their own.
+    pub paths: PathTable,
     pub build: Option<Trace>,
     pub check: Option<CheckRecord>,
     pub open_build: bool,
@@ -52,6 +55,8 @@ pub struct Row<T> {
     pub held: Option<Built<T>>,
     pub run: bool,
     pub cause: Cause,
+    /// A change may have reached the object since all was settled: its record is compared whole.
+    pub touched: bool,
 }
 
 /// How many rows have a name below this one.
@@ -73,6 +78,19 @@ pub fn row_place<T>(rows: &[Row<T>], name: &Name) -> Option<usize>
         return None;
     }
     Some(place)
+}
+
+/// Where the row of a name is; it is looked for first at this place.
+pub fn row_near<T>(rows: &[Row<T>], near: usize, name: &Name) -> Option<usize>
+    requires { are_rising (names rows.now) ≡ true }
+    ensures { result ≡ row_place name.now 0 rows.now }
+{
+    if let Some(row) = rows.get(near) {
+        if row.name == *name {
+            return Some(near);
+        }
+    }
+    row_place(rows, name)
 }
 
 /// The row of a name.
@@ -116,4 +134,17 @@ pub fn file_number_in(files: &[FileRow], name: &str) -> u64
         None => 0,
         Some(file) => file.number,
     }
+}
+
+/// The number of a file, 0 where there is none of this name; it is looked for first at this place.
+pub fn file_number_near(files: &[FileRow], near: usize, name: &str) -> u64
+    requires { are_rising (file_names files.now) ≡ true }
+    ensures { result ≡ file_number_in files.now name.now }
+{
+    if let Some(file) = files.get(near) {
+        if file.name.as_str() == name {
+            return file.number;
+        }
+    }
+    file_number_in(files, name)
 }

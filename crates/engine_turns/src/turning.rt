@@ -4,6 +4,7 @@ ghost use Rattle.std.specs.Prelude.{◌≡◌, IfErr, OnOk, OnErr, [], Some, tru
 ghost use Rattle.engine_laws.specs.Engine.{is_among};
 ghost use Rattle.engine_turns.specs.Places.{names};
 ghost use Rattle.engine_turns.specs.States.{pictured};
+ghost use Rattle.engine_turns.specs.Calm.{IsCalm};
 ghost use Rattle.engine_turns.specs.Ready.{IsReady, StaysReady, core_state, none_before, is_open, is_unchecked};
 ghost use Rattle.engine_turns.specs.Turning.{open_state, turned};
 ghost use Rattle.engine_turns.specs.Spent.{IsTurnRefused, Spends, core_work};
@@ -13,7 +14,7 @@ ghost use Rattle.engine_turns.specs.Opening.{IsTop, first_open_build, first_open
 use crate::building::{build_top, push_build};
 use crate::checking::check_top;
 use crate::core_data::Core;
-use crate::rows::{Row, row_place};
+use crate::rows::{Row, row_near};
 use crate::turned::{TurnError, Turned};
 use base::Steps;
 use foreign_values::Part;
@@ -37,11 +38,11 @@ fn find_top<T: Drop>(core: &Core<T>) -> Top
 {
     match core.chain.top() {
         None => Top::Nothing,
-        Some(Part::Build(name)) => match row_place(&core.rows, name) {
+        Some(Part::Build(name)) => match row_near(&core.rows, core.first_build, name) {
             Some(at) => Top::Build(at),
             None => unreachable!(),
         },
-        Some(Part::Check(name)) => match row_place(&core.rows, name) {
+        Some(Part::Check(name)) => match row_near(&core.rows, core.first_check, name) {
             Some(at) => Top::Check(at),
             None => unreachable!(),
         },
@@ -125,6 +126,7 @@ pub fn step<R: Runner, L: Ledger>(
     steps: &mut Steps<L>,
 ) -> Result<(), TurnError>
     requires ready { IsReady core.old }
+    requires calm { IsCalm core.old }
     requires picture { R.files_of runner.old ≡ pictured core.old.files.items }
     ensures state { OnOk result (core_state core.new
         ≡ turned (R.meaning (R.dirs_of runner.old) core.old.limits).build
@@ -141,7 +143,7 @@ pub fn step<R: Runner, L: Ledger>(
 {
     match find_top(core) {
         Top::Nothing => open_part(core),
-        Top::Build(at) => build_top(core, at, runner, steps),
+        Top::Build(at) => build_top(alloc, core, at, runner, steps),
         Top::Check(at) => check_top(alloc, core, at, runner, steps),
     }
 }

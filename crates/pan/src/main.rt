@@ -11,7 +11,7 @@ use base::{Steps, Text};
 use end_notes::asked_of;
 use object_run::Library;
 use outside::{HostLines, HostShelf, HostSink, HostSource, KeepingSink};
-use pan_top::{Status, pan};
+use pan_top::{Devices, Status, pan};
 use std::alloc::AllocError;
 use std::marker::Brand;
 use std::process::ExitCode;
@@ -40,30 +40,23 @@ fn run<L: Ledger>(rt: &HostRuntime, blank: Blank) -> Result<Status, AllocError>
     let none = Vec::new(rt.alloc());
     // Words of which one is not UTF-8 are no command.
     let words = read.as_ref().unwrap_or(&none);
-    let mut runner = Library::new(rt.alloc());
-    let mut source = HostSource::new(rt.clone()?);
-    let mut shelf = HostShelf::new(rt.clone()?, asked_of(rt.alloc(), words)?);
-    let mut lines = HostLines::new(rt.reader());
-    let mut out = KeepingSink::new(rt.alloc(), HostSink::new(rt.stdout()));
+    let runner = Library::new(rt.alloc());
+    let devices = Devices {
+        source: HostSource::new(rt.clone()?),
+        shelf: HostShelf::new(rt.clone()?, asked_of(rt.alloc(), words)?),
+        lines: HostLines::new(rt.reader()),
+        out: KeepingSink::new(rt.alloc(), HostSink::new(rt.stdout())),
+    };
     let mut steps = Steps::<L>::new(blank);
-    let status = pan(
-        rt.alloc(),
-        words,
-        &mut runner,
-        &mut source,
-        &mut shelf,
-        &mut lines,
-        &mut out,
-        &mut steps,
-    );
+    let ended = pan(rt.alloc(), words, runner, devices, &mut steps);
     let told = Told {
         words: read.as_ref(),
-        source: source.trouble(),
-        shelf: shelf.trouble(),
-        faults: out.fault_lines(),
+        source: ended.devices.source.trouble(),
+        shelf: ended.devices.shelf.trouble(),
+        faults: ended.devices.out.fault_lines(),
     };
-    write_notes(rt, status, &told);
-    Ok(status)
+    write_notes(rt, ended.status, &told);
+    Ok(ended.status)
 }
 
 fn main(rt: HostRuntime) -> ExitCode {

@@ -2,6 +2,7 @@
 use Rattle.std.proofs.Common.{◌≡◌, ℕ, List, [], Option, Some, None, inl, inr, refl, subst, codes}
 use Rattle.command_words.specs.declared.commands.Command.{Command}
 use Rattle.command_words.specs.declared.commands.Command.TheVariants.{Build, Watch, Demo}
+use Rattle.compiler.specs.Standing.{Counts}
 use Rattle.rebuild.specs.Engines.{Meanings}
 use Rattle.session.specs.Sessions.{state_in}
 use Rattle.site_build.specs.Ends.{IsFailureOf, Stopped}
@@ -19,7 +20,7 @@ use Rattle.pan_top.specs.Builds.{Wrote}
 use Rattle.command_words.specs.Commands.{command_of}
 use Rattle.pan_top.specs.Calls.{CallOf}
 use Rattle.pan_top.specs.Demos.{shown_by, text_after}
-use Rattle.pan_top.specs.Scenes.{Scene}
+use Rattle.site_build.specs.Scenes.{Scene}
 use Rattle.pan_top.specs.declared.status.Status.{Status}
 use Rattle.pan_top.specs.declared.status.Status.TheVariants as S
 use Rattle.pan_top.proofs.Counting.{counted_same}
@@ -71,6 +72,6 @@ nothing_done M (Some (Watch w)) s = inr (record {
 })
 nothing_done M (Some (Demo d)) s = record { only = refl; shows = inr (inr refl, none_of (text_after (shown_by M d)) s.held, spent_nothing (state_in (shown_by M d)) s.spent); out_count = uncounted s.out_count }
 
--- the call of the command that the words are
-pub called : {T : Type 0} (M : Meanings T) (words : List (List ℕ)) (command : Option Command) (status : Status) (before after : Scene) → command ≡ command_of words → CallOf M command status before after → CallOf M (command_of words) status before after
-called M words command status before after is call = subst (λ command. CallOf M command status before after) is call
+-- the call of the command that the words are, by a runner that has made as many runs
+pub called : {T : Type 0} (M : Meanings T) (words : List (List ℕ)) (command : Option Command) (status : Status) (before after : Scene) (spent : Counts) → command ≡ command_of words → spent ≡ before.spent → CallOf M command status (record before { spent = spent }) after → CallOf M (command_of words) status before after
+called M words command status before after spent is same call = subst (λ command. CallOf M command status before after) is (subst (λ s. CallOf M command status (record before { spent = s }) after) same call)

@@ -1,7 +1,7 @@
 -- How a build ends.
-use Rattle.std.specs.Prelude.{◌≡◌, ◌⊎◌, ℕ, List, Option, Some, IfSome}
+use Rattle.std.specs.Prelude.{◌≡◌, ◌⊎◌, ℕ, List, Option, IfSome}
 use Rattle.command_words.specs.declared.commands.Work.{Work}
-use Rattle.compiler.specs.Standing.{HasSpentAtMost, SpendsAs}
+use Rattle.compiler.specs.Standing.{HasSpentAtMost}
 use Rattle.outside.specs.Causes.{Counted}
 use Rattle.outside.specs.Contents.{AppendsPart}
 use Rattle.outside.specs.Cells.{AreSame}
@@ -9,11 +9,11 @@ use Rattle.publication.specs.Changing.{AreListed, BegunOver, Tells}
 use Rattle.rebuild.specs.Engines.{Meanings}
 use Rattle.session.specs.declared.Ended.{Ended}
 use Rattle.site_build.specs.Ends.{IsFailureOf, Stopped}
-use Rattle.site_build.specs.Session.{session_for, state_for, Finishes, TakesEarly, IsPassed, IsPerhapsOpened}
+use Rattle.site_build.specs.Session.{session_for, state_for, Finishes, TakesEarly, IsPerhapsOpened}
 use Rattle.site_build.specs.declared.ends.Device.TheVariants as D
 use Rattle.site_build.specs.declared.ends.End.{End}
 use Rattle.site_build.specs.declared.ends.End.TheVariants as E
-use Rattle.pan_top.specs.Scenes.{Scene}
+use Rattle.site_build.specs.Scenes.{Scene}
 use Rattle.pan_top.specs.Statuses.{status_after, status_of, line_of, IsCut, Says}
 use Rattle.pan_top.specs.declared.status.Status.{Status}
 use Rattle.pan_top.specs.declared.status.Status.TheVariants as S
@@ -26,21 +26,11 @@ Wrote text E.Memory status old new = (status ≡ S.Memory) × AppendsPart old te
 Wrote text e status old new = Says (status_of e) (line_of e) status old new
 
 module _ {T : Type 0} (means : Meanings T) (w : Work) (status : Status) (before after : Scene) where
-  -- It came to its end: its text, the shelf, the changes of it in order, the runs and the steps are
-  -- the session's, over the names on the shelf, and no call of a device failed.
+  -- It came to its end, as its session says, and no call of a device failed.
   pub record Built : Type 0 where
     pub ended : Ended
     pub is : status ≡ status_after ended
-    pub session : Finishes means w ended before.coming before.held after.held before.cell
-        after.cell before.changes after.changes
-    pub spent : IfSome before.coming (λ ps. SpendsAs ended (state_for means w ps) before.spent
-        after.spent)
-    pub taken : IsPassed before.coming after.coming
-    pub source_opened : after.source_opened ≡ Some w.source
-    pub shelf_opened : after.shelf_opened ≡ Some w.out
-    pub source_count : after.source_count ≡ before.source_count
-    pub shelf_count : after.shelf_count ≡ before.shelf_count
-    pub out_count : after.out_count ≡ before.out_count
+    pub session : Finishes means w ended before after
 
   -- It ended early, by this end: a part of that at most. The device whose call failed counts it.
   pub record BuiltPart : Type 0 where

@@ -6,7 +6,7 @@ use Rattle.outside.specs.Causes.{Counted}
 use Rattle.rebuild.specs.Engines.{Meanings}
 use Rattle.pan_top.specs.Builds.{BuildCall}
 use Rattle.pan_top.specs.Demos.{DemoCall}
-use Rattle.pan_top.specs.Scenes.{Scene, OnlyWrites}
+use Rattle.site_build.specs.Scenes.{Scene, OnlyWrites}
 use Rattle.pan_top.specs.Statuses.{Says}
 use Rattle.pan_top.specs.Watches.{WatchCall}
 use Rattle.pan_top.specs.declared.status.Status.{Status}

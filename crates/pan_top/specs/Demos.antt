@@ -9,7 +9,7 @@ use Rattle.outside.specs.Contents.{Appends, AppendsPart}
 use Rattle.pan_ast.specs.declared.work.Limits.{Limits}
 use Rattle.rebuild.specs.Engines.{Meanings}
 use Rattle.session.specs.Sessions.{Next, state_in, end_of, end_line}
-use Rattle.pan_top.specs.Scenes.{Scene, OnlyWrites}
+use Rattle.site_build.specs.Scenes.{Scene, OnlyWrites}
 use Rattle.pan_top.specs.Statuses.{status_after, IsCut}
 use Rattle.pan_top.specs.declared.status.Status.{Status}
 use Rattle.pan_top.specs.declared.status.Status.TheVariants as S

@@ -1,7 +1,6 @@
 -- What a stranger must believe: the statuses and their lines; how a build, a watcher and a demo end;
 -- and the call.
 pub mod Statuses
-pub mod Scenes
 pub mod Builds
 pub mod Watches
 pub mod Demos

@@ -15,12 +15,13 @@ use Rattle.site_build.specs.Session.{IsPerhapsOpened, engine_for, limits_of}
 use Rattle.site_build.specs.declared.ends.Device.TheVariants as D
 use Rattle.site_build.specs.declared.ends.End as early
 use Rattle.site_build.specs.declared.ends.End.TheVariants as E
+use Rattle.watch.specs.Sites as sites
 use Rattle.watch.specs.Played.{Finished, HasNames, Reel, Stopped, reel}
-use Rattle.watch.specs.Steps.{Spot, spot}
+use Rattle.watch.specs.Steps.{Spot}
 use Rattle.watch.specs.declared.ends.End.{End}
 use Rattle.watch.specs.declared.ends.End.TheVariants as W
 use Rattle.pan_top.specs.Builds.{Wrote}
-use Rattle.pan_top.specs.Scenes.{Scene}
+use Rattle.site_build.specs.Scenes.{Scene}
 use Rattle.pan_top.specs.Statuses.{status_after, Says}
 use Rattle.pan_top.specs.declared.status.Status.{Status}
 use Rattle.pan_top.specs.declared.status.Status.TheVariants as S
@@ -45,8 +46,16 @@ line_at W.Memory = []
 -- what a watcher's lines find there, beside the engine, whether the last report had a fault, and the
 -- publisher
 abbrev pub spot_in : {T : Type 0} → Core T → Publisher → Scene → Bool → Spot T
-spot_in core publisher s has_faults =
-    spot core s.coming has_faults s.spent s.source_count s.shelf_count s.cell publisher
+spot_in core publisher s has_faults = record {
+  core = core;
+  coming = s.coming;
+  has_faults = has_faults;
+  spent = s.spent;
+  source_count = s.source_count;
+  shelf_count = s.shelf_count;
+  cell = s.cell;
+  publisher = publisher;
+}
 
 -- the publisher knows the names on the shelf, and no other
 pub record HasListed (publisher : Publisher) (cell : List ℕ → Cell) : Type 0 where
@@ -89,16 +98,36 @@ Closes None has_faults status old new =
     (status ≡ status_after (ended_by has_faults)) × (new ≡ old)
 Closes (Some end) has_faults status old new = Says (status_at end) (line_at end) status old new
 
+-- a session was played to its end, or to this one
+abbrev pub IsPlayed : {T : Type 0} → Meanings T → Option End → Reel → Spot T → Spot T → Type 0
+IsPlayed means None r first last = sites.Finishes means r first last
+IsPlayed means (Some end) r first last = sites.Stops means end r first last
+
+-- .. over devices that are open, by an engine and a publisher, and the line of its end was written
+pub record PlaysAll {T : Type 0} (means : Meanings T) (first : Core T) (publisher : Publisher)
+    (status : Status) (before after : Scene) : Type 0 where
+  pub end : Option End
+  pub has_faults : Bool
+  pub last : Core T
+  pub publisher_last : Publisher
+  pub held : Option (List ℕ)
+  pub played : IsPlayed means end (reel before.lines after.lines before.held held)
+      (spot_in first publisher before false) (spot_in last publisher_last after has_faults)
+  pub closes : Closes end has_faults status held after.held
+  pub source_opened : after.source_opened ≡ before.source_opened
+  pub shelf_opened : after.shelf_opened ≡ before.shelf_opened
+  pub lines_count : Counted (end ≡ Some W.Lines) before.lines_count after.lines_count
+  pub out_count : Counted (status ≡ S.OutFault) before.out_count after.out_count
+
 module _ {T : Type 0} (means : Meanings T) (w : Work) where
   -- the session was played from one spot to another, to its end or to this one, over a shelf with
   -- these names
-  abbrev pub PlaysTo : Option End → Bool → List (List ℕ) → List (List MemFile) → Reel → Spot T
-      → (Bool → Spot T) → Type 0
-  PlaysTo None has_faults names ps r first last = Finished (engine_for means w) w.directories
-      (limits_of w) (started nothing ps names) r first (last has_faults)
-  PlaysTo (Some end) has_faults names ps r first last = (faults : Bool) × Stopped
-      (engine_for means w) w.directories (limits_of w) (started nothing ps names) end r first
-      (last faults)
+  abbrev pub PlaysTo : Option End → List (List ℕ) → List (List MemFile) → Reel → Spot T → Spot T
+      → Type 0
+  PlaysTo None names ps r first last = Finished (engine_for means w) w.directories (limits_of w)
+      (started nothing ps names) r first last
+  PlaysTo (Some end) names ps r first last = Stopped (engine_for means w) w.directories
+      (limits_of w) (started nothing ps names) end r first last
 
   -- A session was played, with the pictures that the source had to give, over the names on the shelf.
   -- Its publisher may remove as many names as the words allow. The roots are those that the words
@@ -114,9 +143,9 @@ module _ {T : Type 0} (means : Meanings T) (w : Work) where
     pub listed : AreListed names before.cell
     pub bound : publisher.most ≡ w.most_removed
     pub held : Option (List ℕ)
-    pub session : IfSome before.coming (λ ps. PlaysTo end has_faults names ps
+    pub session : IfSome before.coming (λ ps. PlaysTo end names ps
         (reel before.lines after.lines before.held held) (spot_in first publisher before false)
-        (spot_in last publisher_last after))
+        (spot_in last publisher_last after has_faults))
     pub closes : Closes end has_faults status held after.held
     pub source_opened : after.source_opened ≡ Some w.source
     pub shelf_opened : after.shelf_opened ≡ Some w.out

@@ -2,14 +2,15 @@ ghost use Rattle.std.specs.Prelude.{◌≡◌, ◌≤◌, ℕ, List, Option};
 ghost use Rattle.compiler.specs.Standing.{Counts, counts};
 ghost use Rattle.outside.specs.Causes.{Counted};
 ghost use Rattle.pan_top.specs.Demos.{Shows, limits_given, shown_by};
-ghost use Rattle.pan_top.specs.Scenes.{Scene};
+ghost use Rattle.site_build.specs.Scenes.{Scene};
 ghost use Rattle.pan_top.specs.declared.status.Status.{Status};
 
 use crate::closing::say;
 use crate::status::Status;
 use base::Steps;
 use command_words::Demonstration;
-use demo::{End, demo};
+use compiler::Works;
+use demo::{End, Plan, demo};
 use outside::Sink;
 use pan_ast::Limits;
 use runner::Runner;
@@ -31,26 +32,23 @@ fn limits_given(demonstration: &Demonstration) -> Limits
 pub fn show<R: Runner, O: Sink, L: Ledger>(
     alloc: Global,
     demonstration: &Demonstration,
-    runner: &mut R,
+    works: &mut Works<R>,
     out: &mut O,
     steps: &mut Steps<L>,
 ) -> Status
     ensures shows { Shows (shown_by R.meaning demonstration.now) result (O.held out.old)
-        (O.held out.new) (counts (R.runs_of runner.old) steps.old)
-        (counts (R.runs_of runner.new) steps.new) }
+        (O.held out.new) (counts (R.runs_of works.old.runner) steps.old)
+        (counts (R.runs_of works.new.runner) steps.new) }
     ensures count { Counted (result ≡ Status.OutFault) (O.fault_count out.old)
         (O.fault_count out.new) }
 {
     let limits = limits_given(demonstration);
-    match demo(
-        alloc,
-        demonstration.count,
-        demonstration.start,
+    let plan = Plan {
+        count: demonstration.count,
+        start: demonstration.start,
         limits,
-        runner,
-        out,
-        steps,
-    ) {
+    };
+    match demo(alloc, plan, works, out, steps) {
         Ok(Ended::NumbersSpent) => say(out, b"numbers spent\n", Status::NumbersSpent),
         Ok(Ended::TooMuch) => say(out, b"too much\n", Status::TooMuch),
         Ok(Ended::Clean) => Status::Clean,

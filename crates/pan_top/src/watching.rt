@@ -1,5 +1,4 @@
 ghost use Rattle.std.specs.Prelude.{◌≡◌, ◌≤◌, ◌⊎◌, ℕ, List, Option, Some, IfOk, IfErr, OnOk};
-ghost use Rattle.compiler.specs.Standing.{counts};
 ghost use Rattle.outside.specs.Causes.{Caused, Counted};
 ghost use Rattle.outside.specs.Cells.{AreSame};
 ghost use Rattle.publication.specs.Published.{Knows};
@@ -7,24 +6,25 @@ ghost use Rattle.site_build.specs.Ends.{IsFailureOf};
 ghost use Rattle.site_build.specs.Session.{IsPerhapsOpened};
 ghost use Rattle.site_build.specs.declared.ends.Device.{Device};
 ghost use Rattle.watch.specs.declared.ends.End.TheVariants as ends;
-ghost use Rattle.pan_top.specs.Scenes.{scene};
+ghost use Rattle.site_build.specs.Scenes.{scene};
 ghost use Rattle.pan_top.specs.Statuses.{Says};
-ghost use Rattle.pan_top.specs.Watches.{HasListed, IsOpening, SourceAt, WatchCall, line_at, status_at};
+ghost use Rattle.pan_top.specs.Watches.{HasListed, IsOpening, PlaysAll, SourceAt, WatchCall, line_at, status_at};
 ghost use Rattle.pan_top.specs.declared.status.Status.{Status};
 
 use crate::closing::{close_build, say};
+use crate::handed_back::HandedBack;
 use crate::status::Status;
 use base::Steps;
 use command_words::Work;
-use compiler::start;
+use compiler::{Works, start};
 use outside::{Lines, Shelf, Sink, Source};
 use publication::Publisher;
 use runner::Runner;
 use session::ended_by;
-use site_build::{End, limits, list_shelf, open_shelf, open_source};
+use site_build::{Devices, End, limits, list_shelf, open_shelf, open_source};
 use std::alloc::Global;
 use std::sync::ledger::Ledger;
-use watch::{End as Stop, play};
+use watch::{End as Stop, Site, play};
 
 /// Opens SOURCE and OUT, and knows the names on the shelf.
 fn open<S: Source, H: Shelf>(
@@ -76,48 +76,133 @@ fn close<O: Sink>(end: Stop, out: &mut O) -> Status
     }
 }
 
+/// Works on lines over a site, as `watch::play` says, and gives the status; behind what was written stands the line of an
+/// end that came early.
+fn play_site<R: Runner, S: Source, H: Shelf, N: Lines, O: Sink, L: Ledger>(
+    alloc: Global,
+    site: &mut Site<R, S, H>,
+    lines: &mut N,
+    out: &mut O,
+    steps: &mut Steps<L>,
+) -> Status
+    requires { Knows site.old.publisher (H.cell site.old.shelf) }
+    ensures { PlaysAll R.meaning site.old.works.engine.core site.old.publisher result
+        (scene R.Runner S.Source H.Shelf N.Lines O.Sink site.old.works.runner (record {
+          source = site.old.source;
+          shelf = site.old.shelf;
+          lines = lines.old;
+          out = out.old;
+        })
+        steps.old)
+        (scene R.Runner S.Source H.Shelf N.Lines O.Sink site.new.works.runner (record {
+          source = site.new.source;
+          shelf = site.new.shelf;
+          lines = lines.new;
+          out = out.new;
+        })
+        steps.new) }
+{
+    match play(alloc, site, lines, out, steps) {
+        Ok(()) => Status::after(ended_by(site.has_faults)),
+        Err(end) => close(end, out),
+    }
+}
+
+/// Works on lines over devices that are open.
+fn play_all<R: Runner, S: Source, H: Shelf, N: Lines, O: Sink, L: Ledger>(
+    alloc: Global,
+    works: Works<R>,
+    publisher: Publisher,
+    devices: Devices<S, H, N, O>,
+    steps: &mut Steps<L>,
+) -> HandedBack<R, S, H, N, O>
+    requires { Knows publisher (H.cell devices.shelf) }
+    ensures { PlaysAll R.meaning works.engine.core publisher result.status
+        (scene R.Runner S.Source H.Shelf N.Lines O.Sink works.runner devices steps.old)
+        (scene R.Runner S.Source H.Shelf N.Lines O.Sink result.runner result.devices steps.new) }
+{
+    let Devices {
+        source,
+        shelf,
+        lines,
+        out,
+    } = devices;
+    let mut lines = lines;
+    let mut out = out;
+    let mut site = Site {
+        works,
+        source,
+        shelf,
+        publisher,
+        has_faults: false,
+    };
+    let status = play_site(alloc, &mut site, &mut lines, &mut out, steps);
+    let Site {
+        works,
+        source,
+        shelf,
+        publisher: _publisher,
+        has_faults: _has_faults,
+    } = site;
+    let Works {
+        engine: _engine,
+        runner,
+    } = works;
+    let devices = Devices {
+        source,
+        shelf,
+        lines,
+        out,
+    };
+    HandedBack {
+        status,
+        runner,
+        devices,
+    }
+}
+
 /// Works on lines, one after the other, until they end or one is `quit`, as `watch::play` says. The status tells whether
 /// the last report had an object with a fault, or why the session ended before its lines did; behind what was written
 /// stands the line of such an end.
 pub fn watch<R: Runner, S: Source, H: Shelf, N: Lines, O: Sink, L: Ledger>(
     alloc: Global,
     work: &Work,
-    runner: &mut R,
-    source: &mut S,
-    shelf: &mut H,
-    lines: &mut N,
-    out: &mut O,
+    works: Works<R>,
+    devices: Devices<S, H, N, O>,
     steps: &mut Steps<L>,
-) -> Status
-    ensures { let before = scene (S.coming source.old) (S.opened source.old)
-        (S.fault_count source.old) (H.cell shelf.old) (H.changes shelf.old) (H.opened shelf.old)
-        (H.fault_count shelf.old) (N.left lines.old) (N.fault_count lines.old)
-        (O.held out.old) (O.fault_count out.old) (counts (R.runs_of runner.old) steps.old) in
-        let after = scene (S.coming source.new) (S.opened source.new)
-        (S.fault_count source.new) (H.cell shelf.new) (H.changes shelf.new) (H.opened shelf.new)
-        (H.fault_count shelf.new) (N.left lines.new) (N.fault_count lines.new)
-        (O.held out.new) (O.fault_count out.new) (counts (R.runs_of runner.new) steps.new) in
-        WatchCall R.meaning work.now result before after }
+) -> HandedBack<R, S, H, N, O>
+    ensures { WatchCall R.meaning work.now result.status
+        (scene R.Runner S.Source H.Shelf N.Lines O.Sink works.runner devices steps.old)
+        (scene R.Runner S.Source H.Shelf N.Lines O.Sink result.runner result.devices steps.new) }
 {
-    let mut publisher = match open(alloc, work, source, shelf) {
+    let mut works = works;
+    let mut devices = devices;
+    let publisher = match open(alloc, work, &mut devices.source, &mut devices.shelf) {
         Ok(publisher) => publisher,
-        Err(end) => return close_build(alloc, &end, out),
+        Err(end) => {
+            let status = close_build(alloc, &end, &mut devices.out);
+            let Works {
+                engine: _engine,
+                runner,
+            } = works;
+            return HandedBack {
+                status,
+                runner,
+                devices,
+            };
+        }
     };
-    let Ok(mut engine) = start(alloc, runner, limits(work), work.directories.as_slice()) else {
-        return Status::Memory;
+    let Ok(()) = start(alloc, &mut works, limits(work), work.directories.as_slice()) else {
+        let status = Status::Memory;
+        let Works {
+            engine: _engine,
+            runner,
+        } = works;
+        return HandedBack {
+            status,
+            runner,
+            devices,
+        };
     };
-    match play(
-        alloc,
-        &mut engine,
-        runner,
-        source,
-        shelf,
-        &mut publisher,
-        lines,
-        out,
-        steps,
-    ) {
-        Ok(has_faults) => Status::after(ended_by(has_faults)),
-        Err(end) => close(end, out),
-    }
+    play_all(alloc, works, publisher, devices, steps)
 }

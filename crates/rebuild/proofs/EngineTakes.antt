@@ -19,7 +19,7 @@ use Rattle.engine_turns.specs.declared.core_data.Core.{Core}
 use Rattle.engine_turns.specs.declared.rows.FileRow.{FileRow}
 use Rattle.rebuild.specs.declared.taking.TakeError.{TakeError}
 use Rattle.engine_turns.specs.Places.{names}
-use Rattle.engine_turns.specs.States.{picture_of, pictured, number_in}
+use Rattle.engine_turns.specs.States.{picture_of, pictured, file_number}
 use Rattle.rebuild.specs.Taking.{old_or_none, counter_or, numbered, counter_after}
 use Rattle.rebuild.specs.Renewing.{IsTaken, IsPictureTaken}
 use Rattle.engine_turns.specs.Ready.{core_picture, IsReady}
@@ -43,7 +43,7 @@ module _ {T : Type 0} (m : Meanings T) (lawful : (dirs : List (List ℕ)) (limit
       let jd = judge_of (m c.dirs c.limits).check in
       let h = reached_holds run keeping jd (situation_of c) e in
       let given = are_numbered {T = T} c.files.items (names c.rows.items) objects c.counter files ready.three (λ f. h.inv.facts.number_low (File f)) in
-      let numbers = subst (λ f. AreNumbered (keeping {T = T}) (core_picture c) (picture_in f objects) (number_in c.files.items) (number_in (numbered c.files.items c.counter files)) c.counter (counter_after c.files.items c.counter files)) (pictured_numbered c.files.items c.counter files) given in
+      let numbers = subst (λ f. AreNumbered (keeping {T = T}) (core_picture c) (picture_in f objects) (file_number c.files.items) (file_number (numbered c.files.items c.counter files)) c.counter (counter_after c.files.items c.counter files)) (pictured_numbered c.files.items c.counter files) given in
       let laws = laws_of (m c.dirs c.limits) (lawful c.dirs c.limits) files objects in
       let next = leads_on run keeping jd (situation_of c) e (take_of c.files.items c.counter files objects) (laws, keep_laws_of (m c.dirs c.limits).build files objects, numbers) in
       let P : Limits → List (List ℕ) → EngineSituation T → Type 0 = λ l d x. IsReached (runner_of (m d l).build) keeping (judge_of (m d l).check) x in

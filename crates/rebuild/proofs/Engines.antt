@@ -8,6 +8,8 @@ use Rattle.pan_ast.specs.declared.work.Limits.{Limits}
 use Rattle.engine_laws.specs.Engine.{Turn}
 use Rattle.engine_laws.specs.Reached.{IsReached}
 use Rattle.engine_laws.proofs.Reached.{leads_on, reached_scratch}
+use Rattle.engine_laws.proofs.Onward.{kept_numbers}
+use Rattle.engine_laws.proofs.Narrowing.{narrowed, left_alone}
 use Rattle.engine_machine.specs.Machine.{runner_of, keeping, judge_of}
 use Rattle.engine_machine.proofs.Truths.{both}
 use Rattle.engine_turns.specs.declared.core_data.Core.{Core}
@@ -17,7 +19,7 @@ use Rattle.engine_turns.specs.States.{picture_of, are_graded}
 use Rattle.object_names.specs.Objects.{are_rising}
 use Rattle.engine_turns.specs.Ready.{core_state, is_chain, none_before, is_open, is_unchecked, IsReady, StaysReady}
 use Rattle.engine_turns.specs.Turning.{turned}
-use Rattle.rebuild.specs.Engines.{EngineSituation, Meanings, situation_of, value_of, is_ready, IsEngine, turn_work_of, after_turn, IsTrue}
+use Rattle.rebuild.specs.Engines.{EngineSituation, Meanings, situation_of, value_of, is_ready, IsEngine, turn_work_of, after_turn, IsTrue, AreKept, AreSpared}
 use Rattle.engine_turns.specs.Spent.{core_work, IsTurnRefused}
 use Rattle.engine_turns.proofs.Readies.{both_true}
 use Rattle.engine_turns.proofs.ByName.{names_length}
@@ -96,3 +98,12 @@ module _ {T : Type 0} (m : Meanings T) where
 
   pub true_of : (e : _) → ∥ IsEngine m e ∥₁ → ∥ IsTrue m e ∥₁
   true_of e kept = ∥∥₁_map kept (λ r. reached_scratch (runner_of (m e.dirs e.limits).build) keeping (judge_of (m e.dirs e.limits).check) e.situation r)
+
+  pub kept_of : (e : _) → ∥ IsEngine m e ∥₁ → ∥ AreKept m e ∥₁
+  kept_of e kept = ∥∥₁_map kept (λ r. kept_numbers (runner_of (m e.dirs e.limits).build) keeping (judge_of (m e.dirs e.limits).check) e.situation r)
+
+  pub spared_of : (e : _) → ∥ IsEngine m e ∥₁ → ∥ AreSpared m e ∥₁
+  spared_of e kept = ∥∥₁_map kept (λ r o i off. record {
+    narrowed = narrowed (runner_of (m e.dirs e.limits).build) keeping (judge_of (m e.dirs e.limits).check) e.situation r o i off;
+    left = left_alone (runner_of (m e.dirs e.limits).build) keeping (judge_of (m e.dirs e.limits).check) e.situation r o i off;
+  })

@@ -2,6 +2,8 @@
 use Rattle.std.proofs.Common.{◌≡◌, ℕ, zero, suc, ◌≤◌, not, List, [], ◌∷◌, Bool, true, false, ◌&&◌, cond, Option, Some, None, option_map, map, length, refl, sym, ap, ◌∙◌, subst}
 use Rattle.std.proofs.Math.Logic.{∥∥₁_map}
 use Rattle.pan_ast.specs.declared.work.Limits.{Limits}
+use Rattle.questions.specs.declared.key.Key.{Key}
+use Rattle.questions.specs.declared.key.Key.TheVariants.{File, Under}
 use Rattle.runner.specs.Meaning.{IsLawful}
 use Rattle.engine_laws.specs.Names.{Name, equal}
 use Rattle.engine_laws.specs.Engine.{NotRun, Forget}
@@ -12,7 +14,7 @@ use Rattle.engine_turns.specs.declared.core_data.Core.{Core}
 use Rattle.engine_turns.specs.declared.rows.Row.{Row}
 use Rattle.engine_turns.specs.Changes.{forgotten_row}
 use Rattle.engine_turns.specs.Places.{row_in, of_row, column, names, file_names}
-use Rattle.engine_turns.specs.States.{number_in, picture_of, last_of, reads_of, checked_of, why_of, held_of, chain_of, checking_of, is_graded, are_graded}
+use Rattle.engine_turns.specs.States.{file_number, own_of, table_in, picture_of, last_of, reads_of, checked_of, why_of, held_of, chain_of, checking_of, is_graded, are_graded}
 use Rattle.object_names.specs.Objects.{are_rising}
 use Rattle.engine_turns.specs.Ready.{is_chain, are_known, none_before, is_open, is_unchecked, IsReady}
 use Rattle.rebuild.specs.Engines.{EngineSituation, Meanings, situation_of, value_of, turns_left_of, is_ready, IsEngine, after_forget}
@@ -34,6 +36,14 @@ column_left {T} get d same rows i p = (ap (of_row get d) (row_forgotten p rows) 
     at : (x : Option (Row T)) → of_row get d (option_map forgotten_row x) ≡ of_row get d x
     at None = refl
     at (Some r) = same r
+
+-- so does it the tables
+table_left : {T : Type 0} → (rows : List (Row T)) → table_in (map forgotten_row rows) ≡ table_in rows
+table_left {T} rows i k = at k i
+  where
+    at : (k : Key) → table_in (map forgotten_row rows) k ≡ table_in rows k
+    at (File f) = refl
+    at (Under p terms) = ap (λ f. f p) (column_left (own_of terms) None (λ r. refl) rows)
 
 none_run : {T : Type 0} → (rows : List (Row T)) → column (λ r. r.run) false (map forgotten_row rows) ≡ (λ p. false)
 none_run {T} rows i p = (ap (of_row (λ r. r.run) false) (row_forgotten p rows) ∙ at (row_in p rows)) i
@@ -79,8 +89,9 @@ module _ {T : Type 0} (m : Meanings T) (lawful : (dirs : List (List ℕ)) (limit
     picture = (ap (λ v. picture_of v.items (names n.rows.items)) f.files ∙ ap (picture_of c.files.items) same_names) i;
     state = record {
       counter = f.counter i;
-      number = ap (λ v. number_in v.items) f.files i;
+      number = ap (λ v. file_number v.items) f.files i;
       last = (ap (column last_of None) f.rows ∙ column_left last_of None (λ r. refl) c.rows.items) i;
+      table = (ap table_in f.rows ∙ table_left c.rows.items) i;
       reads = (ap (column reads_of None) f.rows ∙ column_left reads_of None (λ r. refl) c.rows.items) i;
       checked = (ap (column checked_of None) f.rows ∙ column_left checked_of None (λ r. refl) c.rows.items) i;
       open_build = (ap (column (λ r. r.open_build) true) f.rows ∙ column_left (λ r. r.open_build) true (λ r. refl) c.rows.items) i;
@@ -90,6 +101,7 @@ module _ {T : Type 0} (m : Meanings T) (lawful : (dirs : List (List ℕ)) (limit
       checking = ap checking_of f.chain i;
       runs = (ap (column (λ r. r.run) false) f.rows ∙ none_run c.rows.items) i;
       why = (ap (column why_of NotRun) f.rows ∙ column_left why_of NotRun (λ r. refl) c.rows.items) i;
+      touched = (ap (column (λ r. r.touched) true) f.rows ∙ column_left (λ r. r.touched) true (λ r. refl) c.rows.items) i;
     };
   }
 

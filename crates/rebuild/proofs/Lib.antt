@@ -1,7 +1,16 @@
 pub mod Engines
 pub mod Takings
+pub mod Appends
+pub mod Moves
+pub mod Flags
+pub mod Noting
+pub mod Touching
+pub mod Kept
 pub mod Taken
 pub mod Renewals
+pub mod Indexing
+pub mod Commits
+pub mod Calms
 pub mod EngineTakes
 pub mod New
 pub mod Objects

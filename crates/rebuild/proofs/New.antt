@@ -12,7 +12,7 @@ use Rattle.engine_machine.proofs.RunnerLaws.{keep_laws_of}
 use Rattle.engine_turns.specs.declared.rows.FileRow.{FileRow}
 use Rattle.engine_turns.specs.declared.rows.Row.{Row}
 use Rattle.engine_turns.specs.Places.{names, file_names}
-use Rattle.engine_turns.specs.States.{number_in, picture_of, state_of, are_graded}
+use Rattle.engine_turns.specs.States.{file_number, picture_of, state_of, are_graded}
 use Rattle.object_names.specs.Objects.{are_rising}
 use Rattle.engine_turns.specs.Ready.{is_chain, are_known}
 use Rattle.rebuild.specs.Engines.{EngineSituation, new_situation}
@@ -33,7 +33,7 @@ is_new build check laws = record {
   no_why = λ o. refl;
 }
   where
-    nothing : (k : Key) → (number_in [] k ≡ 0) × (small k 0 ≡ told_in [] k)
+    nothing : (k : Key) → (file_number [] k ≡ 0) × (small k 0 ≡ told_in [] k)
     nothing (File f) = (refl, refl)
     nothing (Under p terms) = (refl, refl)
 

@@ -18,7 +18,7 @@ use Rattle.engine_laws.specs.Engine.{AreNumbered}
 use Rattle.engine_turns.specs.declared.rows.FileRow.{FileRow}
 use Rattle.engine_machine.specs.Machine.{keeping, small_file, small}
 use Rattle.engine_turns.specs.Places.{file_number_in, file_in}
-use Rattle.engine_turns.specs.States.{pictured, picture_of, number_in}
+use Rattle.engine_turns.specs.States.{pictured, picture_of, file_number}
 use Rattle.rebuild.specs.Taking.{same_content, number_before, number_or, counter_or, old_or_none, numbered, counter_after}
 
 counter_step : (counter : ℕ) (x : Option ℕ) → counter ≤ counter_or counter x
@@ -101,7 +101,7 @@ module _ (old : List FileRow) (start : ℕ) where
       at false is later = later
 
 -- the numbers of a Take
-pub are_numbered : {T : Type 0} → (old : List FileRow) (objects objects' : List Name) (counter : ℕ) (fs : List PictureFile) → 3 ≤ counter → ((f : List ℕ) → file_number_in old f < counter) → AreNumbered (keeping {T = T}) (picture_of old objects) (picture_of (numbered old counter fs) objects') (number_in old) (number_in (numbered old counter fs)) counter (counter_after old counter fs)
+pub are_numbered : {T : Type 0} → (old : List FileRow) (objects objects' : List Name) (counter : ℕ) (fs : List PictureFile) → 3 ≤ counter → ((f : List ℕ) → file_number_in old f < counter) → AreNumbered (keeping {T = T}) (picture_of old objects) (picture_of (numbered old counter fs) objects') (file_number old) (file_number (numbered old counter fs)) counter (counter_after old counter fs)
 are_numbered old objects objects' counter fs three low = record { up = counter_up old counter fs; low = low_at; each = each_at }
   where
     up : counter ≤ counter_after old counter fs
@@ -112,7 +112,7 @@ are_numbered old objects objects' counter fs three low = record { up = counter_u
     below f (inr (inl kept)) = let a = low f in let e = kept.0 in let u = up in omega (arith, a, e, u)
     below f (inr (inr small)) = let a = small.0 in let u = up in omega (arith, a, u, three)
 
-    low_at : (k : Key) → number_in (numbered old counter fs) k < counter_after old counter fs
+    low_at : (k : Key) → file_number (numbered old counter fs) k < counter_after old counter fs
     low_at (File f) = below f (numbers old counter counter (omega arith) three fs f)
     low_at (Under p terms) = let u = up in omega (arith, u, three)
 
@@ -121,6 +121,6 @@ are_numbered old objects objects' counter fs three low = record { up = counter_u
     each_file f (inr (inl kept)) = inr (inl (refl, kept.0, ap file_content kept.1))
     each_file f (inr (inr small)) = inr (inr small)
 
-    each_at : (k : Key) → (picture_of (numbered old counter fs) objects').target k ≡ None → (counter ≤ number_in (numbered old counter fs) k) ⊎ (((picture_of old objects).target k ≡ None) × (number_in (numbered old counter fs) k ≡ number_in old k) × ((picture_of (numbered old counter fs) objects').told k ≡ (picture_of old objects).told k)) ⊎ ((number_in (numbered old counter fs) k < 3) × (small k (number_in (numbered old counter fs) k) ≡ (picture_of (numbered old counter fs) objects').told k))
+    each_at : (k : Key) → (picture_of (numbered old counter fs) objects').target k ≡ None → (counter ≤ file_number (numbered old counter fs) k) ⊎ (((picture_of old objects).target k ≡ None) × (file_number (numbered old counter fs) k ≡ file_number old k) × ((picture_of (numbered old counter fs) objects').told k ≡ (picture_of old objects).told k)) ⊎ ((file_number (numbered old counter fs) k < 3) × (small k (file_number (numbered old counter fs) k) ≡ (picture_of (numbered old counter fs) objects').told k))
     each_at (File f) e = each_file f (numbers old counter counter (omega arith) three fs f)
     each_at (Under p terms) e = inr (inr (omega arith, refl))

@@ -1,5 +1,5 @@
 -- An engine as contracts see it, and what its calls make of it.
-use Rattle.std.specs.Prelude.{ℕ, List, [], Bool, ◌&&◌, nat_le}
+use Rattle.std.specs.Prelude.{◌≡◌, false, ℕ, List, [], Bool, ◌&&◌, nat_le}
 use Rattle.load_path.specs.declared.picture.PictureFile.{PictureFile}
 use Rattle.pan_ast.specs.declared.work.Limits.{Limits}
 use Rattle.questions.specs.declared.key.Key.{Key}
@@ -9,13 +9,16 @@ use Rattle.runner.specs.Meaning.{Meaning}
 use Rattle.engine_laws.specs.Names.{Name}
 use Rattle.engine_laws.specs.Engine.{Situation, Event, Take, Turn, Forget, happens, on_chain, turns_left, IsFromScratch}
 use Rattle.engine_laws.specs.Reached.{IsReached}
+use Rattle.engine_laws.specs.Runner.{IsIn}
+use Rattle.engine_laws.specs.Numbers.{KeepsNumbers}
+use Rattle.engine_laws.specs.Narrowed.{IsNarrowed, IsLeftAlone}
 use Rattle.engine_laws.specs.Steps.{Work, turn_work}
 use Rattle.engine_machine.specs.Machine.{Kept, runner_of, keeping, judge_of, costs_of}
 use Rattle.engine_machine.specs.Pictures.{picture_in}
 use Rattle.engine_turns.specs.declared.core_data.Core.{Core}
 use Rattle.engine_turns.specs.declared.rows.FileRow.{FileRow}
 use Rattle.engine_turns.specs.Places.{names, file_names}
-use Rattle.engine_turns.specs.States.{are_graded, number_in, state_of}
+use Rattle.engine_turns.specs.States.{are_graded, file_number, state_of}
 use Rattle.rebuild.specs.Taking.{numbered, counter_after}
 use Rattle.object_names.specs.Objects.{are_rising}
 use Rattle.engine_turns.specs.Ready.{core_state, core_picture, is_chain, are_known, none_before, is_open, is_unchecked}
@@ -81,10 +84,29 @@ abbrev pub IsTrue : {T : Type 0} → Meanings T → EngineValue T → Type 0
 IsTrue m e = IsFromScratch (runner_of (m e.dirs e.limits).build) keeping
     (judge_of (m e.dirs e.limits).check) e.situation
 
+-- What its next event does to the number of a key that asks for an object: a turn leaves it while the
+-- same is seen there, and a number that it has lost does not come back; a take leaves it where a
+-- kept record reads the key.
+abbrev pub AreKept : {T : Type 0} → Meanings T → EngineValue T → Type 0
+AreKept m e = KeepsNumbers (runner_of (m e.dirs e.limits).build) keeping
+    (judge_of (m e.dirs e.limits).check) e.situation
+
+-- an object that is not touched has a record in which no item differs, and its next turn does not run
+-- it, and leaves its result and its record
+pub record IsSpared {T : Type 0} (m : Meanings T) (e : EngineValue T) (o : Name) : Type 0 where
+  pub narrowed : IsNarrowed (runner_of (m e.dirs e.limits).build) keeping
+      (judge_of (m e.dirs e.limits).check) e.situation o
+  pub left : IsLeftAlone (runner_of (m e.dirs e.limits).build) keeping
+      (judge_of (m e.dirs e.limits).check) e.situation o
+
+abbrev pub AreSpared : {T : Type 0} → Meanings T → EngineValue T → Type 0
+AreSpared m e = (o : Name) → IsIn o e.situation.picture.objects
+    → e.situation.state.touched o ≡ false → IsSpared m e o
+
 -- a take of these files and objects, after files that had numbers
 abbrev pub take_of : List FileRow → ℕ → List PictureFile → List Name → Event Key Content
 take_of old counter files objects = Take (picture_in files objects)
-    (number_in (numbered old counter files)) (counter_after old counter files)
+    (file_number (numbered old counter files)) (counter_after old counter files)
 
 -- what a take of these files and objects makes of an engine
 abbrev pub after_take : {T : Type 0} → Meanings T → EngineValue T → List PictureFile → List Name

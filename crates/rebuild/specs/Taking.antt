@@ -1,13 +1,14 @@
 -- The numbers of files at a Take.
-use Rattle.std.specs.Prelude.{ℕ, ◌+◌, List, [], ◌∷◌, Bool, true, false, cond, Option, Some, None, map, bytes_eq}
+use Rattle.std.specs.Prelude.{ℕ, ◌+◌, List, [], ◌∷◌, Bool, true, false, cond, Option, Some, None, bytes_eq}
 use Rattle.load_path.specs.declared.picture.Content.{Content}
 use Rattle.load_path.specs.declared.picture.Content.TheVariants.{Bytes, TooLong}
 use Rattle.load_path.specs.declared.picture.PictureFile.{PictureFile}
+use Rattle.path_numbers.specs.Numbers.{no_paths}
 use Rattle.engine_laws.specs.Names.{Name}
 use Rattle.engine_turns.specs.declared.rows.Cause.TheVariants as cause
 use Rattle.engine_turns.specs.declared.rows.FileRow.{FileRow}
 use Rattle.engine_turns.specs.declared.rows.Row.{Row}
-use Rattle.engine_turns.specs.Places.{row_in, file_in}
+use Rattle.engine_turns.specs.Places.{file_in}
 
 abbrev pub same_content : Content → Content → Bool
 same_content (Bytes a) (Bytes b) = bytes_eq a b
@@ -53,6 +54,7 @@ abbrev pub new_row : {T : Type 0} → Name → Row T
 new_row p = record {
   name = p;
   last = None;
+  paths = no_paths;
   build = None;
   check = None;
   open_build = true;
@@ -60,12 +62,5 @@ new_row p = record {
   held = None;
   run = false;
   cause = cause.NotRun;
+  touched = true;
 }
-
--- the row of an object after a Take
-abbrev pub taken_row : {T : Type 0} → Name → Option (Row T) → Row T
-taken_row p None = new_row p
-taken_row p (Some r) = record r { open_build = true; open_check = true; held = None }
-
-abbrev pub taken_rows : {T : Type 0} → List (Row T) → List Name → List (Row T)
-taken_rows rows objects = map (λ p. taken_row p (row_in p rows)) objects

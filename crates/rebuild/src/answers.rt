@@ -6,8 +6,10 @@ ghost use Rattle.base.specs.declared.limits.TheConstants.{MAX_OBJECTS};
 ghost use Rattle.object_names.specs.Objects.{are_rising};
 ghost use Rattle.engine_turns.specs.Changes.{forgotten_row};
 ghost use Rattle.engine_turns.specs.Places.{row_in, names};
+ghost use Rattle.engine_turns.specs.Ready.{IsReady};
+ghost use Rattle.rebuild.specs.Engines.{turns_left_of};
 
-use engine_turns::{Cause, Row, row_in};
+use engine_turns::{Cause, Core, Row, row_in};
 use pan_ast::Fault;
 use path_tree::{Name, Tree};
 use read_sets::{Key, Trace};
@@ -153,6 +155,16 @@ pub(crate) fn open_parts<T>(rows: &[Row<T>]) -> u64
         }
     }
     open
+}
+
+/// How many turns are left until all is settled: twice the unsettled parts, less those on the chain.
+pub(crate) fn turns_left<T>(core: &Core<T>) -> u64
+    requires ready { IsReady core.now }
+    requires few { length core.now.rows.items ≤ MAX_OBJECTS }
+    ensures { result ≡ turns_left_of core.now }
+{
+    let open = open_parts(&core.rows);
+    (2 * open).saturating_sub(core.chain.len() as u64)
 }
 
 /// No name was run.

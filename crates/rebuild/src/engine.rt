@@ -3,10 +3,12 @@
 ghost use Rattle.std.specs.Prelude.{◌≡◌, ◌↔◌, [], ◌≤◌, ◌+◌, ◌-◌, true, IfOk, IfErr, OnOk, OnErr, length};
 ghost use Rattle.asking.specs.declared.limits.TheConstants.{END_OF_NUMBERS};
 ghost use Rattle.base.specs.declared.limits.TheConstants.{MAX_OBJECTS};
-ghost use Rattle.rebuild.specs.Engines.{is_ready, IsEngine, value_of};
+ghost use Rattle.read_index.specs.Readers.{asks};
+ghost use Rattle.rebuild.specs.Engines.{is_ready, IsEngine, situation_of, value_of};
+ghost use Rattle.rebuild.specs.Reaching.{AreIndexed};
 
 use crate::answers::{
-    Answer, Reads, Why, answer_in, forget_rows, names_in, open_parts, reads_in, runs_in, why_in,
+    Answer, Reads, Why, answer_in, forget_rows, names_in, reads_in, runs_in, turns_left, why_in,
 };
 use crate::renewing::take_picture;
 use crate::taking::TakeError;
@@ -16,6 +18,7 @@ use foreign_values::Chain;
 use load_path::Picture;
 use pan_ast::Limits;
 use path_tree::Name;
+use read_index::Index;
 use runner::Runner;
 use std::alloc::{AllocError, Global};
 use std::sync::ledger::Ledger;
@@ -24,10 +27,13 @@ use std::sync::ledger::Ledger;
 #[derive(Drop)]
 pub struct Engine<R: Runner> {
     core: Core<R::Rest>,
+    /// Who asks for what, of the objects that are not touched.
+    index: Index,
     ghost ready: { is_ready core ≡ true },
     ghost low: { core.counter ≤ END_OF_NUMBERS },
     ghost few: { length core.rows.items ≤ MAX_OBJECTS },
     ghost reached: { ∥ IsEngine R.meaning (value_of core) ∥₁ },
+    ghost indexed: { AreIndexed (asks index) (situation_of core) },
 }
 
 /// The same texts, shared.
@@ -44,7 +50,7 @@ fn shared(alloc: Global, texts: &[Text]) -> Result<Seq<Text>, AllocError>
 impl<R: Runner> Engine<R> {
     ghost use Rattle.object_names.specs.Objects.{AreObjects};
     ghost use Rattle.rebuild.specs.Answers.{seen_answer, answer_of, seen_why, why_at, seen_reads, reads_at, runs_at};
-    ghost use Rattle.rebuild.specs.Engines.{situation_of, new_situation, after_take, after_turn, after_forget, turn_work_of, IsTrue, objects_of, parts_of, turns_left_of};
+    ghost use Rattle.rebuild.specs.Engines.{situation_of, new_situation, after_take, after_turn, after_forget, turn_work_of, IsTrue, AreKept, AreSpared, objects_of, parts_of, turns_left_of};
     ghost use Rattle.engine_turns.specs.Opening.{turned_by};
     ghost use Rattle.engine_turns.specs.Spent.{Spends, IsTurnRefused};
     ghost use Rattle.engine_turns.specs.declared.turned.Turned.TheVariants.{Idle};
@@ -70,6 +76,7 @@ impl<R: Runner> Engine<R> {
                 first_build: 0,
                 first_check: 0,
             },
+            index: Index::new(alloc),
         }
     }
 
@@ -104,9 +111,11 @@ impl<R: Runner> Engine<R> {
         ensures refused_steps { OnErr result (steps.new ≤ steps.old + length picture) }
         ensures reached { ∥ IsEngine R.meaning (value_of self.new.core) ∥₁ }
         ensures scratch { ∥ IsTrue R.meaning (value_of self.new.core) ∥₁ }
+        ensures numbers { ∥ AreKept R.meaning (value_of self.old.core) ∥₁ }
+        ensures spared { ∥ AreSpared R.meaning (value_of self.new.core) ∥₁ }
     {
         let dirs = shared(alloc, self.core.dirs.as_slice())?;
-        take_picture(alloc, &mut self.core, &picture, steps)?;
+        take_picture(alloc, &mut self.core, &mut self.index, &picture, steps)?;
         runner.set_picture(picture, dirs);
         Ok(())
     }
@@ -146,6 +155,8 @@ impl<R: Runner> Engine<R> {
         ensures runner_dirs { R.dirs_of runner.new ≡ R.dirs_of runner.old }
         ensures reached { ∥ IsEngine R.meaning (value_of self.new.core) ∥₁ }
         ensures scratch { ∥ IsTrue R.meaning (value_of self.new.core) ∥₁ }
+        ensures numbers { ∥ AreKept R.meaning (value_of self.old.core) ∥₁ }
+        ensures spared { ∥ AreSpared R.meaning (value_of self.old.core) ∥₁ }
     {
         let before = self.core.chain.len();
         step(alloc, &mut self.core, runner, steps)?;
@@ -156,8 +167,7 @@ impl<R: Runner> Engine<R> {
     pub fn turns_left(&self) -> u64
         ensures { result ≡ turns_left_of self.now.core }
     {
-        let open = open_parts(&self.core.rows);
-        (2 * open).saturating_sub(self.core.chain.len() as u64)
+        turns_left(&self.core)
     }
 
     /// Forgets which objects were run, of an engine in which all is settled.

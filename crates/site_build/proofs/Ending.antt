@@ -106,7 +106,7 @@ pub finished_from : (s : Session) (how : Ended) (text_old text_new : Option (Lis
 finished_from s how text_old text_new old mid new same f = record { ended = f.ended; text = f.text; shelf = λ n. meets_from (s.shelf n) (old n) (mid n) (new n) (same n) (f.shelf n) }
 
 -- a scan or a start that failed touched no name
-stopped_none : (e : End) (shelf : List ℕ → Stand) (old : List ℕ → Cell) → IsEndOf OfSource e → Stopped e shelf old old
+pub stopped_none : (e : End) (shelf : List ℕ → Stand) (old : List ℕ → Cell) → IsEndOf OfSource e → Stopped e shelf old old
 stopped_none E.Source shelf old kind = λ n. refl
 stopped_none E.Shelf shelf old kind = cc
 stopped_none (E.Publishing m) shelf old kind = cc
@@ -136,7 +136,7 @@ not_shelf E.Memory kind is = cc
 pub uncaused_shelf : {T : Type 0} (r : Result T End) (n : ℕ) → IfErr r (IsEndOf OfSource) → Caused (IsFailureOf D.Shelf) n n r
 uncaused_shelf r n kind = uncaused D.Shelf r n n refl (IfErr-weaker r (IsEndOf OfSource) (λ e. IsFailureOf D.Shelf e → ⊥) not_shelf kind)
 
-not_out : (e : End) → IsEndOf OfSource e → IsFailureOf D.Out e → ⊥
+pub not_out : (e : End) → IsEndOf OfSource e → IsFailureOf D.Out e → ⊥
 not_out E.Source kind is = cc
 not_out E.Shelf kind is = cc
 not_out (E.Publishing m) kind is = cc

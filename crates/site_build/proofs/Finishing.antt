@@ -1,7 +1,7 @@
 -- What a build publishes, writes and spends, by how far it came.
-use Rattle.std.proofs.Common.{◌≡◌, ℕ, Bool, true, false, List, Option, Some, None, IfSome, Result, Ok, Err, IfOk, IfErr, OnErr, sym, subst}
+use Rattle.std.proofs.Common.{◌≡◌, ℕ, Bool, true, false, List, Option, Some, None, IfSome, Result, Ok, Err, IfOk, sym, subst}
 use Rattle.command_words.specs.declared.commands.Work.{Work}
-use Rattle.compiler.specs.Standing.{Counts, counts, Gives, HasSpentAtMost, SpendsAs}
+use Rattle.compiler.specs.Standing.{Counts, Gives, HasSpentAtMost, SpendsAs}
 use Rattle.compiler.specs.declared.building.Built.{Built}
 use Rattle.compiler.proofs.Counting.{at_most}
 use Rattle.engine_turns.specs.declared.core_data.Core.{Core}
@@ -13,9 +13,9 @@ use Rattle.rebuild.specs.Engines.{Meanings}
 use Rattle.session.specs.Machines.{Machine}
 use Rattle.session.specs.Sessions.{State, ended_by}
 use Rattle.session.specs.declared.Ended.{Ended}
-use Rattle.site_build.specs.Rounds.{Reaches, SpendsBy, build_of, given_by, session_at}
+use Rattle.site_build.specs.Rounds.{Reaches, Spends, SpendsBy, build_of, given_by, session_at}
+use Rattle.site_build.specs.declared.ends.End.{End}
 use Rattle.site_build.specs.Session.{Session, ended_behind, session_for, session_over, state_for}
-use Rattle.site_build.proofs.Settling.{spent_nothing}
 use Rattle.site_build.specs.declared.building.Reached.{Reached}
 use Rattle.site_build.specs.declared.building.Reached.TheVariants as reached
 
@@ -30,14 +30,6 @@ module _ {T : Type 0} (M : Meanings T) (w : Work) (names : List (List ℕ)) (how
   -- what holds of a build that came so far holds of the command's session
   pub comes_to : (Q : Session → Type 0) (coming : Option (List (List MemFile))) → IfSome coming (λ ps. Reaches M w how ps core before mid) → Q (session_at w.most_removed names M how core) → IfSome coming (λ ps. Q (session_for M w names ps))
   comes_to Q coming reaches q = some_map coming (λ ps. Reaches M w how ps core before mid) (λ ps. Q (session_for M w names ps)) (λ ps r. subst Q (sym (r.session names)) q) reaches
-
-  pub comes_ok : {A E : Type 0} (Q : A → Session → Type 0) (coming : Option (List (List MemFile))) (r : Result A E) → IfSome coming (λ ps. Reaches M w how ps core before mid) → IfOk r (λ x. Q x (session_at w.most_removed names M how core)) → IfOk r (λ x. IfSome coming (λ ps. Q x (session_for M w names ps)))
-  comes_ok Q coming (Ok x) reaches q = comes_to (Q x) coming reaches q
-  comes_ok Q coming (Err e) reaches q = tt
-
-  pub comes_err : {A E : Type 0} (Q : E → Session → Type 0) (coming : Option (List (List MemFile))) (r : Result A E) → IfSome coming (λ ps. Reaches M w how ps core before mid) → IfErr r (λ e. Q e (session_at w.most_removed names M how core)) → IfErr r (λ e. IfSome coming (λ ps. Q e (session_for M w names ps)))
-  comes_err Q coming (Ok x) reaches q = tt
-  comes_err Q coming (Err e) reaches q = comes_to (Q e) coming reaches q
 
 spends_most : {E : Type 0} (how : Reached) (s : State E) (before mid : Counts) → SpendsBy how s before mid → HasSpentAtMost s before mid
 spends_most reached.All s before mid spent = at_most s before mid spent
@@ -55,16 +47,6 @@ spends_by most names M reached.NumbersSpent core how' s before mid is spent = su
 spends_by most names M reached.TooMuch core how' s before mid is spent = subst (λ x. SpendsAs x s before mid) is spent
 
 module _ {T : Type 0} (M : Meanings T) (w : Work) (names : List (List ℕ)) (how : Reached) (core : Core T) (before mid : Counts) (coming : Option (List (List MemFile))) (reaches : IfSome coming (λ ps. Reaches M w how ps core before mid)) where
-  pub spent_ok : {A : Type 0} (r : Result Ended A) → IfOk r (λ how'. (session_at w.most_removed names M how core).ended ≡ how') → IfOk r (λ how'. IfSome coming (λ ps. SpendsAs how' (state_for M w ps) before mid))
-  spent_ok (Ok how') is = some_map coming (λ ps. Reaches M w how ps core before mid) (λ ps. SpendsAs how' (state_for M w ps) before mid) (λ ps r. spends_by w.most_removed names M how core how' (state_for M w ps) before mid is r.spent) reaches
-  spent_ok (Err e) is = tt
-
-  pub spent_err : {A B : Type 0} (r : Result A B) → OnErr r (IfSome coming (λ ps. HasSpentAtMost (state_for M w ps) before mid))
-  spent_err (Ok x) = tt
-  spent_err (Err e) = some_map coming (λ ps. Reaches M w how ps core before mid) (λ ps. HasSpentAtMost (state_for M w ps) before mid) (λ ps r. spends_most how (state_for M w ps) before mid r.spent) reaches
-
--- nothing was run
-pub cut_none : {A B E : Type 0} (S : List (List MemFile) → State E) (coming : Option (List (List MemFile))) (r : Result A B) (runs runs' steps : ℕ) → runs' ≡ runs → OnErr r (IfSome coming (λ ps. HasSpentAtMost (S ps) (counts runs steps) (counts runs' steps)))
-cut_none S coming (Ok x) runs runs' steps same = tt
-cut_none S None (Err e) runs runs' steps same = tt
-cut_none S (Some ps) (Err e) runs runs' steps same = subst (λ n. HasSpentAtMost (S ps) (counts runs steps) (counts n steps)) (sym same) (spent_nothing (S ps) (counts runs steps))
+  pub spends_on : (r : Result Ended End) → IfOk r (λ how'. (session_at w.most_removed names M how core).ended ≡ how') → IfSome coming (λ ps. Spends r (state_for M w ps) before mid)
+  spends_on (Ok how') is = some_map coming (λ ps. Reaches M w how ps core before mid) (λ ps. SpendsAs how' (state_for M w ps) before mid) (λ ps r. spends_by w.most_removed names M how core how' (state_for M w ps) before mid is r.spent) reaches
+  spends_on (Err e) is = some_map coming (λ ps. Reaches M w how ps core before mid) (λ ps. HasSpentAtMost (state_for M w ps) before mid) (λ ps r. spends_most how (state_for M w ps) before mid r.spent) reaches

@@ -3,3 +3,5 @@ pub mod Ending
 pub mod Taking
 pub mod Settling
 pub mod Finishing
+pub mod Following
+pub mod Opening

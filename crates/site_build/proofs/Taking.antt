@@ -10,14 +10,14 @@ use Rattle.site_build.specs.Session.{TakesEarly, IsPassed}
 abbrev Coming : Type 0
 Coming = Option (List (List MemFile))
 
-by_source : (e : End) (old new : Coming) → IsEndOf OfSource e → (new ≡ old) ⊎ IsPassed old new → TakesEarly e old new
+pub by_source : (e : End) (old new : Coming) → IsEndOf OfSource e → (new ≡ old) ⊎ IsPassed old new → TakesEarly e old new
 by_source E.Source old new kind either = either
 by_source E.Shelf old new kind either = cc
 by_source (E.Publishing m) old new kind either = cc
 by_source E.Out old new kind either = cc
 by_source E.Memory old new kind either = either
 
-by_shelf : (e : End) (old new : Coming) → IsEndOf OfShelf e → new ≡ old → TakesEarly e old new
+pub by_shelf : (e : End) (old new : Coming) → IsEndOf OfShelf e → new ≡ old → TakesEarly e old new
 by_shelf E.Source old new kind same = cc
 by_shelf E.Shelf old new kind same = same
 by_shelf (E.Publishing m) old new kind same = cc

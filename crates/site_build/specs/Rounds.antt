@@ -1,18 +1,22 @@
 -- A build behind its devices: what a settled engine gives, and how far a build came.
-use Rattle.std.specs.Prelude.{◌≡◌, ℕ, List, Option, nat_lt}
+use Rattle.std.specs.Prelude.{◌≡◌, ℕ, List, Option, Result, Ok, Err, IfOk, IfErr, OnOk, OnErr, nat_lt}
 use Rattle.command_words.specs.declared.commands.Work.{Work}
-use Rattle.compiler.specs.Compiler.{compiler}
-use Rattle.compiler.specs.Standing.{Counts, HasSpent, HasSpentAtMost, compiled_in}
+use Rattle.compiler.specs.Standing.{Counts, HasSpent, HasSpentAtMost, SpendsAs, compiled_in, machine_in}
 use Rattle.compiler.specs.declared.building.Built.{Built}
 use Rattle.engine_turns.specs.declared.core_data.Core.{Core}
 use Rattle.outside.specs.declared.source.MemFile.{MemFile}
+use Rattle.publication.specs.Changing.{MadeOver, BegunOver, Tells}
 use Rattle.publication.specs.Wants.{wants_of}
 use Rattle.rebuild.specs.Engines.{Meanings}
 use Rattle.session.specs.Machines.{Machine}
 use Rattle.session.specs.Sessions.{State, answers_in, profiles_of, ended_by}
 use Rattle.session.specs.Texts.{report, faults_in}
+use Rattle.session.specs.declared.Ended.{Ended}
 use Rattle.session.specs.declared.Ended.TheVariants as ended
-use Rattle.site_build.specs.Session.{Session, line_alone, session_for, session_over, state_for}
+use Rattle.site_build.specs.Ends.{Stopped}
+use Rattle.site_build.specs.Scenes.{Outs}
+use Rattle.site_build.specs.Session.{Session, Finished, WritesEarly, line_alone, session_for, session_over, state_for}
+use Rattle.site_build.specs.declared.ends.End.{End}
 use Rattle.site_build.specs.declared.building.Reached.{Reached}
 use Rattle.site_build.specs.declared.building.Reached.TheVariants as reached
 
@@ -39,7 +43,7 @@ session_by most names reached.TooMuch machine e = line_alone ended.TooMuch
 abbrev pub session_at : {T : Type 0} → Option ℕ → List (List ℕ) → Meanings T → Reached → Core T
     → Session
 session_at most names means reached core = session_by most names reached
-    (compiler (means core.dirs core.limits) core.dirs) (compiled_in core)
+    (machine_in means core) (compiled_in core)
 
 -- exactly the session's runs and steps were made where it came to its end, else at most these
 abbrev pub SpendsBy : {E : Type 0} → Reached → State E → Counts → Counts → Type 0
@@ -53,3 +57,19 @@ pub record Reaches {T : Type 0} (means : Meanings T) (work : Work) (how : Reache
   pub session : (names : List (List ℕ)) → session_for means work names pictures
       ≡ session_at work.most_removed names means how core
   pub spent : SpendsBy how (state_for means work pictures) before now
+
+-- the shelf with these names, and the sink, follow a session, to its end or as far as an end lets them
+pub record Follows (s : Session) (names : List (List ℕ)) (result : Result Ended End)
+    (before after : Outs) : Type 0 where
+  pub ok : IfOk result (λ how. Finished s how before.held after.held before.cell after.cell)
+  pub text : IfErr result (λ e. WritesEarly s.text e before.held after.held)
+  pub shelf : IfErr result (λ e. Stopped e s.shelf before.cell after.cell)
+  pub made : OnOk result (Tells before.cell → MadeOver s.wants names before.cell after.cell
+      before.changes after.changes)
+  pub begun : OnErr result (Tells before.cell → BegunOver s.wants names before.cell after.cell
+      before.changes after.changes)
+
+-- the runs and steps are a session's, or at most these where it was broken off
+abbrev pub Spends : {E : Type 0} → Result Ended End → State E → Counts → Counts → Type 0
+Spends (Ok how) s before now = SpendsAs how s before now
+Spends (Err e) s before now = HasSpentAtMost s before now

@@ -3,10 +3,11 @@
 use Rattle.std.specs.Prelude.{◌≡◌, ℕ, List, [], Option, Some, None, IfSome, option_map, ◌⊎◌}
 use Rattle.command_words.specs.declared.commands.Work.{Work}
 use Rattle.compiler.specs.Compiler.{Compiled, compiler, nothing}
+use Rattle.compiler.specs.Standing.{HasSpentAtMost, SpendsAs}
+use Rattle.outside.specs.Causes.{Counted}
 use Rattle.outside.specs.Cells.{Cell, AreSame}
 use Rattle.outside.specs.Contents.{Appends, AppendsPart}
 use Rattle.outside.specs.Pictures.{later_pictures}
-use Rattle.outside.specs.declared.shelf.Change.{Change}
 use Rattle.outside.specs.declared.source.MemFile.{MemFile}
 use Rattle.pan_ast.specs.declared.work.Limits.{Limits}
 use Rattle.publication.specs.Bounds.{answer_over, granted, shelf_of}
@@ -20,7 +21,9 @@ use Rattle.session.specs.Machines.{Machine}
 use Rattle.session.specs.Sessions.{State, Next, GoesOn, Quits, SpendsNumbers, IsTooMuch, build_round, next, state_in, started, wants_in, end_of, end_line}
 use Rattle.session.specs.declared.Ended.{Ended}
 use Rattle.session.specs.declared.Ended.TheVariants as ended
-use Rattle.site_build.specs.Ends.{Stopped}
+use Rattle.site_build.specs.Ends.{IsFailureOf, Stopped}
+use Rattle.site_build.specs.Scenes.{Scene}
+use Rattle.site_build.specs.declared.ends.Device.TheVariants as D
 use Rattle.site_build.specs.declared.ends.End.{End}
 use Rattle.site_build.specs.declared.ends.End.TheVariants as E
 
@@ -118,26 +121,49 @@ IsPerhapsOpened folder old new = (new ≡ old) ⊎ (new ≡ Some folder)
 
 -- A build came to its end: its session is that of the names on the shelf, in byte order. All changes
 -- of its publication were made, over these names, and no other; without a publication nothing was
--- done.
+-- done. The runs and steps are the session's, the roots are those that the words name, one picture
+-- was taken, no line was read, and no call of a device failed.
 pub record Finishes {T : Type 0} (means : Meanings T) (w : Work) (how : Ended)
-    (coming : Option (List (List MemFile))) (held_old held_new : Option (List ℕ))
-    (old new : List ℕ → Cell) (before now : Option (List Change)) : Type 0 where
+    (before after : Scene) : Type 0 where
   pub names : List (List ℕ)
-  pub listed : AreListed names old
-  pub session : IfSome coming (λ ps. Finished (session_for means w names ps) how held_old held_new
-      old new)
-  pub order : Tells old → IfSome coming (λ ps. MadeOver (session_for means w names ps).wants names
-      old new before now)
+  pub listed : AreListed names before.cell
+  pub session : IfSome before.coming (λ ps. Finished (session_for means w names ps) how before.held
+      after.held before.cell after.cell)
+  pub order : Tells before.cell → IfSome before.coming (λ ps. MadeOver
+      (session_for means w names ps).wants names before.cell after.cell before.changes
+      after.changes)
+  pub spent : IfSome before.coming (λ ps. SpendsAs how (state_for means w ps) before.spent
+      after.spent)
+  pub taken : IsPassed before.coming after.coming
+  pub source_opened : after.source_opened ≡ Some w.source
+  pub shelf_opened : after.shelf_opened ≡ Some w.out
+  pub source_count : after.source_count ≡ before.source_count
+  pub shelf_count : after.shelf_count ≡ before.shelf_count
+  pub out_count : after.out_count ≡ before.out_count
+  pub lines : after.lines ≡ before.lines
+  pub lines_count : after.lines_count ≡ before.lines_count
 
--- It ended early: nothing was done to the shelf, or the names on it were listed, and a part of that
--- at most was done.
-pub record Breaks {T : Type 0} (means : Meanings T) (w : Work) (end : End)
-    (coming : Option (List (List MemFile))) (held_old held_new : Option (List ℕ))
-    (old new : List ℕ → Cell) (before now : Option (List Change)) : Type 0 where
+-- It ended early, by this end: nothing was done to the shelf, or the names on it were listed, and a
+-- part of that at most was done. The device whose call failed counts it, and no other does.
+pub record Breaks {T : Type 0} (means : Meanings T) (w : Work) (end : End) (before after : Scene)
+    : Type 0 where
   pub names : List (List ℕ)
-  pub listed : ((now ≡ before) × AreSame old new) ⊎ AreListed names old
-  pub text : IfSome coming (λ ps. WritesEarly (session_for means w names ps).text end held_old
-      held_new)
-  pub shelf : IfSome coming (λ ps. Stopped end (session_for means w names ps).shelf old new)
-  pub order : Tells old → IfSome coming (λ ps. BegunOver (session_for means w names ps).wants names
-      old new before now)
+  pub listed : ((after.changes ≡ before.changes) × AreSame before.cell after.cell)
+      ⊎ AreListed names before.cell
+  pub text : IfSome before.coming (λ ps. WritesEarly (session_for means w names ps).text end
+      before.held after.held)
+  pub shelf : IfSome before.coming (λ ps. Stopped end (session_for means w names ps).shelf
+      before.cell after.cell)
+  pub order : Tells before.cell → IfSome before.coming (λ ps. BegunOver
+      (session_for means w names ps).wants names before.cell after.cell before.changes
+      after.changes)
+  pub spent : IfSome before.coming (λ ps. HasSpentAtMost (state_for means w ps) before.spent
+      after.spent)
+  pub taken : TakesEarly end before.coming after.coming
+  pub source_opened : IsPerhapsOpened w.source before.source_opened after.source_opened
+  pub shelf_opened : IsPerhapsOpened w.out before.shelf_opened after.shelf_opened
+  pub source_count : Counted (IsFailureOf D.Source end) before.source_count after.source_count
+  pub shelf_count : Counted (IsFailureOf D.Shelf end) before.shelf_count after.shelf_count
+  pub out_count : Counted (IsFailureOf D.Out end) before.out_count after.out_count
+  pub lines : after.lines ≡ before.lines
+  pub lines_count : after.lines_count ≡ before.lines_count

@@ -1,29 +1,28 @@
 ghost use Rattle.std.specs.Prelude.{◌≡◌, ◌≤◌, ◌⊎◌, IfOk, IfErr, OnOk, OnErr, IfSome, Some, true};
-ghost use Rattle.compiler.specs.Compiler.{compiler, nothing};
-ghost use Rattle.compiler.specs.Standing.{counts, IsIn, IsKept, HasSpentAtMost, SpendsAs, compiled_in};
-ghost use Rattle.engine_turns.specs.States.{pictured};
+ghost use Rattle.compiler.specs.Compiler.{nothing};
+ghost use Rattle.compiler.specs.Standing.{counts, IsIn, HasSpentAtMost};
 ghost use Rattle.outside.specs.Causes.{Caused};
 ghost use Rattle.outside.specs.Contents.{Appends, AppendsPart};
-ghost use Rattle.publication.specs.Changing.{MadeOver, BegunOver, Tells};
 ghost use Rattle.publication.specs.Listings.{Lists};
 ghost use Rattle.publication.specs.Wants.{proper, wants_of};
 ghost use Rattle.rebuild.specs.Engines.{turns_left_of};
-ghost use Rattle.site_build.specs.Ends.{IsEndOf, IsFailureOf, OfSink, OfSource, IsRoundEnd, Stopped};
-ghost use Rattle.site_build.specs.Rounds.{given_by, session_at, Reaches};
-ghost use Rattle.site_build.specs.Session.{Finished, WritesEarly, TakesEarly, IsPassed, ended_behind, limits_of, session_for, state_for, text_behind};
+ghost use Rattle.site_build.specs.Ends.{IsEndOf, IsFailureOf, OfSink, OfSource, IsRoundEnd};
+ghost use Rattle.site_build.specs.Rounds.{Follows, Reaches, Spends, given_by, session_at};
+ghost use Rattle.site_build.specs.Scenes.{outs};
+ghost use Rattle.site_build.specs.Session.{TakesEarly, IsPassed, ended_behind, limits_of, session_for, state_for, text_behind};
 ghost use Rattle.session.specs.Sessions.{end_line};
 ghost use Rattle.session.specs.declared.Ended.TheVariants as ended;
 ghost use Rattle.site_build.specs.declared.ends.Device.{Device};
 
 use crate::devices::{publish, write};
 use crate::ends::End;
+use crate::handed::Devices;
 use base::{Steps, Text};
 use command_words::Work;
-use compiler::{Built, Took, make_turns, start, take_next};
-use outside::{Shelf, Sink, Source};
+use compiler::{Built, Took, Works, make_turns, start, take_next};
+use outside::{Lines, Shelf, Sink, Source};
 use pan_ast::Limits;
 use publication::Publication;
-use rebuild::Engine;
 use runner::Runner;
 use session::{Ended, ended_by, push_too_many};
 use std::alloc::{AllocError, Global};
@@ -108,18 +107,8 @@ fn publish_built<H: Shelf, O: Sink>(
 ) -> Result<Ended, End>
     requires proper { proper (wants_of built.profiles.items) ≡ true }
     requires listed { Lists listed.now (H.cell shelf.old) }
-    ensures ok { IfOk result (λ ended. Finished (given_by most listed.now built) ended
-        (O.held out.old) (O.held out.new) (H.cell shelf.old) (H.cell shelf.new)) }
-    ensures text { IfErr result (λ e. WritesEarly (given_by most listed.now built).text e
-        (O.held out.old) (O.held out.new)) }
-    ensures shelf { IfErr result (λ e. Stopped e (given_by most listed.now built).shelf
-        (H.cell shelf.old) (H.cell shelf.new)) }
-    ensures made { OnOk result (Tells (H.cell shelf.old) → MadeOver
-        (given_by most listed.now built).wants listed.now (H.cell shelf.old) (H.cell shelf.new)
-        (H.changes shelf.old) (H.changes shelf.new)) }
-    ensures begun { OnErr result (Tells (H.cell shelf.old) → BegunOver
-        (given_by most listed.now built).wants listed.now (H.cell shelf.old) (H.cell shelf.new)
-        (H.changes shelf.old) (H.changes shelf.new)) }
+    ensures follows { Follows (given_by most listed.now built) listed.now result
+        (outs H.Shelf O.Sink shelf.old out.old) (outs H.Shelf O.Sink shelf.new out.new) }
     ensures kind { IfErr result IsRoundEnd }
     ensures opened { H.opened shelf.new ≡ H.opened shelf.old }
     ensures shelf_cause { Caused (IsFailureOf Device.Shelf) (H.fault_count shelf.old)
@@ -133,70 +122,67 @@ fn publish_built<H: Shelf, O: Sink>(
 }
 
 /// Publishes and reports what is settled, or writes why it is not.
-fn finish<R: Runner, H: Shelf, O: Sink>(
+fn finish<R: Runner, S: Source, H: Shelf, N: Lines, O: Sink>(
     alloc: Global,
     reached: Reached,
-    engine: &Engine<R>,
+    works: &Works<R>,
     most: Option<u64>,
     listed: &[Text],
-    shelf: &mut H,
-    out: &mut O,
+    devices: &mut Devices<S, H, N, O>,
 ) -> Result<Ended, End>
-    requires settled { reached ≡ Reached.All → turns_left_of engine.now.core ≡ 0 }
-    requires kept { IsKept engine.now.core }
-    requires listed { Lists listed.now (H.cell shelf.old) }
-    ensures ok { IfOk result (λ ended. Finished (session_at most listed.now R.meaning reached
-        engine.now.core) ended (O.held out.old) (O.held out.new) (H.cell shelf.old)
-        (H.cell shelf.new)) }
-    ensures text { IfErr result (λ e. WritesEarly (session_at most listed.now R.meaning reached
-        engine.now.core).text e (O.held out.old) (O.held out.new)) }
-    ensures shelf { IfErr result (λ e. Stopped e (session_at most listed.now R.meaning reached
-        engine.now.core).shelf (H.cell shelf.old) (H.cell shelf.new)) }
-    ensures made { OnOk result (Tells (H.cell shelf.old) → MadeOver
-        (session_at most listed.now R.meaning reached engine.now.core).wants listed.now
-        (H.cell shelf.old) (H.cell shelf.new) (H.changes shelf.old) (H.changes shelf.new)) }
-    ensures begun { OnErr result (Tells (H.cell shelf.old) → BegunOver
-        (session_at most listed.now R.meaning reached engine.now.core).wants listed.now
-        (H.cell shelf.old) (H.cell shelf.new) (H.changes shelf.old) (H.changes shelf.new)) }
+    requires settled { reached ≡ Reached.All → turns_left_of works.now.engine.core ≡ 0 }
+    requires listed { Lists listed.now (H.cell devices.old.shelf) }
+    ensures follows { Follows
+        (session_at most listed.now R.meaning reached works.now.engine.core) listed.now result
+        (outs H.Shelf O.Sink devices.old.shelf devices.old.out)
+        (outs H.Shelf O.Sink devices.new.shelf devices.new.out) }
     ensures kind { IfErr result IsRoundEnd }
-    ensures opened { H.opened shelf.new ≡ H.opened shelf.old }
-    ensures shelf_cause { Caused (IsFailureOf Device.Shelf) (H.fault_count shelf.old)
-        (H.fault_count shelf.new) result }
-    ensures out_cause { Caused (IsFailureOf Device.Out) (O.fault_count out.old)
-        (O.fault_count out.new) result }
+    ensures opened { H.opened devices.new.shelf ≡ H.opened devices.old.shelf }
+    ensures source { devices.new.source ≡ devices.old.source }
+    ensures lines { devices.new.lines ≡ devices.old.lines }
+    ensures shelf_cause { Caused (IsFailureOf Device.Shelf) (H.fault_count devices.old.shelf)
+        (H.fault_count devices.new.shelf) result }
+    ensures out_cause { Caused (IsFailureOf Device.Out) (O.fault_count devices.old.out)
+        (O.fault_count devices.new.out) result }
 {
     match reached {
         Reached::All => {
-            let built = compiler::build(alloc, engine)?;
-            publish_built(alloc, built, most, listed, shelf, out)
+            let built = compiler::build(alloc, works)?;
+            publish_built(
+                alloc,
+                built,
+                most,
+                listed,
+                &mut devices.shelf,
+                &mut devices.out,
+            )
         }
-        Reached::NumbersSpent => end_with_line(out, b"numbers spent\n", Ended::NumbersSpent),
-        Reached::TooMuch => end_with_line(out, b"too much\n", Ended::TooMuch),
+        Reached::NumbersSpent => end_with_line(
+            &mut devices.out,
+            b"numbers spent\n",
+            Ended::NumbersSpent,
+        ),
+        Reached::TooMuch => end_with_line(&mut devices.out, b"too much\n", Ended::TooMuch),
     }
 }
 
 /// Scans the source and compiles what was scanned, as far as it goes.
 fn settle<R: Runner, S: Source, L: Ledger>(
     alloc: Global,
-    engine: &mut Engine<R>,
-    runner: &mut R,
+    works: &mut Works<R>,
     source: &mut S,
     steps: &mut Steps<L>,
 ) -> Result<Reached, End>
-    requires files { R.files_of runner.old ≡ pictured engine.old.core.files.items }
-    requires dirs { R.dirs_of runner.old ≡ engine.old.core.dirs }
-    requires kept { IsKept engine.old.core }
     ensures ok { IfOk result (λ how. (work : Work) → IsIn work.directories (limits_of work)
-        engine.old.core nothing → IfSome (S.coming source.old) (λ ps. Reaches R.meaning work how ps
-        engine.new.core (counts (R.runs_of runner.old) steps.old)
-        (counts (R.runs_of runner.new) steps.new))) }
+        works.old.engine.core nothing → IfSome (S.coming source.old) (λ ps. Reaches R.meaning work
+        how ps works.new.engine.core (counts (R.runs_of works.old.runner) steps.old)
+        (counts (R.runs_of works.new.runner) steps.new))) }
     ensures cut { OnErr result ((work : Work) → IsIn work.directories (limits_of work)
-        engine.old.core nothing → IfSome (S.coming source.old) (λ ps. HasSpentAtMost
-        (state_for R.meaning work ps) (counts (R.runs_of runner.old) steps.old)
-        (counts (R.runs_of runner.new) steps.new))) }
+        works.old.engine.core nothing → IfSome (S.coming source.old) (λ ps. HasSpentAtMost
+        (state_for R.meaning work ps) (counts (R.runs_of works.old.runner) steps.old)
+        (counts (R.runs_of works.new.runner) steps.new))) }
     ensures settled { IfOk result (λ how. how ≡ Reached.All
-        → turns_left_of engine.new.core ≡ 0) }
-    ensures kept { OnOk result (IsKept engine.new.core) }
+        → turns_left_of works.new.engine.core ≡ 0) }
     ensures kind { IfErr result (IsEndOf OfSource) }
     ensures taken { OnOk result (IsPassed (S.coming source.old) (S.coming source.new)) }
     ensures perhaps { (S.coming source.new ≡ S.coming source.old) ⊎
@@ -205,75 +191,51 @@ fn settle<R: Runner, S: Source, L: Ledger>(
     ensures cause { Caused (IsFailureOf Device.Source) (S.fault_count source.old)
         (S.fault_count source.new) result }
 {
-    match take_next(alloc, engine, runner, source, steps)? {
+    match take_next(alloc, works, source, steps)? {
         Took::Failed => return Err(End::Source),
         Took::SpendsNumbers => return Ok(Reached::NumbersSpent),
         Took::IsTooMuch => return Ok(Reached::TooMuch),
         Took::Taken => {}
     }
-    let left = engine.turns_left();
-    if make_turns(alloc, engine, runner, left, steps)? {
+    let left = works.engine.turns_left();
+    if make_turns(alloc, works, left, steps)? {
         return Ok(Reached::All);
     }
     Ok(Reached::NumbersSpent)
 }
 
 /// Builds what the source has next, over a shelf on which these names are.
-pub fn build_over<R: Runner, S: Source, H: Shelf, O: Sink, L: Ledger>(
+pub fn build_over<R: Runner, S: Source, H: Shelf, N: Lines, O: Sink, L: Ledger>(
     alloc: Global,
     work: &Work,
-    runner: &mut R,
-    source: &mut S,
+    works: &mut Works<R>,
+    devices: &mut Devices<S, H, N, O>,
     listed: &[Text],
-    shelf: &mut H,
-    out: &mut O,
     steps: &mut Steps<L>,
 ) -> Result<Ended, End>
-    requires { Lists listed.now (H.cell shelf.old) }
-    ensures ok { IfOk result (λ ended. IfSome (S.coming source.old) (λ ps. Finished (session_for
-        R.meaning work.now listed.now ps) ended (O.held out.old) (O.held out.new)
-        (H.cell shelf.old) (H.cell shelf.new))) }
-    ensures text { IfErr result (λ e. IfSome (S.coming source.old) (λ ps. WritesEarly (session_for
-        R.meaning work.now listed.now ps).text e (O.held out.old) (O.held out.new))) }
-    ensures shelf { IfErr result (λ e. IfSome (S.coming source.old) (λ ps. Stopped e (session_for
-        R.meaning work.now listed.now ps).shelf (H.cell shelf.old) (H.cell shelf.new))) }
-    ensures made { OnOk result (Tells (H.cell shelf.old) → IfSome (S.coming source.old) (λ ps.
-        MadeOver (session_for
-        R.meaning work.now listed.now ps).wants listed.now (H.cell shelf.old)
-        (H.cell shelf.new) (H.changes shelf.old) (H.changes shelf.new))) }
-    ensures begun { OnErr result (Tells (H.cell shelf.old) → IfSome (S.coming source.old) (λ ps.
-        BegunOver (session_for
-        R.meaning work.now listed.now ps).wants listed.now (H.cell shelf.old)
-        (H.cell shelf.new) (H.changes shelf.old) (H.changes shelf.new))) }
-    ensures spent { IfOk result (λ ended. IfSome (S.coming source.old) (λ ps. SpendsAs ended
-        (state_for R.meaning work.now ps) (counts (R.runs_of runner.old) steps.old)
-        (counts (R.runs_of runner.new) steps.new))) }
-    ensures cut { OnErr result (IfSome (S.coming source.old) (λ ps. HasSpentAtMost
-        (state_for R.meaning work.now ps) (counts (R.runs_of runner.old) steps.old)
-        (counts (R.runs_of runner.new) steps.new))) }
-    ensures taken { OnOk result (IsPassed (S.coming source.old) (S.coming source.new)) }
-    ensures perhaps { (S.coming source.new ≡ S.coming source.old) ⊎
-        (IsPassed (S.coming source.old) (S.coming source.new)) }
+    requires { Lists listed.now (H.cell devices.old.shelf) }
+    ensures follows { IfSome (S.coming devices.old.source) (λ ps. Follows
+        (session_for R.meaning work.now listed.now ps) listed.now result
+        (outs H.Shelf O.Sink devices.old.shelf devices.old.out)
+        (outs H.Shelf O.Sink devices.new.shelf devices.new.out)) }
+    ensures spent { IfSome (S.coming devices.old.source) (λ ps. Spends result
+        (state_for R.meaning work.now ps) (counts (R.runs_of works.old.runner) steps.old)
+        (counts (R.runs_of works.new.runner) steps.new)) }
+    ensures taken { OnOk result
+        (IsPassed (S.coming devices.old.source) (S.coming devices.new.source)) }
     ensures pictures { IfErr result
-        (λ e. TakesEarly e (S.coming source.old) (S.coming source.new)) }
-    ensures source_opened { S.opened source.new ≡ S.opened source.old }
-    ensures shelf_opened { H.opened shelf.new ≡ H.opened shelf.old }
-    ensures source_cause { Caused (IsFailureOf Device.Source) (S.fault_count source.old)
-        (S.fault_count source.new) result }
-    ensures shelf_cause { Caused (IsFailureOf Device.Shelf) (H.fault_count shelf.old)
-        (H.fault_count shelf.new) result }
-    ensures out_cause { Caused (IsFailureOf Device.Out) (O.fault_count out.old)
-        (O.fault_count out.new) result }
+        (λ e. TakesEarly e (S.coming devices.old.source) (S.coming devices.new.source)) }
+    ensures source_opened { S.opened devices.new.source ≡ S.opened devices.old.source }
+    ensures shelf_opened { H.opened devices.new.shelf ≡ H.opened devices.old.shelf }
+    ensures lines { devices.new.lines ≡ devices.old.lines }
+    ensures source_cause { Caused (IsFailureOf Device.Source)
+        (S.fault_count devices.old.source) (S.fault_count devices.new.source) result }
+    ensures shelf_cause { Caused (IsFailureOf Device.Shelf) (H.fault_count devices.old.shelf)
+        (H.fault_count devices.new.shelf) result }
+    ensures out_cause { Caused (IsFailureOf Device.Out) (O.fault_count devices.old.out)
+        (O.fault_count devices.new.out) result }
 {
-    let mut engine = start(alloc, runner, limits(work), work.directories.as_slice())?;
-    let reached = settle(alloc, &mut engine, runner, source, steps)?;
-    finish(
-        alloc,
-        reached,
-        &engine,
-        work.most_removed,
-        listed,
-        shelf,
-        out,
-    )
+    start(alloc, works, limits(work), work.directories.as_slice())?;
+    let reached = settle(alloc, works, &mut devices.source, steps)?;
+    finish(alloc, reached, works, work.most_removed, listed, devices)
 }

@@ -1,23 +1,16 @@
-ghost use Rattle.std.specs.Prelude.{◌≡◌, ◌≤◌, ℕ, List, IfOk, OnOk, OnErr, IfErr, Some, Bool, true, false};
-ghost use Rattle.compiler.specs.Compiler.{Compiled, compiler};
-ghost use Rattle.compiler.specs.Standing.{counts, IsIn, IsKept};
-ghost use Rattle.engine_turns.specs.States.{pictured};
+ghost use Rattle.std.specs.Prelude.{◌≡◌, IfOk, OnOk, OnErr, IfErr, true, false};
 ghost use Rattle.outside.specs.Causes.{Caused};
 ghost use Rattle.outside.specs.Contents.{Appends, AppendsPart};
 ghost use Rattle.outside.specs.Lines.{NextLine};
-ghost use Rattle.outside.specs.declared.source.MemFile.{MemFile};
-ghost use Rattle.pan_ast.specs.declared.work.Limits.{Limits};
 ghost use Rattle.publication.specs.Published.{Knows};
-ghost use Rattle.session.specs.Sessions.{started};
-ghost use Rattle.watch.specs.Steps.{spot};
-ghost use Rattle.watch.specs.Played.{Finished, HasNames, Stopped, IsEndOf, reel};
+ghost use Rattle.watch.specs.Played.{IsEndOf, reel};
+ghost use Rattle.watch.specs.Sites.{Finishes, Stops, begun, spot_of};
 
 use crate::ends::End;
+use crate::site::Site;
 use crate::step::{Step, work_on};
 use base::Steps;
 use outside::{Lines, Shelf, Sink, Source, StoreError};
-use publication::Publisher;
-use rebuild::Engine;
 use runner::Runner;
 use std::alloc::{AllocError, Global};
 use std::sync::ledger::Ledger;
@@ -44,7 +37,8 @@ fn write<O: Sink>(out: &mut O, text: &[u8]) -> Result<(), End>
     ensures ok { OnOk result (Appends (O.held out.old) text.now (O.held out.new)) }
     ensures err { OnErr result (AppendsPart (O.held out.old) text.now (O.held out.new)) }
     ensures kind { IfErr result (IsEndOf End.Out) }
-    ensures cause { Caused (λ e. e ≡ End.Out) (O.fault_count out.old) (O.fault_count out.new) result }
+    ensures cause { Caused (λ e. e ≡ End.Out) (O.fault_count out.old) (O.fault_count out.new)
+        result }
 {
     match out.write(text) {
         Ok(()) => Ok(()),
@@ -53,50 +47,26 @@ fn write<O: Sink>(out: &mut O, text: &[u8]) -> Result<(), End>
     }
 }
 
-/// Works on the lines, one after the other, until they end or one is `quit`, and tells whether the last report had an
-/// object with a fault. The text of a line is written before the next line is asked for.
+/// Works on the lines, one after the other, until they end or one is `quit`. The text of a line is written before the
+/// next line is asked for. What the site says of the last report is then of these lines alone.
 pub fn play<R: Runner, S: Source, H: Shelf, N: Lines, O: Sink, L: Ledger>(
     alloc: Global,
-    engine: &mut Engine<R>,
-    runner: &mut R,
-    source: &mut S,
-    shelf: &mut H,
-    publisher: &mut Publisher,
+    site: &mut Site<R, S, H>,
     lines: &mut N,
     out: &mut O,
     steps: &mut Steps<L>,
-) -> Result<bool, End>
-    requires files { R.files_of runner.old ≡ pictured engine.old.core.files.items }
-    requires dirs { R.dirs_of runner.old ≡ engine.old.core.dirs }
-    requires kept { IsKept engine.old.core }
-    requires knows { Knows publisher.old (H.cell shelf.old) }
-    ensures ok { IfOk result (λ faults. (dirs : List (List ℕ)) (limits : Limits)
-        (e : Compiled R.Rest) (ps : List (List MemFile)) (names : List (List ℕ))
-        → IsIn dirs limits engine.old.core e → S.coming source.old ≡ Some ps
-        → HasNames publisher.old names →
-        let first = spot engine.old.core (S.coming source.old) false
-        (counts (R.runs_of runner.old) steps.old) (S.fault_count source.old)
-        (H.fault_count shelf.old) (H.cell shelf.old) publisher.old in
-        let here = spot engine.new.core (S.coming source.new) faults
-        (counts (R.runs_of runner.new) steps.new) (S.fault_count source.new)
-        (H.fault_count shelf.new) (H.cell shelf.new) publisher.new in
-        Finished (compiler (R.meaning dirs limits) dirs) dirs limits (started e ps names)
-        (reel (N.left lines.old) (N.left lines.new) (O.held out.old) (O.held out.new)) first here) }
-    ensures err { IfErr result (λ end. (dirs : List (List ℕ)) (limits : Limits)
-        (e : Compiled R.Rest) (ps : List (List MemFile)) (names : List (List ℕ))
-        → IsIn dirs limits engine.old.core e → S.coming source.old ≡ Some ps
-        → HasNames publisher.old names → (faults : Bool) × (
-        let first = spot engine.old.core (S.coming source.old) false
-        (counts (R.runs_of runner.old) steps.old) (S.fault_count source.old)
-        (H.fault_count shelf.old) (H.cell shelf.old) publisher.old in
-        let here = spot engine.new.core (S.coming source.new) faults
-        (counts (R.runs_of runner.new) steps.new) (S.fault_count source.new)
-        (H.fault_count shelf.new) (H.cell shelf.new) publisher.new in
-        Stopped (compiler (R.meaning dirs limits) dirs) dirs limits (started e ps names) end
-        (reel (N.left lines.old) (N.left lines.new) (O.held out.old) (O.held out.new)) first
-        here)) }
-    ensures source_opened { S.opened source.new ≡ S.opened source.old }
-    ensures shelf_opened { H.opened shelf.new ≡ H.opened shelf.old }
+) -> Result<(), End>
+    requires knows { Knows site.old.publisher (H.cell site.old.shelf) }
+    ensures ok { OnOk result (Finishes R.meaning
+        (reel (N.left lines.old) (N.left lines.new) (O.held out.old) (O.held out.new))
+        (begun (spot_of R.Runner S.Source H.Shelf site.old steps.old))
+        (spot_of R.Runner S.Source H.Shelf site.new steps.new)) }
+    ensures err { IfErr result (λ end. Stops R.meaning end
+        (reel (N.left lines.old) (N.left lines.new) (O.held out.old) (O.held out.new))
+        (begun (spot_of R.Runner S.Source H.Shelf site.old steps.old))
+        (spot_of R.Runner S.Source H.Shelf site.new steps.new)) }
+    ensures source_opened { S.opened site.new.source ≡ S.opened site.old.source }
+    ensures shelf_opened { H.opened site.new.shelf ≡ H.opened site.old.shelf }
     ensures lines_cause { Caused (λ e. e ≡ End.Lines) (N.fault_count lines.old)
         (N.fault_count lines.new) result }
     ensures out_cause { Caused (λ e. e ≡ End.Out) (O.fault_count out.old) (O.fault_count out.new)
@@ -104,28 +74,17 @@ pub fn play<R: Runner, S: Source, H: Shelf, N: Lines, O: Sink, L: Ledger>(
 {
     let mut line = Vec::new(alloc);
     let mut text = Vec::new(alloc);
-    let mut has_faults = false;
+    site.has_faults = false;
     for _i in 0..MAX_LINES {
         match next_line(lines, &mut line) {
             Ok(true) => {}
-            Ok(false) => return Ok(has_faults),
+            Ok(false) => return Ok(()),
             Err(end) => return Err(end),
         }
         text.clear();
-        match work_on(
-            alloc,
-            &line,
-            engine,
-            runner,
-            source,
-            shelf,
-            publisher,
-            &mut has_faults,
-            &mut text,
-            steps,
-        ) {
+        match work_on(alloc, &line, site, &mut text, steps) {
             Ok(Step::GoesOn) => {}
-            Ok(Step::Quits) => return Ok(has_faults),
+            Ok(Step::Quits) => return Ok(()),
             Ok(Step::SpendsNumbers) => return Err(End::NumbersSpent),
             Ok(Step::IsTooMuch) => return Err(End::TooMuch),
             Err(AllocError) => return Err(End::Memory),

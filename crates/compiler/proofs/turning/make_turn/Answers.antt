@@ -1,24 +1,19 @@
 use Rattle.std.proofs.Common.{subst}
 use Rattle.engine_turns.specs.Spent.{IsTurnRefused}
 use Rattle.rebuild.specs.Engines.{value_of, after_turn}
-use Rattle.compiler.proofs.Moves.{turn_made, turn_spent, turn_cut, turned_kept}
+use Rattle.compiler.proofs.Moves.{turn_made, turn_spent, turn_cut}
 use Rattle.compiler.proofs.turning.make_turn.Goals as goal
 
 pub returns-in-Ok-clause-made : goal.returns-in-Ok-clause-made
 returns-in-Ok-clause-made g c = λ dirs limits s start at.
     let e = c.in-Ok.ensures in
-    turn_made g.R.Runner.meaning dirs limits s c.args.engine.now.core c.turn.new.self.core start _ (g.R.Runner.runs_of c.turn.new.runner) c.turn.new.steps at e.files e.dirs e.limits e.state e.within e.spent
-
-pub returns-in-Ok-clause-kept : goal.returns-in-Ok-clause-kept
-returns-in-Ok-clause-kept g c =
-    let e = c.in-Ok.ensures in
-    turned_kept g.R.Runner.meaning c.args.engine.now.core c.turn.new.self.core e.files e.dirs e.state c.requires.kept
+    turn_made g.R.Runner.meaning dirs limits s c.args.works.now.engine.core c.turn.new.self.core start _ (g.R.Runner.runs_of c.turn.new.runner) c.turn.new.steps at e.files e.dirs e.limits e.state e.within e.spent
 
 pub returns-in-Err-NumbersSpent-clause-made : goal.returns-in-Err-NumbersSpent-clause-made
 returns-in-Err-NumbersSpent-clause-made g c = λ dirs limits s start at.
     let e = c.in-Err-NumbersSpent.ensures in
-    turn_spent g.R.Runner.meaning dirs limits s c.args.engine.now.core c.turn.new.self.core start _ (g.R.Runner.runs_of c.turn.new.runner) c.turn.new.steps at (subst (λ x. IsTurnRefused x (after_turn g.R.Runner.meaning (value_of c.args.engine.now.core)).state.counter) c.in-Err-NumbersSpent.field-0-is e.refused) e.spent
+    turn_spent g.R.Runner.meaning dirs limits s c.args.works.now.engine.core c.turn.new.self.core start _ (g.R.Runner.runs_of c.turn.new.runner) c.turn.new.steps at (subst (λ x. IsTurnRefused x (after_turn g.R.Runner.meaning (value_of c.args.works.now.engine.core)).state.counter) c.in-Err-NumbersSpent.field-0-is e.refused) e.spent
 
 pub returns-in-Err-Memory-clause-cut : goal.returns-in-Err-Memory-clause-cut
 returns-in-Err-Memory-clause-cut g c = λ dirs limits s start at.
-    turn_cut g.R.Runner.meaning dirs limits s c.args.engine.now.core c.turn.new.self.core start _ (g.R.Runner.runs_of c.turn.new.runner) c.turn.new.steps at c.in-Err-Memory.ensures.spent
+    turn_cut g.R.Runner.meaning dirs limits s c.args.works.now.engine.core c.turn.new.self.core start _ (g.R.Runner.runs_of c.turn.new.runner) c.turn.new.steps at c.in-Err-Memory.ensures.spent

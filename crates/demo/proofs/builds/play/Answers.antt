@@ -6,9 +6,6 @@ use Rattle.demo.proofs.builds.play.Goals as goal
 
 pub loop-i-init : goal.loop-i-init
 loop-i-init g c = record {
-  files = c.requires.files;
-  dirs = c.requires.dirs;
-  kept = c.requires.kept;
   out = refl;
   played = λ dirs limits e ps is told. none_yet (compiler (g.R.Runner.meaning dirs limits) dirs) dirs limits e ps _ _ _ (g.O.Sink.held c.args.out.now) is told;
 }
@@ -32,7 +29,7 @@ returns-in-Err-clause-err g c =
     let more : 4 - c.loop-i._i ≡ suc (4 - (c.loop-i._i + 1)) = omega (arith, c.loop-i-test.true) in
     λ dirs limits e ps is told. let p = c.loop-i.invariant.played dirs limits e ps is told in
     let m = compiler (g.R.Runner.meaning dirs limits) dirs in
-    cut_off m dirs limits _ _ _ _ c.loop-i.has_faults _ c.build_next.new.engine.core _ c.build_next.new.source.coming _ _ _ _ _ (g.O.Sink.held c.loop-i.out) [] more p (c.in-Err.ensures.cut dirs limits (record p.state { text = [] }) _ (record { engine = p.at.engine; spent = record { in_runs = p.at.spent.in_runs; in_steps = p.at.spent.in_steps } }) p.pictures)
+    cut_off m dirs limits _ _ _ _ c.loop-i.has_faults _ c.build_next.new.works.engine.core _ c.build_next.new.source.coming _ _ _ _ _ (g.O.Sink.held c.loop-i.out) [] more p (c.in-Err.ensures.cut dirs limits (record p.state { text = [] }) _ (record { engine = p.at.engine; spent = record { in_runs = p.at.spent.in_runs; in_steps = p.at.spent.in_steps } }) p.pictures)
 
 pub returns-in-Err-write-clause-err : goal.returns-in-Err-write-clause-err
 returns-in-Err-write-clause-err g c =
@@ -47,9 +44,6 @@ loop-i-preserved g c =
     let more : 4 - c.loop-i._i ≡ suc (4 - (c.loop-i._i + 1)) = omega (arith, c.loop-i-test.true) in
     let whole : Appends (g.O.Sink.held c.loop-i.out) c.build_next.new.line.items (g.O.Sink.held c.write.new.out) = rw c.deref.ensures.value at c.in-Ok.ensures.ok in
     record {
-      files = c.build_next.ensures.files;
-      dirs = c.build_next.ensures.dirs;
-      kept = c.build_next.ensures.kept;
       out = c.in-Ok.ensures.cause.done ∙ c.loop-i.invariant.out;
       played = λ dirs limits e ps is told. let p = c.loop-i.invariant.played dirs limits e ps is told in
           let m = compiler (g.R.Runner.meaning dirs limits) dirs in

@@ -1,27 +1,33 @@
-use Rattle.std.proofs.Common.{refl, ap, ◌∙◌, slice_set, Err, None}
-use Rattle.foreign_values.specs.Chains.{below}
-use Rattle.engine_turns.specs.Changes.{dropped_row, settled_row, cause_for}
-use Rattle.engine_turns.specs.States.{state_of, is_graded}
-use Rattle.engine_turns.proofs.Readies.{ready_left, change_of, closed, same_flag, fault_graded}
-use Rattle.engine_turns.specs.Ready.{core_state, is_open, is_unchecked}
-use Rattle.engine_turns.proofs.Settles.{fault_is}
+use Rattle.std.proofs.Common.{refl, ap, ◌∙◌, subst, Err}
+use Rattle.read_sets.specs.Items.{pairs_of}
+use Rattle.engine_turns.specs.Entering.{wanted, IsEntered}
+use Rattle.engine_turns.specs.Places.{names}
+use Rattle.engine_turns.specs.Turning.{moved_turn}
+use Rattle.engine_turns.proofs.Readies.{stays_on}
+use Rattle.engine_turns.proofs.Entered.{ready_entered, top_entered, cause_entered, settled_entered}
 use Rattle.engine_turns.proofs.building.settle_fault.Goals as goal
 
 pub returns-clause-state : goal.returns-clause-state
 returns-clause-state g c =
     let old = c.args.core.now in
-    let row = c.index_mut.result.now in
-    ap core_state c.leave.ensures
-    ∙ ap (λ r. state_of old.counter old.files.items (slice_set old.rows.items c.args.at r) (below old.chain)) c.settle_build.ensures
-    ∙ ap (λ n. state_of old.counter old.files.items (slice_set old.rows.items c.args.at (settled_row n (Err c.args.fault) None c.args.reads (dropped_row (cause_for c.args.differs row) row))) (below old.chain)) c.fault_number-number.ensures
-    ∙ fault_is old c.args.at c.requires.ready c.requires.top row c.index_mut.ensures.value c.args.differs c.args.fault c.args.reads
+    let new = record old { rows = c.enter_all.new.rows } in
+    let is = subst (λ es. IsEntered es old.rows.items c.enter_all.new.rows.items) (c.in_ok-entries.ensures ∙ (λ i. wanted (names (c.deref.ensures.value i)) (pairs_of (c.items.ensures.items i)))) c.enter_all.ensures in
+    c.end_fault.ensures.state
+    ∙ ap (λ y. moved_turn new y (pairs_of c.args.reads) (Err c.args.fault)) (cause_entered old new refl (pairs_of c.args.reads) is c.args.differs)
+    ∙ settled_entered old new refl (pairs_of c.args.reads) is _ (Err c.args.fault)
 
 pub returns-clause-ready : goal.returns-clause-ready
 returns-clause-ready g c =
     let old = c.args.core.now in
-    let row = c.index_mut.result.now in
-    ready_left old c.args.at c.settle_build.new.row row c.requires.ready c.requires.top.within
-    (change_of old.rows.items c.args.at c.settle_build.new.row row c.index_mut.ensures.value (ap (λ z. z.name) c.settle_build.ensures)
-    (ap (λ z. is_graded z.last) c.settle_build.ensures ∙ fault_graded c.fault_number-number.result c.args.fault c.fault_number-number.ensures)
-    (closed (ap is_open c.settle_build.ensures)) (same_flag (ap is_unchecked c.settle_build.ensures)))
-    _ c.leave.new.core (record { counter = refl; limits = refl; dirs = refl; files = refl; rows = refl; builds = refl; checks = refl }) refl c.leave.ensures
+    let new = record old { rows = c.enter_all.new.rows } in
+    stays_on old new c.end_fault.new.core (ready_entered old new refl c.enter_all.ensures.bare c.requires.ready) c.end_fault.ensures.ready
+
+pub end_fault-requires-clause-ready : goal.end_fault-requires-clause-ready
+end_fault-requires-clause-ready g c =
+    let old = c.args.core.now in
+    (ready_entered old (record old { rows = c.enter_all.new.rows }) refl c.enter_all.ensures.bare c.requires.ready).ready
+
+pub end_fault-requires-clause-top : goal.end_fault-requires-clause-top
+end_fault-requires-clause-top g c =
+    let old = c.args.core.now in
+    top_entered old (record old { rows = c.enter_all.new.rows }) refl c.enter_all.ensures.bare c.args.at c.requires.top

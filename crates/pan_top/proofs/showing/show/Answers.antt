@@ -12,8 +12,8 @@ use Rattle.pan_top.proofs.showing.show.Goals as goal
 pub returns-in-Ok-NumbersSpent-clause-shows : goal.returns-in-Ok-NumbersSpent-clause-shows
 returns-in-Ok-NumbersSpent-clause-shows g c =
     let x = shown_by g.R.Runner.meaning c.args.demonstration.now in
-    let before = counts (g.R.Runner.runs_of c.args.runner.now) c.args.steps.now in
-    let now = counts (g.R.Runner.runs_of c.demo.new.runner) c.demo.new.steps in
+    let before = counts (g.R.Runner.runs_of c.args.works.now.runner) c.args.steps.now in
+    let now = counts (g.R.Runner.runs_of c.demo.new.works.runner) c.demo.new.steps in
     let old = g.O.Sink.held c.args.out.now in
     let mid = g.O.Sink.held c.demo.new.out in
     let ends : Ends x ended.NumbersSpent before now old mid = rw (c.limits_given-limits.ensures, c.in-Ok-NumbersSpent.field-0-is) at c.in-Ok-NumbersSpent.ensures.ok in
@@ -22,8 +22,8 @@ returns-in-Ok-NumbersSpent-clause-shows g c =
 pub returns-in-Ok-TooMuch-clause-shows : goal.returns-in-Ok-TooMuch-clause-shows
 returns-in-Ok-TooMuch-clause-shows g c =
     let x = shown_by g.R.Runner.meaning c.args.demonstration.now in
-    let before = counts (g.R.Runner.runs_of c.args.runner.now) c.args.steps.now in
-    let now = counts (g.R.Runner.runs_of c.demo.new.runner) c.demo.new.steps in
+    let before = counts (g.R.Runner.runs_of c.args.works.now.runner) c.args.steps.now in
+    let now = counts (g.R.Runner.runs_of c.demo.new.works.runner) c.demo.new.steps in
     let old = g.O.Sink.held c.args.out.now in
     let mid = g.O.Sink.held c.demo.new.out in
     let ends : Ends x ended.TooMuch before now old mid = rw (c.limits_given-limits.ensures, c.in-Ok-TooMuch.field-0-is) at c.in-Ok-TooMuch.ensures.ok in
@@ -32,8 +32,8 @@ returns-in-Ok-TooMuch-clause-shows g c =
 pub returns-in-Ok-Clean-clause-shows : goal.returns-in-Ok-Clean-clause-shows
 returns-in-Ok-Clean-clause-shows g c =
     let x = shown_by g.R.Runner.meaning c.args.demonstration.now in
-    let before = counts (g.R.Runner.runs_of c.args.runner.now) c.args.steps.now in
-    let now = counts (g.R.Runner.runs_of c.demo.new.runner) c.demo.new.steps in
+    let before = counts (g.R.Runner.runs_of c.args.works.now.runner) c.args.steps.now in
+    let now = counts (g.R.Runner.runs_of c.demo.new.works.runner) c.demo.new.steps in
     let old = g.O.Sink.held c.args.out.now in
     let mid = g.O.Sink.held c.demo.new.out in
     let ends : Ends x ended.Clean before now old mid = rw (c.limits_given-limits.ensures, c.in-Ok-Clean.field-0-is) at c.in-Ok-Clean.ensures.ok in
@@ -42,8 +42,8 @@ returns-in-Ok-Clean-clause-shows g c =
 pub returns-in-Ok-SomeFaults-clause-shows : goal.returns-in-Ok-SomeFaults-clause-shows
 returns-in-Ok-SomeFaults-clause-shows g c =
     let x = shown_by g.R.Runner.meaning c.args.demonstration.now in
-    let before = counts (g.R.Runner.runs_of c.args.runner.now) c.args.steps.now in
-    let now = counts (g.R.Runner.runs_of c.demo.new.runner) c.demo.new.steps in
+    let before = counts (g.R.Runner.runs_of c.args.works.now.runner) c.args.steps.now in
+    let now = counts (g.R.Runner.runs_of c.demo.new.works.runner) c.demo.new.steps in
     let old = g.O.Sink.held c.args.out.now in
     let mid = g.O.Sink.held c.demo.new.out in
     let ends : Ends x ended.SomeFaults before now old mid = rw (c.limits_given-limits.ensures, c.in-Ok-SomeFaults.field-0-is) at c.in-Ok-SomeFaults.ensures.ok in
@@ -52,16 +52,16 @@ returns-in-Ok-SomeFaults-clause-shows g c =
 pub returns-in-Err-Out-clause-shows : goal.returns-in-Err-Out-clause-shows
 returns-in-Err-Out-clause-shows g c =
     let x = shown_by g.R.Runner.meaning c.args.demonstration.now in
-    let before = counts (g.R.Runner.runs_of c.args.runner.now) c.args.steps.now in
-    let now = counts (g.R.Runner.runs_of c.demo.new.runner) c.demo.new.steps in
+    let before = counts (g.R.Runner.runs_of c.args.works.now.runner) c.args.steps.now in
+    let now = counts (g.R.Runner.runs_of c.demo.new.works.runner) c.demo.new.steps in
     let breaks : Breaks x before now (g.O.Sink.held c.args.out.now) (g.O.Sink.held c.demo.new.out) = rw c.limits_given-limits.ensures at c.in-Err-Out.ensures.err in
     shown_part x _ _ _ before now (inl refl) breaks
 
 pub returns-in-Err-Memory-clause-shows : goal.returns-in-Err-Memory-clause-shows
 returns-in-Err-Memory-clause-shows g c =
     let x = shown_by g.R.Runner.meaning c.args.demonstration.now in
-    let before = counts (g.R.Runner.runs_of c.args.runner.now) c.args.steps.now in
-    let now = counts (g.R.Runner.runs_of c.demo.new.runner) c.demo.new.steps in
+    let before = counts (g.R.Runner.runs_of c.args.works.now.runner) c.args.steps.now in
+    let now = counts (g.R.Runner.runs_of c.demo.new.works.runner) c.demo.new.steps in
     let breaks : Breaks x before now (g.O.Sink.held c.args.out.now) (g.O.Sink.held c.demo.new.out) = rw c.limits_given-limits.ensures at c.in-Err-Memory.ensures.err in
     shown_part x _ _ _ before now (inr refl) breaks
 
@@ -87,8 +87,8 @@ returns-in-Err-Memory-clause-count g c = counted_same (S.Memory ≡ S.OutFault) 
 pub unreachable-requires : goal.unreachable-requires
 unreachable-requires g c =
     let x = shown_by g.R.Runner.meaning c.args.demonstration.now in
-    let before = counts (g.R.Runner.runs_of c.args.runner.now) c.args.steps.now in
-    let now = counts (g.R.Runner.runs_of c.demo.new.runner) c.demo.new.steps in
+    let before = counts (g.R.Runner.runs_of c.args.works.now.runner) c.args.steps.now in
+    let now = counts (g.R.Runner.runs_of c.demo.new.works.runner) c.demo.new.steps in
     let old = g.O.Sink.held c.args.out.now in
     let mid = g.O.Sink.held c.demo.new.out in
     let ends : Ends x (ended.TooManyRemovals c.in-Ok-TooManyRemovals.field-0-0) before now old mid = rw (c.limits_given-limits.ensures, c.in-Ok-TooManyRemovals.field-0-is) at c.in-Ok-TooManyRemovals.ensures.ok in

@@ -1,74 +1,34 @@
-use Rattle.std.proofs.Common.{IfErr, IfOk, OnErr, sym, subst, codes}
-use Rattle.std.specs.Prelude.{OnOk}
-use Rattle.publication.specs.Changing.{MadeOver, BegunOver, Tells}
-use Rattle.site_build.specs.Ends.{Stopped}
-use Rattle.site_build.specs.Rounds.{session_at}
-use Rattle.site_build.specs.Session.{Session, Finished, WritesEarly}
+use Rattle.std.proofs.Common.{sym, subst}
+use Rattle.std.proofs.lemmas.Result.{err_from_is_err_and}
+use Rattle.site_build.specs.Ends.{IsEndOf, OfSource}
+use Rattle.site_build.specs.Rounds.{Follows, session_at}
+use Rattle.site_build.specs.Scenes.{outs}
+use Rattle.site_build.specs.Session.{Session}
 use Rattle.session.specs.declared.Ended.TheVariants.{NumbersSpent, TooMuch}
-use Rattle.site_build.proofs.Ending.{given_is, line_unwritten, line_written}
+use Rattle.site_build.proofs.Ending.{given_is}
+use Rattle.site_build.proofs.Following.{line_follows, untouched_follows}
 use Rattle.site_build.proofs.building.finish.Goals as goal
 
-pub returns-in-NumbersSpent-clause-text : goal.returns-in-NumbersSpent-clause-text
-returns-in-NumbersSpent-clause-text g c =
-    let r = c.end_with_line.result in
-    let old = g.O.Sink.held c.args.out.now in
-    let new = g.O.Sink.held c.end_with_line.new.out in
-    subst (λ how. IfErr r (λ e. WritesEarly (session_at c.args.most c.args.listed.now g.R.Runner.meaning how c.args.engine.now.core).text e old new)) (sym c.in-NumbersSpent.is) (line_unwritten (codes "numbers spent\n") old new r c.end_with_line.ensures.kind c.end_with_line.ensures.err)
+pub returns-in_err-built-in-All-clause-follows : goal.returns-in_err-built-in-All-clause-follows
+returns-in_err-built-in-All-clause-follows g c =
+    let r = c.from_residual.result in
+    let p = err_from_is_err_and r c.from_residual.ensures.1 in
+    untouched_follows (session_at c.args.most c.args.listed.now g.R.Runner.meaning c.args.reached c.args.works.now.engine.core) c.args.listed.now r (outs g.H.Shelf g.O.Sink c.args.devices.now.shelf c.args.devices.now.out) p.0 p.1 (subst (IsEndOf OfSource) (sym p.2) tt)
 
-pub returns-in-TooMuch-clause-text : goal.returns-in-TooMuch-clause-text
-returns-in-TooMuch-clause-text g c =
-    let r = c.end_with_line-in-TooMuch.result in
-    let old = g.O.Sink.held c.args.out.now in
-    let new = g.O.Sink.held c.end_with_line-in-TooMuch.new.out in
-    subst (λ how. IfErr r (λ e. WritesEarly (session_at c.args.most c.args.listed.now g.R.Runner.meaning how c.args.engine.now.core).text e old new)) (sym c.in-TooMuch.is) (line_unwritten (codes "too much\n") old new r c.end_with_line-in-TooMuch.ensures.kind c.end_with_line-in-TooMuch.ensures.err)
+pub returns-in_ok-built-in-All-clause-follows : goal.returns-in_ok-built-in-All-clause-follows
+returns-in_ok-built-in-All-clause-follows g c =
+    subst (λ (s : Session). Follows s c.args.listed.now c.publish_built.result (outs g.H.Shelf g.O.Sink c.args.devices.now.shelf c.args.devices.now.out) (outs g.H.Shelf g.O.Sink c.publish_built.new.shelf c.publish_built.new.out)) (given_is g.R.Runner.meaning c.args.most c.args.listed.now c.in_ok-built-in-All.built c.args.works.now.engine.core c.args.reached c.in-All.is c.in_ok-built-in-All.ensures.gives) c.publish_built.ensures.follows
 
-pub returns-in-TooMuch-clause-ok : goal.returns-in-TooMuch-clause-ok
-returns-in-TooMuch-clause-ok g c =
-    let r = c.end_with_line-in-TooMuch.result in
-    let old = g.O.Sink.held c.args.out.now in
-    let new = g.O.Sink.held c.end_with_line-in-TooMuch.new.out in
-    let shelf = g.H.Shelf.cell c.args.shelf.now in
-    subst (λ how. IfOk r (λ ended. Finished (session_at c.args.most c.args.listed.now g.R.Runner.meaning how c.args.engine.now.core) ended old new shelf shelf)) (sym c.in-TooMuch.is) (line_written TooMuch old new shelf r c.end_with_line-in-TooMuch.ensures.ended c.end_with_line-in-TooMuch.ensures.ok)
+pub returns-in-NumbersSpent-clause-follows : goal.returns-in-NumbersSpent-clause-follows
+returns-in-NumbersSpent-clause-follows g c =
+    let e = c.end_with_line.ensures in
+    let before = outs g.H.Shelf g.O.Sink c.args.devices.now.shelf c.args.devices.now.out in
+    let after = outs g.H.Shelf g.O.Sink c.args.devices.now.shelf c.end_with_line.new.out in
+    subst (λ how. Follows (session_at c.args.most c.args.listed.now g.R.Runner.meaning how c.args.works.now.engine.core) c.args.listed.now c.end_with_line.result before after) (sym c.in-NumbersSpent.is) (line_follows NumbersSpent c.args.listed.now c.end_with_line.result before after.held e.ended e.ok e.err e.kind)
 
-pub returns-in-NumbersSpent-clause-ok : goal.returns-in-NumbersSpent-clause-ok
-returns-in-NumbersSpent-clause-ok g c =
-    let r = c.end_with_line.result in
-    let old = g.O.Sink.held c.args.out.now in
-    let new = g.O.Sink.held c.end_with_line.new.out in
-    let shelf = g.H.Shelf.cell c.args.shelf.now in
-    subst (λ how. IfOk r (λ ended. Finished (session_at c.args.most c.args.listed.now g.R.Runner.meaning how c.args.engine.now.core) ended old new shelf shelf)) (sym c.in-NumbersSpent.is) (line_written NumbersSpent old new shelf r c.end_with_line.ensures.ended c.end_with_line.ensures.ok)
-
-pub returns-in_ok-built-in-All-clause-ok : goal.returns-in_ok-built-in-All-clause-ok
-returns-in_ok-built-in-All-clause-ok g c =
-    let r = c.publish_built.result in
-    let old = g.H.Shelf.cell c.args.shelf.now in
-    let new = g.H.Shelf.cell c.publish_built.new.shelf in
-    subst (λ (s : Session). IfOk r (λ ended. Finished s ended (g.O.Sink.held c.args.out.now) (g.O.Sink.held c.publish_built.new.out) old new)) (given_is g.R.Runner.meaning c.args.most c.args.listed.now c.in_ok-built-in-All.built c.args.engine.now.core c.args.reached c.in-All.is c.in_ok-built-in-All.ensures.gives) c.publish_built.ensures.ok
-
-pub returns-in_ok-built-in-All-clause-text : goal.returns-in_ok-built-in-All-clause-text
-returns-in_ok-built-in-All-clause-text g c =
-    let r = c.publish_built.result in
-    let old = g.H.Shelf.cell c.args.shelf.now in
-    let new = g.H.Shelf.cell c.publish_built.new.shelf in
-    subst (λ (s : Session). IfErr r (λ e. WritesEarly s.text e (g.O.Sink.held c.args.out.now) (g.O.Sink.held c.publish_built.new.out))) (given_is g.R.Runner.meaning c.args.most c.args.listed.now c.in_ok-built-in-All.built c.args.engine.now.core c.args.reached c.in-All.is c.in_ok-built-in-All.ensures.gives) c.publish_built.ensures.text
-
-pub returns-in_ok-built-in-All-clause-shelf : goal.returns-in_ok-built-in-All-clause-shelf
-returns-in_ok-built-in-All-clause-shelf g c =
-    let r = c.publish_built.result in
-    let old = g.H.Shelf.cell c.args.shelf.now in
-    let new = g.H.Shelf.cell c.publish_built.new.shelf in
-    subst (λ (s : Session). IfErr r (λ e. Stopped e s.shelf old new)) (given_is g.R.Runner.meaning c.args.most c.args.listed.now c.in_ok-built-in-All.built c.args.engine.now.core c.args.reached c.in-All.is c.in_ok-built-in-All.ensures.gives) c.publish_built.ensures.shelf
-
-pub returns-in_ok-built-in-All-clause-made : goal.returns-in_ok-built-in-All-clause-made
-returns-in_ok-built-in-All-clause-made g c =
-    let r = c.publish_built.result in
-    let old = g.H.Shelf.cell c.args.shelf.now in
-    let new = g.H.Shelf.cell c.publish_built.new.shelf in
-    subst (λ (s : Session). OnOk r (Tells old → MadeOver s.wants c.args.listed.now old new (g.H.Shelf.changes c.args.shelf.now) (g.H.Shelf.changes c.publish_built.new.shelf))) (given_is g.R.Runner.meaning c.args.most c.args.listed.now c.in_ok-built-in-All.built c.args.engine.now.core c.args.reached c.in-All.is c.in_ok-built-in-All.ensures.gives) c.publish_built.ensures.made
-
-pub returns-in_ok-built-in-All-clause-begun : goal.returns-in_ok-built-in-All-clause-begun
-returns-in_ok-built-in-All-clause-begun g c =
-    let r = c.publish_built.result in
-    let old = g.H.Shelf.cell c.args.shelf.now in
-    let new = g.H.Shelf.cell c.publish_built.new.shelf in
-    subst (λ (s : Session). OnErr r (Tells old → BegunOver s.wants c.args.listed.now old new (g.H.Shelf.changes c.args.shelf.now) (g.H.Shelf.changes c.publish_built.new.shelf))) (given_is g.R.Runner.meaning c.args.most c.args.listed.now c.in_ok-built-in-All.built c.args.engine.now.core c.args.reached c.in-All.is c.in_ok-built-in-All.ensures.gives) c.publish_built.ensures.begun
+pub returns-in-TooMuch-clause-follows : goal.returns-in-TooMuch-clause-follows
+returns-in-TooMuch-clause-follows g c =
+    let e = c.end_with_line-in-TooMuch.ensures in
+    let before = outs g.H.Shelf g.O.Sink c.args.devices.now.shelf c.args.devices.now.out in
+    let after = outs g.H.Shelf g.O.Sink c.args.devices.now.shelf c.end_with_line-in-TooMuch.new.out in
+    subst (λ how. Follows (session_at c.args.most c.args.listed.now g.R.Runner.meaning how c.args.works.now.engine.core) c.args.listed.now c.end_with_line-in-TooMuch.result before after) (sym c.in-TooMuch.is) (line_follows TooMuch c.args.listed.now c.end_with_line-in-TooMuch.result before after.held e.ended e.ok e.err e.kind)

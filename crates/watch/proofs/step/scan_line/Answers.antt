@@ -10,30 +10,31 @@ use Rattle.session.specs.Sessions.{Done, writes, answers_in}
 use Rattle.session.specs.Texts.{files_line}
 use Rattle.watch.proofs.Going.{files_are, scan_taken, scan_failed, scan_spends, scan_exceeds}
 use Rattle.watch.proofs.Working.{scan_worked, writes_rises}
+use Rattle.watch.specs.Sites.{spot_of}
 use Rattle.watch.proofs.step.scan_line.Goals as goal
 
 pub returns-in_ok-extend_from_slice-in-Failed-clause-went : goal.returns-in_ok-extend_from_slice-in-Failed-clause-went
 returns-in_ok-extend_from_slice-in-Failed-clause-went g c =
     let text : c.extend_from_slice.new.self.items ≡ codes "source fault\n" = search rules in
-    λ dirs limits s has_faults shelf_count cell start publisher began at.
-    scan_failed (compiler (g.R.Runner.meaning dirs limits) dirs) dirs limits s _ _ _ _ has_faults _ _ _ _ shelf_count cell start began publisher Scan _ _ (λ line scan. refl) at (subst (λ how. TakesNext (compiler (g.R.Runner.meaning dirs limits) dirs) dirs limits s how c.take_next.new.engine.core began (counts (g.R.Runner.runs_of c.take_next.new.runner) c.take_next.new.steps) (g.S.Source.coming c.take_next.new.source) (g.S.Source.fault_count c.args.source.now) (g.S.Source.fault_count c.take_next.new.source)) c.in-Failed.is (c.in_ok-take_next.ensures.took dirs limits s began at.engine at.coming)) c.take_next.ensures.count.later text
+    λ dirs limits s start began at.
+    scan_failed (compiler (g.R.Runner.meaning dirs limits) dirs) dirs limits s (spot_of g.R.Runner g.S.Source g.H.Shelf c.args.site.now c.args.steps.now) _ _ _ _ start began Scan _ _ (λ line scan. refl) at (subst (λ how. TakesNext (compiler (g.R.Runner.meaning dirs limits) dirs) dirs limits s how c.take_next.new.works.engine.core began (counts (g.R.Runner.runs_of c.take_next.new.works.runner) c.take_next.new.steps) (g.S.Source.coming c.take_next.new.source) (g.S.Source.fault_count c.args.site.now.source) (g.S.Source.fault_count c.take_next.new.source)) c.in-Failed.is (c.in_ok-take_next.ensures.took dirs limits s began at.engine at.coming)) c.take_next.ensures.count.later text
 
 pub returns-in_ok-push_files-in-Taken-clause-went : goal.returns-in_ok-push_files-in-Taken-clause-went
 returns-in_ok-push_files-in-Taken-clause-went g c =
-    let core = c.take_next.new.engine.core in
+    let core = c.take_next.new.works.engine.core in
     let count : c.len.result ≡ length (names core.rows.items) = search rules in
-    let text : c.push_files.new.text.items ≡ files_line (length (pictured core.files.items)) (length (names core.rows.items)) = c.in_ok-push_files-in-Taken.ensures ∙ ap₂ (λ before line. before ++ line) c.requires.text (ap₂ (λ a b. files_line (length a) b) (c.files.ensures.files ∙ c.picture.ensures ∙ c.take_next.ensures.files) count) in
-    λ dirs limits s has_faults shelf_count cell start publisher began at.
-    let t = subst (λ how. TakesNext (compiler (g.R.Runner.meaning dirs limits) dirs) dirs limits s how c.take_next.new.engine.core began (counts (g.R.Runner.runs_of c.take_next.new.runner) c.take_next.new.steps) (g.S.Source.coming c.take_next.new.source) (g.S.Source.fault_count c.args.source.now) (g.S.Source.fault_count c.take_next.new.source)) c.in-Taken.is (c.in_ok-take_next.ensures.took dirs limits s began at.engine at.coming) in
-    scan_taken (compiler (g.R.Runner.meaning dirs limits) dirs) dirs limits s _ _ _ _ has_faults _ _ _ _ shelf_count cell start began publisher c.push_files.new.text.items at t c.take_next.ensures.count.later (text ∙ files_are g.R.Runner.meaning core c.take_next.ensures.kept dirs limits t.state.engine t.stands.engine)
+    let text : c.push_files.new.text.items ≡ files_line (length (pictured core.files.items)) (length (names core.rows.items)) = c.in_ok-push_files-in-Taken.ensures ∙ ap₂ (λ before line. before ++ line) c.requires.text (ap₂ (λ a b. files_line (length a) b) (c.files.ensures.files ∙ c.picture.ensures ∙ c.take_next.new.works.files) count) in
+    λ dirs limits s start began at.
+    let t = subst (λ how. TakesNext (compiler (g.R.Runner.meaning dirs limits) dirs) dirs limits s how c.take_next.new.works.engine.core began (counts (g.R.Runner.runs_of c.take_next.new.works.runner) c.take_next.new.steps) (g.S.Source.coming c.take_next.new.source) (g.S.Source.fault_count c.args.site.now.source) (g.S.Source.fault_count c.take_next.new.source)) c.in-Taken.is (c.in_ok-take_next.ensures.took dirs limits s began at.engine at.coming) in
+    scan_taken (compiler (g.R.Runner.meaning dirs limits) dirs) dirs limits s (spot_of g.R.Runner g.S.Source g.H.Shelf c.args.site.now c.args.steps.now) _ _ _ _ start began c.push_files.new.text.items at t c.take_next.ensures.count.later (text ∙ files_are g.R.Runner.meaning core c.take_next.new.works.kept dirs limits t.state.engine t.stands.engine)
 
 pub returns-in-SpendsNumbers-clause-went : goal.returns-in-SpendsNumbers-clause-went
-returns-in-SpendsNumbers-clause-went g c = λ dirs limits s has_faults shelf_count cell start publisher began at.
-    scan_spends (compiler (g.R.Runner.meaning dirs limits) dirs) dirs limits s _ _ _ _ has_faults _ _ _ _ shelf_count cell start began publisher Scan _ _ (λ line scan. refl) (subst (λ how. TakesNext (compiler (g.R.Runner.meaning dirs limits) dirs) dirs limits s how c.take_next.new.engine.core began (counts (g.R.Runner.runs_of c.take_next.new.runner) c.take_next.new.steps) (g.S.Source.coming c.take_next.new.source) (g.S.Source.fault_count c.args.source.now) (g.S.Source.fault_count c.take_next.new.source)) c.in-SpendsNumbers.is (c.in_ok-take_next.ensures.took dirs limits s began at.engine at.coming)) c.take_next.ensures.count.later
+returns-in-SpendsNumbers-clause-went g c = λ dirs limits s start began at.
+    scan_spends (compiler (g.R.Runner.meaning dirs limits) dirs) dirs limits s (spot_of g.R.Runner g.S.Source g.H.Shelf c.args.site.now c.args.steps.now) _ _ _ _ start began Scan _ _ (λ line scan. refl) (subst (λ how. TakesNext (compiler (g.R.Runner.meaning dirs limits) dirs) dirs limits s how c.take_next.new.works.engine.core began (counts (g.R.Runner.runs_of c.take_next.new.works.runner) c.take_next.new.steps) (g.S.Source.coming c.take_next.new.source) (g.S.Source.fault_count c.args.site.now.source) (g.S.Source.fault_count c.take_next.new.source)) c.in-SpendsNumbers.is (c.in_ok-take_next.ensures.took dirs limits s began at.engine at.coming)) c.take_next.ensures.count.later
 
 pub returns-in-IsTooMuch-clause-went : goal.returns-in-IsTooMuch-clause-went
-returns-in-IsTooMuch-clause-went g c = λ dirs limits s has_faults shelf_count cell start publisher began at.
-    scan_exceeds (compiler (g.R.Runner.meaning dirs limits) dirs) dirs limits s _ _ _ _ has_faults _ _ _ _ shelf_count cell start began publisher Scan _ _ (λ line scan. refl) (subst (λ how. TakesNext (compiler (g.R.Runner.meaning dirs limits) dirs) dirs limits s how c.take_next.new.engine.core began (counts (g.R.Runner.runs_of c.take_next.new.runner) c.take_next.new.steps) (g.S.Source.coming c.take_next.new.source) (g.S.Source.fault_count c.args.source.now) (g.S.Source.fault_count c.take_next.new.source)) c.in-IsTooMuch.is (c.in_ok-take_next.ensures.took dirs limits s began at.engine at.coming)) c.take_next.ensures.count.later
+returns-in-IsTooMuch-clause-went g c = λ dirs limits s start began at.
+    scan_exceeds (compiler (g.R.Runner.meaning dirs limits) dirs) dirs limits s (spot_of g.R.Runner g.S.Source g.H.Shelf c.args.site.now c.args.steps.now) _ _ _ _ start began Scan _ _ (λ line scan. refl) (subst (λ how. TakesNext (compiler (g.R.Runner.meaning dirs limits) dirs) dirs limits s how c.take_next.new.works.engine.core began (counts (g.R.Runner.runs_of c.take_next.new.works.runner) c.take_next.new.steps) (g.S.Source.coming c.take_next.new.source) (g.S.Source.fault_count c.args.site.now.source) (g.S.Source.fault_count c.take_next.new.source)) c.in-IsTooMuch.is (c.in_ok-take_next.ensures.took dirs limits s began at.engine at.coming)) c.take_next.ensures.count.later
 
 pub returns-in_err-take_next-clause-work : goal.returns-in_err-take_next-clause-work
 returns-in_err-take_next-clause-work g c = on_err c.from_residual.result (λ dirs limits s began at coming.
@@ -41,12 +42,12 @@ returns-in_err-take_next-clause-work g c = on_err c.from_residual.result (λ dir
 
 pub returns-in_err-extend_from_slice-in-Failed-clause-work : goal.returns-in_err-extend_from_slice-in-Failed-clause-work
 returns-in_err-extend_from_slice-in-Failed-clause-work g c = on_err c.from_residual-in_err-extend_from_slice-in-Failed.result (λ dirs limits s began at coming.
-    scan_worked g.R.Runner.meaning dirs limits s c.take_next.new.engine.core began (counts (g.R.Runner.runs_of c.take_next.new.runner) c.take_next.new.steps) (g.S.Source.coming c.take_next.new.source) (g.S.Source.fault_count c.args.source.now) (g.S.Source.fault_count c.take_next.new.source) Scan (λ u. writes u (files_line (length ((compiler (g.R.Runner.meaning dirs limits) dirs).picture u.engine)) (length (answers_in (compiler (g.R.Runner.meaning dirs limits) dirs) u.engine)))) (λ line scan. refl) (writes_rises (λ u. files_line (length ((compiler (g.R.Runner.meaning dirs limits) dirs).picture u.engine)) (length (answers_in (compiler (g.R.Runner.meaning dirs limits) dirs) u.engine)))) _ (c.in_ok-take_next.ensures.took dirs limits s began at coming))
+    scan_worked g.R.Runner.meaning dirs limits s c.take_next.new.works.engine.core began (counts (g.R.Runner.runs_of c.take_next.new.works.runner) c.take_next.new.steps) (g.S.Source.coming c.take_next.new.source) (g.S.Source.fault_count c.args.site.now.source) (g.S.Source.fault_count c.take_next.new.source) Scan (λ u. writes u (files_line (length ((compiler (g.R.Runner.meaning dirs limits) dirs).picture u.engine)) (length (answers_in (compiler (g.R.Runner.meaning dirs limits) dirs) u.engine)))) (λ line scan. refl) (writes_rises (λ u. files_line (length ((compiler (g.R.Runner.meaning dirs limits) dirs).picture u.engine)) (length (answers_in (compiler (g.R.Runner.meaning dirs limits) dirs) u.engine)))) _ (c.in_ok-take_next.ensures.took dirs limits s began at coming))
 
 pub returns-in_err-objects-in-Taken-clause-work : goal.returns-in_err-objects-in-Taken-clause-work
 returns-in_err-objects-in-Taken-clause-work g c = on_err c.from_residual-in_err-objects-in-Taken.result (λ dirs limits s began at coming.
-    scan_worked g.R.Runner.meaning dirs limits s c.take_next.new.engine.core began (counts (g.R.Runner.runs_of c.take_next.new.runner) c.take_next.new.steps) (g.S.Source.coming c.take_next.new.source) (g.S.Source.fault_count c.args.source.now) (g.S.Source.fault_count c.take_next.new.source) Scan (λ u. writes u (files_line (length ((compiler (g.R.Runner.meaning dirs limits) dirs).picture u.engine)) (length (answers_in (compiler (g.R.Runner.meaning dirs limits) dirs) u.engine)))) (λ line scan. refl) (writes_rises (λ u. files_line (length ((compiler (g.R.Runner.meaning dirs limits) dirs).picture u.engine)) (length (answers_in (compiler (g.R.Runner.meaning dirs limits) dirs) u.engine)))) _ (c.in_ok-take_next.ensures.took dirs limits s began at coming))
+    scan_worked g.R.Runner.meaning dirs limits s c.take_next.new.works.engine.core began (counts (g.R.Runner.runs_of c.take_next.new.works.runner) c.take_next.new.steps) (g.S.Source.coming c.take_next.new.source) (g.S.Source.fault_count c.args.site.now.source) (g.S.Source.fault_count c.take_next.new.source) Scan (λ u. writes u (files_line (length ((compiler (g.R.Runner.meaning dirs limits) dirs).picture u.engine)) (length (answers_in (compiler (g.R.Runner.meaning dirs limits) dirs) u.engine)))) (λ line scan. refl) (writes_rises (λ u. files_line (length ((compiler (g.R.Runner.meaning dirs limits) dirs).picture u.engine)) (length (answers_in (compiler (g.R.Runner.meaning dirs limits) dirs) u.engine)))) _ (c.in_ok-take_next.ensures.took dirs limits s began at coming))
 
 pub returns-in_err-push_files-in-Taken-clause-work : goal.returns-in_err-push_files-in-Taken-clause-work
 returns-in_err-push_files-in-Taken-clause-work g c = on_err c.from_residual-in_err-push_files-in-Taken.result (λ dirs limits s began at coming.
-    scan_worked g.R.Runner.meaning dirs limits s c.take_next.new.engine.core began (counts (g.R.Runner.runs_of c.take_next.new.runner) c.take_next.new.steps) (g.S.Source.coming c.take_next.new.source) (g.S.Source.fault_count c.args.source.now) (g.S.Source.fault_count c.take_next.new.source) Scan (λ u. writes u (files_line (length ((compiler (g.R.Runner.meaning dirs limits) dirs).picture u.engine)) (length (answers_in (compiler (g.R.Runner.meaning dirs limits) dirs) u.engine)))) (λ line scan. refl) (writes_rises (λ u. files_line (length ((compiler (g.R.Runner.meaning dirs limits) dirs).picture u.engine)) (length (answers_in (compiler (g.R.Runner.meaning dirs limits) dirs) u.engine)))) _ (c.in_ok-take_next.ensures.took dirs limits s began at coming))
+    scan_worked g.R.Runner.meaning dirs limits s c.take_next.new.works.engine.core began (counts (g.R.Runner.runs_of c.take_next.new.works.runner) c.take_next.new.steps) (g.S.Source.coming c.take_next.new.source) (g.S.Source.fault_count c.args.site.now.source) (g.S.Source.fault_count c.take_next.new.source) Scan (λ u. writes u (files_line (length ((compiler (g.R.Runner.meaning dirs limits) dirs).picture u.engine)) (length (answers_in (compiler (g.R.Runner.meaning dirs limits) dirs) u.engine)))) (λ line scan. refl) (writes_rises (λ u. files_line (length ((compiler (g.R.Runner.meaning dirs limits) dirs).picture u.engine)) (length (answers_in (compiler (g.R.Runner.meaning dirs limits) dirs) u.engine)))) _ (c.in_ok-take_next.ensures.took dirs limits s began at coming))

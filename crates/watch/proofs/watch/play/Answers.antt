@@ -8,9 +8,6 @@ use Rattle.watch.proofs.watch.play.Goals as goal
 
 pub loop-i-init : goal.loop-i-init
 loop-i-init g c = record {
-  files = c.requires.files;
-  dirs = c.requires.dirs;
-  kept = c.requires.kept;
   knows = c.requires.knows;
   lines = refl;
   out = refl;
@@ -25,7 +22,7 @@ returns-in-Ok-false-clause-ok g c =
     λ dirs limits e ps names is told has. inl (record { many = c.loop-i._i; lines = g.N.Lines.left c.loop-i.lines; played = c.loop-i.invariant.played dirs limits e ps names is told has; line = c.next_line.new.into.items; over = read })
 
 pub returns-in-Err-clause-err : goal.returns-in-Err-clause-err
-returns-in-Err-clause-err g c = λ dirs limits e ps names is told has. (c.loop-i.has_faults, stopped_lines (compiler (g.R.Runner.meaning dirs limits) dirs) dirs limits _ _ _ _ _ _ _ _ _ _ _ c.in-Err.end c.in-Err.ensures.kind (c.loop-i.invariant.played dirs limits e ps names is told has) c.in-Err.ensures.err refl refl)
+returns-in-Err-clause-err g c = λ dirs limits e ps names is told has. stopped_lines (compiler (g.R.Runner.meaning dirs limits) dirs) dirs limits _ _ _ _ _ _ _ _ _ _ _ c.in-Err.end c.in-Err.ensures.kind (c.loop-i.invariant.played dirs limits e ps names is told has) c.in-Err.ensures.err refl refl
 
 pub returns-in-Ok-Quits-clause-ok : goal.returns-in-Ok-Quits-clause-ok
 returns-in-Ok-Quits-clause-ok g c =
@@ -37,39 +34,36 @@ pub returns-in-Ok-SpendsNumbers-clause-err : goal.returns-in-Ok-SpendsNumbers-cl
 returns-in-Ok-SpendsNumbers-clause-err g c =
     let read : NextLine true c.next_line.new.into.items (g.N.Lines.left c.loop-i.lines) (g.N.Lines.left c.next_line.new.lines) = rw c.in-Ok-true.field-0-test at c.in-Ok-true.ensures.ok in
     λ dirs limits e ps names is told has. let played = c.loop-i.invariant.played dirs limits e ps names is told has in
-    (c.work_on.new.has_faults, spent (compiler (g.R.Runner.meaning dirs limits) dirs) dirs limits _ _ _ _ _ _ (g.O.Sink.held c.loop-i.out) _ _ _ _ c.next_line.new.into.items c.work_on.new.text.items played read (rw (c.deref.ensures.value, c.in-Ok-SpendsNumbers.field-0-is) at (c.in-Ok-SpendsNumbers.ensures.went dirs limits played.state _ _ played.at)))
+    (spent (compiler (g.R.Runner.meaning dirs limits) dirs) dirs limits _ _ _ _ _ _ (g.O.Sink.held c.loop-i.out) _ _ _ _ c.next_line.new.into.items c.work_on.new.text.items played read (rw (c.deref.ensures.value, c.in-Ok-SpendsNumbers.field-0-is) at (c.in-Ok-SpendsNumbers.ensures.went dirs limits played.state _ _ played.at)))
 
 pub returns-in-Ok-IsTooMuch-clause-err : goal.returns-in-Ok-IsTooMuch-clause-err
 returns-in-Ok-IsTooMuch-clause-err g c =
     let read : NextLine true c.next_line.new.into.items (g.N.Lines.left c.loop-i.lines) (g.N.Lines.left c.next_line.new.lines) = rw c.in-Ok-true.field-0-test at c.in-Ok-true.ensures.ok in
     λ dirs limits e ps names is told has. let played = c.loop-i.invariant.played dirs limits e ps names is told has in
-    (c.work_on.new.has_faults, exceeded (compiler (g.R.Runner.meaning dirs limits) dirs) dirs limits _ _ _ _ _ _ (g.O.Sink.held c.loop-i.out) _ _ _ _ c.next_line.new.into.items c.work_on.new.text.items played read (rw (c.deref.ensures.value, c.in-Ok-IsTooMuch.field-0-is) at (c.in-Ok-IsTooMuch.ensures.went dirs limits played.state _ _ played.at)))
+    (exceeded (compiler (g.R.Runner.meaning dirs limits) dirs) dirs limits _ _ _ _ _ _ (g.O.Sink.held c.loop-i.out) _ _ _ _ c.next_line.new.into.items c.work_on.new.text.items played read (rw (c.deref.ensures.value, c.in-Ok-IsTooMuch.field-0-is) at (c.in-Ok-IsTooMuch.ensures.went dirs limits played.state _ _ played.at)))
 
 pub returns-in-Err-work_on-clause-err : goal.returns-in-Err-work_on-clause-err
 returns-in-Err-work_on-clause-err g c =
     let read : NextLine true c.next_line.new.into.items (g.N.Lines.left c.loop-i.lines) (g.N.Lines.left c.next_line.new.lines) = rw c.in-Ok-true.field-0-test at c.in-Ok-true.ensures.ok in
     λ dirs limits e ps names is told has. let played = c.loop-i.invariant.played dirs limits e ps names is told has in
-    (c.work_on.new.has_faults, broken (compiler (g.R.Runner.meaning dirs limits) dirs) dirs limits _ _ (g.N.Lines.left c.loop-i.lines) (g.N.Lines.left c.next_line.new.lines) _ _ _ _ _ _ _ c.next_line.new.into.items [] played (0, no_part (g.O.Sink.held c.loop-i.out)) (inr read) (rw c.deref.ensures.value at (c.in-Err-work_on.ensures.cut dirs limits played.state _ _ played.at)) (rw c.deref.ensures.value at (c.in-Err-work_on.ensures.work dirs limits played.state _ played.at.engine played.at.coming)))
+    (broken (compiler (g.R.Runner.meaning dirs limits) dirs) dirs limits _ _ (g.N.Lines.left c.loop-i.lines) (g.N.Lines.left c.next_line.new.lines) _ _ _ _ _ _ _ c.next_line.new.into.items [] played (0, no_part (g.O.Sink.held c.loop-i.out)) (inr read) (rw c.deref.ensures.value at (c.in-Err-work_on.ensures.cut.shelf dirs limits played.state _ _ played.at)) (rw c.deref.ensures.value at (c.in-Err-work_on.ensures.cut.work dirs limits played.state _ played.at.engine played.at.coming)))
 
 pub returns-in-Err-write-clause-err : goal.returns-in-Err-write-clause-err
 returns-in-Err-write-clause-err g c =
     let read : NextLine true c.next_line.new.into.items (g.N.Lines.left c.loop-i.lines) (g.N.Lines.left c.next_line.new.lines) = rw c.in-Ok-true.field-0-test at c.in-Ok-true.ensures.ok in
     λ dirs limits e ps names is told has. let played = c.loop-i.invariant.played dirs limits e ps names is told has in
-    (c.work_on.new.has_faults, stopped_out (compiler (g.R.Runner.meaning dirs limits) dirs) dirs limits _ _ _ _ _ _ _ _ _ _ _ c.in-Err-write.end c.next_line.new.into.items c.work_on.new.text.items c.in-Err-write.ensures.kind played read (rw (c.deref.ensures.value, c.in-Ok-GoesOn.field-0-is) at (c.in-Ok-GoesOn.ensures.went dirs limits played.state _ _ played.at)) (rw c.deref-in-loop-i.ensures.value at c.in-Err-write.ensures.err))
+    (stopped_out (compiler (g.R.Runner.meaning dirs limits) dirs) dirs limits _ _ _ _ _ _ _ _ _ _ _ c.in-Err-write.end c.next_line.new.into.items c.work_on.new.text.items c.in-Err-write.ensures.kind played read (rw (c.deref.ensures.value, c.in-Ok-GoesOn.field-0-is) at (c.in-Ok-GoesOn.ensures.went dirs limits played.state _ _ played.at)) (rw c.deref-in-loop-i.ensures.value at c.in-Err-write.ensures.err))
 
 pub loop-i-preserved : goal.loop-i-preserved
 loop-i-preserved g c =
     let read : NextLine true c.next_line.new.into.items (g.N.Lines.left c.loop-i.lines) (g.N.Lines.left c.next_line.new.lines) = rw c.in-Ok-true.field-0-test at c.in-Ok-true.ensures.ok in
     let whole : Appends (g.O.Sink.held c.loop-i.out) c.work_on.new.text.items (g.O.Sink.held c.write.new.out) = rw c.deref-in-loop-i.ensures.value at c.in-Ok.ensures.ok in
     record {
-      files = c.work_on.ensures.files;
-      dirs = c.work_on.ensures.dirs;
-      kept = c.work_on.ensures.kept;
-      knows = c.in-Ok-GoesOn.ensures.knows;
+      knows = c.in-Ok-GoesOn.ensures.behind.knows;
       lines = c.in-Ok-true.ensures.cause.done ∙ c.loop-i.invariant.lines;
       out = c.in-Ok.ensures.cause.done ∙ c.loop-i.invariant.out;
-      source_opened = c.work_on.ensures.source_opened ∙ c.loop-i.invariant.source_opened;
-      shelf_opened = c.work_on.ensures.shelf_opened ∙ c.loop-i.invariant.shelf_opened;
+      source_opened = c.work_on.ensures.behind.later.source_opened ∙ c.loop-i.invariant.source_opened;
+      shelf_opened = c.work_on.ensures.behind.later.shelf_opened ∙ c.loop-i.invariant.shelf_opened;
       played = λ dirs limits e ps names is told has. let played = c.loop-i.invariant.played dirs limits e ps names is told has in
           one_more (compiler (g.R.Runner.meaning dirs limits) dirs) dirs limits _ _ _ _ _ _ _ _ _ _ _ c.next_line.new.into.items c.work_on.new.text.items played read (rw (c.deref.ensures.value, c.in-Ok-GoesOn.field-0-is) at (c.in-Ok-GoesOn.ensures.went dirs limits played.state _ _ played.at)) whole;
     }
@@ -77,4 +71,4 @@ loop-i-preserved g c =
 pub returns-clause-err : goal.returns-clause-err
 returns-clause-err g c =
     let all : c.loop-i._i ≡ 1000000 = omega (arith, c.loop-i-test.false, c.loop-i.auto._i-end) in
-    λ dirs limits e ps names is told has. (c.loop-i.has_faults, rw all at (c.loop-i.invariant.played dirs limits e ps names is told has))
+    λ dirs limits e ps names is told has. (rw all at (c.loop-i.invariant.played dirs limits e ps names is told has))

@@ -2,6 +2,8 @@ use Rattle.std.proofs.Common.{◌≤◌, refl, sym, subst}
 use Rattle.base.specs.declared.limits.TheConstants.{MAX_OBJECTS}
 use Rattle.rebuild.proofs.Engines.{ready_is}
 use Rattle.rebuild.proofs.Forgetting.{IsForgotten, forgets, still_ready, still_few, still_engine}
+use Rattle.rebuild.proofs.Indexing.{index_forgot}
+use Rattle.read_index.specs.Readers.{asks}
 use Rattle.rebuild.proofs.engine.Engine.forget_runs.Goals as goal
 
 pub invariant_of-self : goal.invariant_of-self
@@ -17,6 +19,7 @@ invariant_of-self g c =
       low = self.low;
       few = subst (λ k. k ≤ MAX_OBJECTS) (sym (still_few m lawful old _ (ready_is old self.ready) f)) self.few;
       reached = still_engine m lawful old _ (ready_is old self.ready) f c.requires self.reached;
+      indexed = index_forgot m old (record old { rows = c.forget_rows.new.rows }) (asks self.index) self.indexed (forgets m lawful old _ (ready_is old self.ready) f);
     }
 
 pub returns-clause-state : goal.returns-clause-state

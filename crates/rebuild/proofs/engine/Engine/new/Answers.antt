@@ -2,6 +2,8 @@ use Rattle.std.proofs.Common.{[], length, subst, sym, ◌≤◌, arith}
 use Rattle.base.specs.declared.limits.TheConstants.{MAX_OBJECTS}
 use Rattle.engine_machine.proofs.RunnerLaws.{laws_of}
 use Rattle.rebuild.proofs.New.{new_reached, situation_is_new, new_is_ready}
+use Rattle.rebuild.proofs.Indexing.{index_new}
+use Rattle.read_index.specs.Readers.{asks}
 use Rattle.rebuild.proofs.engine.Engine.new.Goals as goal
 
 pub invariant_of-result : goal.invariant_of-result
@@ -15,4 +17,5 @@ invariant_of-result g c =
       low = omega arith;
       few = subst (λ rows. length rows ≤ MAX_OBJECTS) (sym c.new-2.ensures.items) (omega arith);
       reached = ∣ new_reached m.build m.check laws _ (situation_is_new c.new.result.items c.new-2.result.items c.new-3.result c.new.ensures.items c.new-2.ensures.items c.new-3.ensures) ∣₁;
+      indexed = index_new _ (asks c.new-4.result) (situation_is_new c.new.result.items c.new-2.result.items c.new-3.result c.new.ensures.items c.new-2.ensures.items c.new-3.ensures) c.new-4.ensures;
     }
