@@ -5,8 +5,9 @@ use Rattle.load_path.specs.FileNames.{is_file_name}
 use Rattle.numbers.specs.Numbers.{number_of}
 use Rattle.command_words.specs.TheCommand.{given_of}
 use Rattle.command_words.specs.declared.commands.Command.{Command}
-use Rattle.command_words.specs.declared.commands.Command.TheVariants.{Build, Watch, Demo}
+use Rattle.command_words.specs.declared.commands.Command.TheVariants.{Build, Watch, Demo, Format}
 use Rattle.command_words.specs.declared.commands.Demonstration.{Demonstration}
+use Rattle.command_words.specs.declared.commands.Pair.{Pair}
 use Rattle.command_words.specs.declared.commands.Work.{Work}
 use Rattle.command_words.specs.declared.limits.TheConstants.{MAX_PARTS, MAX_ITERATIONS, DEFAULT_ITERATIONS, MAX_RECURSION, DEFAULT_RECURSION, MAX_MOST_REMOVED, MAX_MACHINES, MAX_START}
 use Rattle.command_words.specs.declared.words.Words.{Words}
@@ -119,6 +120,20 @@ demonstration_of w = if is_some w.include || is_some w.most_removed then None
     else demonstration_with (number_given 1 MAX_MACHINES w.source)
     (number_given 0 MAX_START w.out) (iterations_of w) (recursion_of w)
 
+-- an option is given
+abbrev pub has_option : Words → Bool
+has_option w = is_some w.include || is_some w.iteration || is_some w.recursion
+    || is_some w.most_removed
+
+abbrev pub pair_with : Option (List ℕ) → Option (List ℕ) → Option Pair
+pair_with None out = None
+pair_with (Some source) None = None
+pair_with (Some source) (Some out) = Some (record { source = source; out = out })
+
+-- what `format` works on: two folders, and it takes no option
+abbrev pub pair_of : Words → Option Pair
+pair_of w = if has_option w then None else pair_with (filled w.source) (filled w.out)
+
 abbrev pub is_word : List ℕ → Option (List ℕ) → Bool
 is_word word None = false
 is_word word (Some given) = bytes_eq given word
@@ -129,6 +144,7 @@ command_by w =
     if is_word (codes "build") w.mode then option_map Build (work_of w)
     else if is_word (codes "watch") w.mode then option_map Watch (work_of w)
     else if is_word (codes "demo") w.mode then option_map Demo (demonstration_of w)
+    else if is_word (codes "format") w.mode then option_map Format (pair_of w)
     else None
 
 abbrev pub command_in : Option Words → Option Command

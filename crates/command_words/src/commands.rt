@@ -2,7 +2,7 @@ ghost use Rattle.std.specs.Prelude.{◌≡◌, ◌<◌, ◌≤◌, ◌+◌, ◌-
 ghost use Rattle.std.specs.Char.{digit_value};
 ghost use Rattle.std.specs.List.{list_all};
 ghost use Rattle.base.specs.Integers.{digits_value};
-ghost use Rattle.command_words.specs.Commands.{number_within, number_given, limit_of, bound_of, is_part, directory_of, parts_of, are_parts, directories_among, directories_of, filled, within, work_of, demonstration_of, is_word, command_by, command_of};
+ghost use Rattle.command_words.specs.Commands.{number_within, number_given, limit_of, bound_of, is_part, directory_of, parts_of, are_parts, directories_among, directories_of, filled, within, work_of, demonstration_of, pair_with, has_option, pair_of, is_word, command_by, command_of};
 
 use crate::limits::{
     DEFAULT_ITERATIONS, DEFAULT_RECURSION, MAX_ITERATIONS, MAX_MACHINES, MAX_MOST_REMOVED,
@@ -43,12 +43,20 @@ pub struct Demonstration {
     pub recursion: u64,
 }
 
+/// What `format` works on.
+#[derive(Debug, Drop)]
+pub struct Pair {
+    pub source: Text,
+    pub out: Text,
+}
+
 /// What the words ask for.
 #[derive(Debug, Drop)]
 pub enum Command {
     Build(Work),
     Watch(Work),
     Demo(Demonstration),
+    Format(Pair),
 }
 
 /// The number of a text, where it is one from `low` to `high`.
@@ -287,6 +295,38 @@ fn read_demonstration(words: &Words) -> Option<Demonstration>
     }
 }
 
+/// Whether an option is given.
+fn has_option(words: &Words) -> bool
+    ensures { result ≡ has_option words.now }
+{
+    words.include.is_some()
+        || words.iteration.is_some()
+        || words.recursion.is_some()
+        || words.most_removed.is_some()
+}
+
+fn pair_with(source: Option<Text>, out: Option<Text>) -> Option<Pair>
+    ensures { result ≡ pair_with source out }
+{
+    let Some(source) = source else {
+        return None;
+    };
+    let Some(out) = out else {
+        return None;
+    };
+    Some(Pair { source, out })
+}
+
+/// What `format` works on, by the values of its words: two folders, and no option.
+fn read_pair(words: Words) -> Option<Pair>
+    ensures { result ≡ pair_of words }
+{
+    if has_option(&words) {
+        return None;
+    }
+    pair_with(filled(words.source), filled(words.out))
+}
+
 fn is_word(word: &str, given: &Option<Text>) -> bool
     ensures { result ≡ is_word word.now given.now }
 {
@@ -318,14 +358,19 @@ fn command_by(alloc: Global, words: Words) -> Result<Option<Command>, AllocError
             None => Ok(None),
         };
     }
+    if is_word("format", &words.mode) {
+        return match read_pair(words) {
+            Some(pair) => Ok(Some(Command::Format(pair))),
+            None => Ok(None),
+        };
+    }
     Ok(None)
 }
 
 /// The command that the words are: `build SOURCE OUT` and `watch SOURCE OUT` with the options `--include`,
-/// `--max-iteration`, `--max-recursion` and `--most-removed`, or `demo COUNT START` with the second and the third; None
-/// where they are none. The words
-/// are read by `clap`. SOURCE and OUT are not empty. COUNT is a number from 1 to `MAX_MACHINES`, START one from 0 to
-/// `MAX_START`.
+/// `--max-iteration`, `--max-recursion` and `--most-removed`, `demo COUNT START` with the second and the third, or
+/// `format SOURCE OUT` with none; None where they are none. The words are read by `clap`. SOURCE and OUT are not empty.
+/// COUNT is a number from 1 to `MAX_MACHINES`, START one from 0 to `MAX_START`.
 #[tactic(auto, unfolding(crate::specs::Commands::command_of))]
 pub fn read_command(alloc: Global, words: &[Text]) -> Result<Option<Command>, AllocError>
     ensures { IfOk result (λ command. command ≡ command_of words.now) }

@@ -3,11 +3,13 @@
 //!
 //! In reading order: `works` (an engine with its runner), `starting` (them before the first picture), `taking` (the source's
 //! next picture), `turning` (turns), `answering` (what is said of a name), `building` (what a build publishes and reports),
-//! `laws` (that the list of a picture's objects is the one that there is).
+//! `impact` (what an edit may change, and what nobody reads), `laws` (that the list of a picture's objects is the one that
+//! there is, and what an edit leaves as it was).
 #![tactic(auto)]
 
 mod answering;
 mod building;
+mod impact;
 mod laws;
 mod starting;
 mod taking;
@@ -16,7 +18,8 @@ mod works;
 
 pub use answering::{deps, push_cause, shown};
 pub use building::{Built, build};
-pub use laws::object_lists;
+pub use impact::{touched, unused};
+pub use laws::{object_lists, untouched_answers};
 pub use starting::{new_works, start};
 pub use taking::{Took, take_next};
 pub use turning::make_turns;

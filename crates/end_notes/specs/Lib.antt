@@ -2,5 +2,5 @@
 pub mod Scan
 pub mod Wrongs
 pub mod Notes
--- The source that the words name.
+-- The source that the words' profiles are made from.
 pub mod Asked

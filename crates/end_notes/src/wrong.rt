@@ -26,6 +26,8 @@ pub enum Wrong {
     BadMode(Text),
     /// SOURCE or OUT is the empty word.
     Empty(Place),
+    /// An option was given to `format`, which takes none.
+    TakesNoOption,
     /// A word is not UTF-8, so the words could not be read.
     NotUtf8,
     /// Something else, as an option that is given twice, or a demo of no machines.
@@ -35,11 +37,11 @@ pub enum Wrong {
 fn is_mode(word: &str) -> bool
     ensures { result ≡ is_mode word.now }
 {
-    word == "build" || word == "watch" || word == "demo"
+    word == "build" || word == "watch" || word == "demo" || word == "format"
 }
 
-fn wrong_pair(source: &str, out: &str) -> Wrong
-    ensures { result ≡ wrong_pair source.now out.now }
+fn wrong_pair(mode: &str, source: &str, out: &str) -> Wrong
+    ensures { result ≡ wrong_pair mode.now source.now out.now }
 {
     if source.is_empty() {
         return Wrong::Empty(Place::Source);
@@ -47,16 +49,19 @@ fn wrong_pair(source: &str, out: &str) -> Wrong
     if out.is_empty() {
         return Wrong::Empty(Place::Out);
     }
+    if mode == "format" {
+        return Wrong::TakesNoOption;
+    }
     Wrong::Otherwise
 }
 
-fn wrong_behind(places: &[Text]) -> Result<Wrong, AllocError>
-    ensures { IfOk result (λ wrong. wrong ≡ wrong_behind places.now) }
+fn wrong_behind(mode: &str, places: &[Text]) -> Result<Wrong, AllocError>
+    ensures { IfOk result (λ wrong. wrong ≡ wrong_behind mode.now places.now) }
 {
     match places {
         [] => Ok(Wrong::Missing(Place::Source)),
         [_] => Ok(Wrong::Missing(Place::Out)),
-        [source, out] => Ok(wrong_pair(source.as_str(), out.as_str())),
+        [source, out] => Ok(wrong_pair(mode, source.as_str(), out.as_str())),
         [_, _, extra, ..] => Ok(Wrong::Extra(extra.share()?)),
     }
 }
@@ -70,11 +75,11 @@ fn wrong_places(places: &[Text]) -> Result<Wrong, AllocError>
     if !is_mode(mode.as_str()) {
         return Ok(Wrong::BadMode(mode.share()?));
     }
-    wrong_behind(places)
+    wrong_behind(mode.as_str(), places)
 }
 
 /// What is wrong with words that are no command: the first word that looks like an option and is none, by itself or with
-/// the next word; else a place that is missing, no mode, too many or empty.
+/// the next word; else a place that is missing, no mode, too many or empty, or an option of `format`.
 pub fn wrong_of(alloc: Global, words: &[Text]) -> Result<Wrong, AllocError>
     ensures { IfOk result (λ wrong. wrong ≡ wrong_of words.now) }
 {

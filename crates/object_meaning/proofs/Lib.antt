@@ -1,1 +1,2 @@
 pub mod BothLawful
+pub mod Looking

@@ -1,5 +1,8 @@
 ghost use Rattle.object_meaning.specs.Meanings.{meaning_of};
 ghost use Rattle.object_meaning.proofs.BothLawful.{is_lawful};
+ghost use Rattle.object_meaning.proofs.Looking.{looks_for_template};
+ghost use Rattle.sound_profiles.specs.Built.{PromisesSound};
+ghost use Rattle.sound_profiles.proofs.Profiles.{builds_by_name, keeps_sound};
 ghost use Rattle.runner.specs.Meaning.{counted};
 ghost use Rattle.std.specs.Prelude.{◌≡◌, []};
 
@@ -55,6 +58,8 @@ impl Runner for Library {
     type Rest = Rest;
 
     ghost meaning = { meaning_of };
+
+    ghost promises = { PromisesSound };
 
     ghost files_of = { λ l. l.picture };
 
@@ -124,4 +129,10 @@ impl Runner for Library {
     }
 
     ghost laws = { is_lawful };
+
+    ghost by_name = { builds_by_name };
+
+    ghost looks = { looks_for_template };
+
+    ghost kept = { keeps_sound };
 }

@@ -85,10 +85,11 @@ fn trouble_notes(rt: &HostRuntime, trouble: Option<&Trouble>) -> Result<Vec<u8>,
     trouble_note(rt.alloc(), trouble.path.as_str(), trouble.reason.as_str())
 }
 
-/// The notes on the faults of a build; nothing where the words are another command.
-fn build_notes(rt: &HostRuntime, words: &[Text], faults: &[Bytes]) -> Result<Vec<u8>, AllocError> {
+/// The notes on the faults of a build, or of a layout; nothing where the words are another command.
+fn report_notes(rt: &HostRuntime, words: &[Text], faults: &[Bytes]) -> Result<Vec<u8>, AllocError> {
     match read_command(rt.alloc(), words)? {
         Some(Command::Build(work)) => fault_notes(rt, work.source.as_str(), faults),
+        Some(Command::Format(pair)) => fault_notes(rt, pair.source.as_str(), faults),
         _ => Ok(Vec::new(rt.alloc())),
     }
 }
@@ -123,7 +124,7 @@ fn notes_on(rt: &HostRuntime, status: Status, told: &Told<'_>) -> Result<Vec<u8>
         (Status::Usage, words) => usage_note(rt.alloc(), &wrong_in(rt, words)?),
         (Status::SourceFault, _) => trouble_notes(rt, told.source),
         (Status::ShelfFault, _) => trouble_notes(rt, told.shelf),
-        (Status::SomeFaults, Some(words)) => build_notes(rt, words, told.faults),
+        (Status::SomeFaults, Some(words)) => report_notes(rt, words, told.faults),
         (Status::TooManyRemovals(removals), Some(words)) => removals_notes(rt, words, removals),
         _ => Ok(Vec::new(rt.alloc())),
     }

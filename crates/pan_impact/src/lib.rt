@@ -12,4 +12,5 @@ mod touching;
 mod unused;
 
 pub use register::{Entry, Register};
+pub use touching::touched_names;
 pub use unused::unused_files;

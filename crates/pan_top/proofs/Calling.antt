@@ -1,13 +1,17 @@
 -- The call of a command, and want of memory before the words were read.
 use Rattle.std.proofs.Common.{◌≡◌, ℕ, List, [], Option, Some, None, inl, inr, refl, subst, codes}
+use Rattle.std.specs.Prelude.{flat_map}
 use Rattle.command_words.specs.declared.commands.Command.{Command}
-use Rattle.command_words.specs.declared.commands.Command.TheVariants.{Build, Watch, Demo}
+use Rattle.command_words.specs.declared.commands.Command.TheVariants.{Build, Watch, Demo, Format}
 use Rattle.compiler.specs.Standing.{Counts}
+use Rattle.format_site.specs.Formats as formats
+use Rattle.format_site.specs.Formats.{formatting_for, BeginsPuts}
 use Rattle.rebuild.specs.Engines.{Meanings}
 use Rattle.session.specs.Sessions.{state_in}
 use Rattle.site_build.specs.Ends.{IsFailureOf, Stopped}
 use Rattle.site_build.specs.declared.ends.Device.TheVariants as D
-use Rattle.publication.specs.Changing.{BegunOver}
+use Rattle.publication.specs.Changing.{BegunOver, putting}
+use Rattle.publication.proofs.Planning.{begun_none}
 use Rattle.site_build.specs.Session.{session_for, state_for}
 use Rattle.site_build.specs.declared.ends.End.TheVariants as E
 use Rattle.site_build.proofs.Ending.{none_of}
@@ -71,6 +75,22 @@ nothing_done M (Some (Watch w)) s = inr (record {
   out_count = uncounted s.out_count;
 })
 nothing_done M (Some (Demo d)) s = record { only = refl; shows = inr (inr refl, none_of (text_after (shown_by M d)) s.held, spent_nothing (state_in (shown_by M d)) s.spent); out_count = uncounted s.out_count }
+nothing_done M (Some (Format p)) s = inr (record {
+  end = E.Memory;
+  is = inl refl;
+  text = if_told (λ ps. Wrote (formatting_for ps).text E.Memory S.Memory s.held s.held) s.coming (λ ps told. (refl, none_of (formatting_for ps).text s.held));
+  shelf = if_told (λ ps. formats.Stopped E.Memory (formatting_for ps).wants s.cell s.cell) s.coming (λ ps told. ([], record { each = λ n closed. inl refl }));
+  order = λ tells. if_told (λ ps. BeginsPuts (formatting_for ps).wants s.cell s.cell s.changes s.changes) s.coming (λ ps told. begun_none (formatting_for ps).wants (flat_map (putting s.cell) (formatting_for ps).wants) s.cell s.cell s.changes s.changes (λ n. refl) refl);
+  spent = refl;
+  taken = inl refl;
+  source_opened = inl refl;
+  shelf_opened = inl refl;
+  source_count = counted_same (IsFailureOf D.Source E.Memory) s.source_count s.source_count refl (λ is. cc);
+  shelf_count = counted_same (IsFailureOf D.Shelf E.Memory) s.shelf_count s.shelf_count refl (λ is. cc);
+  out_count = uncounted s.out_count;
+  lines = refl;
+  lines_count = refl;
+})
 
 -- the call of the command that the words are, by a runner that has made as many runs
 pub called : {T : Type 0} (M : Meanings T) (words : List (List ℕ)) (command : Option Command) (status : Status) (before after : Scene) (spent : Counts) → command ≡ command_of words → spent ≡ before.spent → CallOf M command status (record before { spent = spent }) after → CallOf M (command_of words) status before after

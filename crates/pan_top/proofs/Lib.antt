@@ -3,3 +3,4 @@ pub mod Counting
 pub mod Shown
 pub mod Watched
 pub mod Calling
+pub mod Profiles

@@ -1,11 +1,12 @@
 -- The call of the compiler, by its words.
 use Rattle.std.specs.Prelude.{◌≡◌, Option, Some, None, codes}
 use Rattle.command_words.specs.declared.commands.Command.{Command}
-use Rattle.command_words.specs.declared.commands.Command.TheVariants.{Build, Watch, Demo}
+use Rattle.command_words.specs.declared.commands.Command.TheVariants.{Build, Watch, Demo, Format}
 use Rattle.outside.specs.Causes.{Counted}
 use Rattle.rebuild.specs.Engines.{Meanings}
 use Rattle.pan_top.specs.Builds.{BuildCall}
 use Rattle.pan_top.specs.Demos.{DemoCall}
+use Rattle.pan_top.specs.Formats.{FormatCall}
 use Rattle.site_build.specs.Scenes.{Scene, OnlyWrites}
 use Rattle.pan_top.specs.Statuses.{Says}
 use Rattle.pan_top.specs.Watches.{WatchCall}
@@ -25,3 +26,4 @@ CallOf means None = UsageCall
 CallOf means (Some (Build w)) = BuildCall means w
 CallOf means (Some (Watch w)) = WatchCall means w
 CallOf means (Some (Demo d)) = DemoCall means d
+CallOf means (Some (Format p)) = FormatCall p

@@ -1,7 +1,9 @@
--- What a stranger must believe: the statuses and their lines; how a build, a watcher and a demo end;
--- and the call.
+-- What a stranger must believe: the statuses and their lines; how a build, a watcher, a demo and a
+-- formatting end; the call; and what profiles keep.
 pub mod Statuses
 pub mod Builds
 pub mod Watches
 pub mod Demos
+pub mod Formats
 pub mod Calls
+pub mod Profiles

@@ -26,6 +26,7 @@ pub fn hand_back<R: Runner, S, H, N, O>(
     let Works {
         engine: _engine,
         runner,
+        directories: _directories,
     } = works;
     HandedBack {
         status,

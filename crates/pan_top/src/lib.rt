@@ -1,11 +1,12 @@
-//! The top call of the compiler: it reads the words, and builds, watches or shows the demo.
+//! The top call of the compiler: it reads the words, and builds, watches, shows the demo or lays templates out.
 //!
 //! In reading order: `status` (how a call ends), `handed_back` (what it hands back), `closing` (the line of an end),
-//! `building`, `watching`, `showing` (the demo), `top` (`pan`).
+//! `building`, `watching`, `showing` (the demo), `formatting`, `top` (`pan`).
 #![tactic(auto)]
 
 mod building;
 mod closing;
+mod formatting;
 mod handed_back;
 mod showing;
 mod status;

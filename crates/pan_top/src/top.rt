@@ -1,9 +1,15 @@
+ghost use Rattle.std.specs.Prelude.{◌≤◌, ℕ, List, length};
+ghost use Rattle.asking.specs.declared.limits.TheConstants.{MAX_WORK};
 ghost use Rattle.command_words.specs.Commands.{command_of};
+ghost use Rattle.compiler.specs.Untouched.{LeavesRest};
+ghost use Rattle.pan_ast.specs.declared.work.Limits.{Limits};
 ghost use Rattle.site_build.specs.Scenes.{scene};
 ghost use Rattle.pan_top.specs.Calls.{CallOf};
+ghost use Rattle.pan_top.specs.Profiles.{AreKept};
 
 use crate::building::build;
 use crate::closing::say;
+use crate::formatting::format_templates;
 use crate::handed_back::{HandedBack, hand_back};
 use crate::showing::show;
 use crate::status::Status;
@@ -17,15 +23,8 @@ use site_build::Devices;
 use std::alloc::{AllocError, Global};
 use std::sync::ledger::Ledger;
 
-/// The compiler: compiles the templates of a source into profiles on a shelf and writes a report, once or as lines ask
-/// for it, or shows a demo.
-///
-/// The words are the program's, without its name. Objects are built and checked by the runner, each where the engine
-/// wants it. What the call writes, what it leaves on the shelf and its status are those of the words' session with the
-/// pictures that the source has to give, by what the runner means; a fault of a device, and want of memory, end it early.
-/// The runner and the devices are handed back with the status. `steps` rises by the session's steps: one for each file that is taken, for each item that is compared, and the work of
-/// each run.
-pub fn pan<R: Runner, S: Source, H: Shelf, N: Lines, O: Sink, L: Ledger>(
+/// Carries out the command that the words are.
+fn carry_out<R: Runner, S: Source, H: Shelf, N: Lines, O: Sink, L: Ledger>(
     alloc: Global,
     words: &[Text],
     runner: R,
@@ -48,10 +47,42 @@ pub fn pan<R: Runner, S: Source, H: Shelf, N: Lines, O: Sink, L: Ledger>(
             let status = show(alloc, &demonstration, &mut works, &mut devices.out, steps);
             hand_back(status, works, devices)
         }
+        Ok(Some(Command::Format(pair))) => {
+            let status = format_templates(alloc, &pair, &mut devices);
+            hand_back(status, works, devices)
+        }
         Ok(None) => {
             let status = say(&mut devices.out, b"usage fault\n", Status::Usage);
             hand_back(status, works, devices)
         }
         Err(AllocError) => hand_back(Status::Memory, works, devices),
     }
+}
+
+/// The compiler: compiles the templates of a source into profiles on a shelf and writes a report, once or as lines ask
+/// for it, shows a demo, or puts the layout of the templates on the shelf.
+///
+/// The words are the program's, without its name. Objects are built and checked by the runner, each where the engine
+/// wants it. What the call writes, what it leaves on the shelf and its status are those of the words' session with the
+/// pictures that the source has to give, by what the runner means; a fault of a device, and want of memory, end it early.
+/// Each profile keeps what the runner's checks promise (`profiles`), and an edit of one file changes no answer but those
+/// of the objects that a watcher's `impact` names (`edits`).
+///
+/// The runner and the devices are handed back with the status. `steps` rises by the session's steps: one for each file that is taken, for each item that is compared, and the work of
+/// each run.
+pub fn pan<R: Runner, S: Source, H: Shelf, N: Lines, O: Sink, L: Ledger>(
+    alloc: Global,
+    words: &[Text],
+    runner: R,
+    devices: Devices<S, H, N, O>,
+    steps: &mut Steps<L>,
+) -> HandedBack<R, S, H, N, O>
+    ensures call { CallOf R.meaning (command_of words.now) result.status
+        (scene R.Runner S.Source H.Shelf N.Lines O.Sink runner devices steps.old)
+        (scene R.Runner S.Source H.Shelf N.Lines O.Sink result.runner result.devices steps.new) }
+    ensures profiles { AreKept R.meaning R.promises }
+    ensures edits { (dirs : List (List ℕ)) (limits : Limits) → length dirs ≤ MAX_WORK
+        → LeavesRest (R.meaning dirs limits) dirs }
+{
+    carry_out(alloc, words, runner, devices, steps)
 }

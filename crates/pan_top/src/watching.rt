@@ -147,6 +147,7 @@ fn play_all<R: Runner, S: Source, H: Shelf, N: Lines, O: Sink, L: Ledger>(
     let Works {
         engine: _engine,
         runner,
+        directories: _directories,
     } = works;
     let devices = Devices {
         source,
@@ -184,6 +185,7 @@ pub fn watch<R: Runner, S: Source, H: Shelf, N: Lines, O: Sink, L: Ledger>(
             let Works {
                 engine: _engine,
                 runner,
+                directories: _directories,
             } = works;
             return HandedBack {
                 status,
@@ -197,6 +199,7 @@ pub fn watch<R: Runner, S: Source, H: Shelf, N: Lines, O: Sink, L: Ledger>(
         let Works {
             engine: _engine,
             runner,
+            directories: _directories,
         } = works;
         return HandedBack {
             status,

@@ -10,10 +10,9 @@ use Rattle.outside.specs.declared.shelf.Change.{Change}
 use Rattle.outside.specs.declared.shelf.Change.TheVariants.{Put, Removed}
 use Rattle.publication.specs.declared.want.Want.{Want}
 use Rattle.publication.specs.OwnNames.{is_own}
-use Rattle.publication.specs.Wants.{goes, wanted, proper}
+use Rattle.publication.specs.Wants.{goes, wanted}
 use Rattle.publication.specs.Halves.{swept}
 use Rattle.publication.specs.Changing.{holds, removal, putting, name_of, is_changed, is_next, done, stand, Made, Begun, Tells}
-use Rattle.publication.proofs.Proper.{proper_once}
 
 pub done_none : (before : Option (List Change)) → before ≡ done before []
 done_none None = refl
@@ -123,20 +122,20 @@ pub record Pending (ws rest : List Want) (made : List Change) : Type 0 where
 pub first_wanted : (w : Want) (rest : List Want) → wanted (w ∷ rest) w.name ≡ Some w.bytes
 first_wanted w rest = rw ((bytes_eq-Decides w.name w.name).1 refl) refl
 
-beside_by : (w : Want) (rest : List Want) (n : List ℕ) (b : Bool) → proper (w ∷ rest) ≡ true → is_some (wanted rest n) ≡ true → bytes_eq w.name n ≡ b → b ≡ false
+beside_by : (w : Want) (rest : List Want) (n : List ℕ) (b : Bool) → wanted rest w.name ≡ None → is_some (wanted rest n) ≡ true → bytes_eq w.name n ≡ b → b ≡ false
 beside_by w rest n true ok some is =
-    let none : wanted rest n ≡ None = ap (wanted rest) (sym ((bytes_eq-Decides w.name n).0 is)) ∙ proper_once w rest ok in
+    let none : wanted rest n ≡ None = ap (wanted rest) (sym ((bytes_eq-Decides w.name n).0 is)) ∙ ok in
     let e : true ≡ false = sym some ∙ ap is_some none in cc
 beside_by w rest n false ok some is = refl
 
-beside : (w : Want) (rest : List Want) (n : List ℕ) → proper (w ∷ rest) ≡ true → is_some (wanted rest n) ≡ true → bytes_eq w.name n ≡ false
+beside : (w : Want) (rest : List Want) (n : List ℕ) → wanted rest w.name ≡ None → is_some (wanted rest n) ≡ true → bytes_eq w.name n ≡ false
 beside w rest n ok some = beside_by w rest n (bytes_eq w.name n) ok some refl
 
 put_beside : (h : Bool) (w : Want) (n : List ℕ) → bytes_eq w.name n ≡ false → is_changed n (if h then [] else Put w.name ∷ []) ≡ false
 put_beside true w n other = refl
 put_beside false w n other = rw other refl
 
-pub pending_on : (cell : List ℕ → Cell) (ws rest : List Want) (w : Want) (made : List Change) → proper (w ∷ rest) ≡ true → Pending ws (w ∷ rest) made → Pending ws rest (made ++ putting cell w)
+pub pending_on : (cell : List ℕ → Cell) (ws rest : List Want) (w : Want) (made : List Change) → wanted rest w.name ≡ None → Pending ws (w ∷ rest) made → Pending ws rest (made ++ putting cell w)
 pending_on cell ws rest w made ok p = record {
   fresh = λ n some.
       let other = beside w rest n ok some in
@@ -171,7 +170,7 @@ pub did_as : (now : List ℕ → Cell) (log last : Option (List Change)) (name n
 did_as now log last name name' bytes bytes' en eb d = subst (λ b. Did now log last name' b) eb (subst (λ m. Did now log last m bytes) en d)
 
 -- one more wanted file was brought
-pub place_on : (ws earlier rest : List Want) (w : Want) (start now new : List ℕ → Cell) (before log last : Option (List Change)) → Tells start → proper (w ∷ rest) ≡ true → Pending ws (w ∷ rest) (flat_map (putting start) earlier) → Made ws (flat_map (putting start) earlier) start now before log → Sets now w.name (Some w.bytes) new → IfSome (now w.name) (λ content. last ≡ done log (if holds w.bytes (Some content) then [] else Put w.name ∷ [])) → Made ws (flat_map (putting start) (earlier ++ w ∷ [])) start new before last
+pub place_on : (ws earlier rest : List Want) (w : Want) (start now new : List ℕ → Cell) (before log last : Option (List Change)) → Tells start → wanted rest w.name ≡ None → Pending ws (w ∷ rest) (flat_map (putting start) earlier) → Made ws (flat_map (putting start) earlier) start now before log → Sets now w.name (Some w.bytes) new → IfSome (now w.name) (λ content. last ≡ done log (if holds w.bytes (Some content) then [] else Put w.name ∷ [])) → Made ws (flat_map (putting start) (earlier ++ w ∷ [])) start new before last
 place_on ws earlier rest w start now new before log last told ok p made sets did =
     let here : is_some (wanted (w ∷ rest) w.name) ≡ true = ap is_some (first_wanted w rest) in
     let want : wanted ws w.name ≡ Some w.bytes = p.same w.name here ∙ first_wanted w rest in

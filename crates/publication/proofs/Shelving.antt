@@ -18,7 +18,7 @@ use Rattle.publication.specs.Leavings.{Leaves, Left, IsEndAt}
 use Rattle.publication.specs.Listings.{Lists}
 use Rattle.publication.specs.Stands.{Meets, untouched}
 use Rattle.publication.specs.Troubles.{published}
-use Rattle.publication.proofs.Proper.{proper_own, proper_rest, proper_once}
+use Rattle.publication.proofs.Proper.{proper_own, proper_rest}
 use Rattle.publication.proofs.Tells.{apart}
 
 -- A step that is a part of what is left leads on, and each name stands as at the start or as in the end.
@@ -104,8 +104,8 @@ place_either : (b : Bool) (bytes : List ℕ) (rest : Option (List ℕ)) (c : Cel
 place_either true bytes rest c = inr refl
 place_either false bytes rest c = inl refl
 
-pub place_step : (w : Want) (ws : List Want) (target start now new : List ℕ → Cell) → proper (w ∷ ws) ≡ true → Underway (placed (w ∷ ws)) target start now → Sets now w.name (Some w.bytes) new → Underway (placed ws) target start new
-place_step w ws target start now new ok u made = going_on (placed (w ∷ ws)) (placed ws) (λ n c. if bytes_eq w.name n then with_content (Some w.bytes) c else c) target start now new (λ n c. place_twice (bytes_eq w.name n) w.bytes (wanted ws n) c (λ same. ap (wanted ws) (sym ((bytes_eq-Decides w.name n).0 same)) ∙ proper_once w ws ok)) (λ n c. place_either (bytes_eq w.name n) w.bytes (wanted ws n) c) u made
+pub place_step : (w : Want) (ws : List Want) (target start now new : List ℕ → Cell) → wanted ws w.name ≡ None → Underway (placed (w ∷ ws)) target start now → Sets now w.name (Some w.bytes) new → Underway (placed ws) target start new
+place_step w ws target start now new ok u made = going_on (placed (w ∷ ws)) (placed ws) (λ n c. if bytes_eq w.name n then with_content (Some w.bytes) c else c) target start now new (λ n c. place_twice (bytes_eq w.name n) w.bytes (wanted ws n) c (λ same. ap (wanted ws) (sym ((bytes_eq-Decides w.name n).0 same)) ∙ ok)) (λ n c. place_either (bytes_eq w.name n) w.bytes (wanted ws n) c) u made
 
 pub wanted_own : (ws : List Want) (n : List ℕ) → proper ws ≡ true → is_own n ≡ false → wanted ws n ≡ None
 wanted_own [] n ok other = refl

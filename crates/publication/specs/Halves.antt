@@ -6,6 +6,7 @@ use Rattle.publication.specs.declared.want.Want.{Want}
 use Rattle.publication.specs.declared.until_failure.PublishError.{PublishError}
 use Rattle.publication.specs.declared.until_failure.PublishError.TheVariants.{Failed, Memory}
 use Rattle.publication.specs.OwnNames.{is_own, is_file_of}
+pub use Rattle.publication.specs.Puts.{put_where, placed}
 use Rattle.publication.specs.Wants.{wanted, goes}
 
 -- both halves
@@ -20,14 +21,6 @@ swept m ws n c = if goes ws m then (if bytes_eq m n then with_content None c els
 abbrev pub cleared : List (List ℕ) → List Want → List ℕ → Cell → Cell
 cleared names ws n c =
     if list_any (λ m. bytes_eq m n) names && goes ws n then with_content None c else c
-
-abbrev pub put_where : Option (List ℕ) → Cell → Cell
-put_where None c = c
-put_where (Some b) c = with_content (Some b) c
-
--- the second half: each wanted name gets its bytes
-abbrev pub placed : List Want → List ℕ → Cell → Cell
-placed ws n c = put_where (wanted ws n) c
 
 -- It ended early: but for names that are open, each own name is as it was or as it will be. All
 -- others are as they were.

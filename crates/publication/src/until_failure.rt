@@ -21,7 +21,7 @@ ghost use Rattle.publication.specs.declared.want.Want.{Want};
 use crate::answer::{Publication, is_within};
 use crate::own_name::{is_own, object_of};
 use crate::profile::Profile;
-use crate::reading::holds;
+use crate::puts::put_one;
 use crate::want::{Want, wants};
 use base::{Seq, Text};
 use outside::{Shelf, StoreError};
@@ -88,12 +88,7 @@ fn bring<H: Shelf>(
 {
     // (ahead of the calls, so that one that fails has its object where memory is wanting then)
     let object = object_of(alloc, name)?;
-    match holds(shelf, name, bytes, held) {
-        Ok(true) => return Ok(()),
-        Ok(false) => {}
-        Err(error) => return Err(ended(error, object)),
-    }
-    match shelf.put(name, bytes) {
+    match put_one(shelf, name, bytes, held) {
         Ok(()) => Ok(()),
         Err(error) => Err(ended(error, object)),
     }

@@ -1,4 +1,6 @@
--- How runs end; what they are told; what a runner means, and the laws of that.
+-- How runs end; what they are told; what a runner means, and the laws of that; where builds look for
+-- templates.
 pub mod Ends
 pub mod Words
 pub mod Meaning
+pub mod Looking

@@ -1,6 +1,6 @@
 -- What a runner's builds and checks ask and give, and their laws.
-use Rattle.std.specs.Prelude.{ℕ, ◌+◌, List, [], cond, nat_lt}
-use Rattle.asking.specs.Asked.{Answer, Word, Ran, ran, told_in}
+use Rattle.std.specs.Prelude.{◌≡◌, ℕ, ◌+◌, List, [], Ok, cond, nat_lt}
+use Rattle.asking.specs.Asked.{Answer, Ends, Word, Ran, ran, told_in}
 use Rattle.questions.specs.declared.key.Key.{Key}
 use Rattle.questions.specs.Contents.{Content}
 use Rattle.questions.specs.Laws.{MayAsk}
@@ -36,6 +36,11 @@ pub record IsLawful {T : Type 0} (m : Meaning T) : Type 0 where
       (m.build_work object)
   pub checks : (built : Built T) → RunLaws (MayAsk built.object) is_circular_verdict (m.check built)
       (m.check_work built)
+
+-- what a build makes is of the object that it builds
+abbrev pub BuildsByName : {T : Type 0} → Meaning T → Type 0
+BuildsByName {T} m = (object : List ℕ) (asked : List (Key × Content)) (b : Built T)
+    → m.build object asked ≡ Ends (Ok b) → b.object ≡ object
 
 abbrev pub last_count : ℕ
 last_count = 18446744073709551615

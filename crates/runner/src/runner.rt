@@ -16,18 +16,26 @@ use std::sync::ledger::Ledger;
 ///
 /// A runner answers by its meaning alone: what a build and a check ask and give is a function of the directories, the
 /// limits, the object's name or what was built, and of the answers so far. Whoever uses a runner knows nothing of that
-/// meaning but its laws.
+/// meaning but its laws, and what a check that gives no fault promises.
 pub trait Runner {
-    ghost use Rattle.std.specs.Prelude.{ℕ, List};
+    ghost use Rattle.std.specs.Prelude.{ℕ, List, None};
+    ghost use Rattle.asking.specs.Asked.{Ends};
     ghost use Rattle.load_path.specs.declared.picture.PictureFile.{PictureFile};
     ghost use Rattle.pan_ast.specs.declared.work.Limits.{Limits};
-    ghost use Rattle.runner.specs.Meaning.{Meaning, IsLawful};
+    ghost use Rattle.questions.specs.Contents.{Content};
+    ghost use Rattle.questions.specs.declared.key.Key.{Key};
+    ghost use Rattle.runner.specs.Looking.{LooksForTemplates};
+    ghost use Rattle.runner.specs.Meaning.{Meaning, IsLawful, BuildsByName};
+    ghost use Rattle.runner.specs.declared.ends.Built.{Built};
 
     /// What a build makes besides the tree, for the check.
     type Rest: Drop;
 
     /// What builds and checks ask and give, by directories and limits.
     ghost meaning: { List (List ℕ) → Limits → Meaning Self.Rest };
+
+    /// What a check that gives no fault promises of what was built, where files and other objects have these contents.
+    ghost promises: { List (List ℕ) → Limits → Built Self.Rest → List (Key × Content) → Type 0 };
 
     /// The files of the picture, the directories, and the count of runs.
     ghost files_of: { Self → List PictureFile };
@@ -100,4 +108,16 @@ pub trait Runner {
     /// The laws of builds and checks: a key is asked once, each question costs a step, the work of a run is bounded, and
     /// an object whose chain of reads never ends has the fault of a circular object.
     ghost laws: { (dirs : List (List ℕ)) (limits : Limits) → IsLawful (meaning dirs limits) };
+
+    /// What a build makes is of the object that it builds.
+    ghost by_name: { (dirs : List (List ℕ)) (limits : Limits) → BuildsByName (meaning dirs limits) };
+
+    /// The build of an object looks for its own template in the directories.
+    ghost looks: { (dirs : List (List ℕ)) (limits : Limits)
+        → LooksForTemplates (meaning dirs limits) dirs };
+
+    /// A check that ends without a fault keeps its promise.
+    ghost kept: { (dirs : List (List ℕ)) (limits : Limits) (b : Built Self.Rest)
+        (pairs : List (Key × Content)) → (meaning dirs limits).check b pairs ≡ Ends None
+        → promises dirs limits b pairs };
 }

@@ -46,6 +46,18 @@ changing_text : written (reached toy changing (started new_toy sites [])) ≡ So
 unfolding digits
 changing_text = refl
 
+-- which objects a file may change, and which files nobody reads
+abbrev looking : List Round
+looking = plain (codes "impact h.pan") ∷ plain (codes "unused") ∷ plain (codes "scan") ∷ plain (codes "impact h.pan") ∷ plain (codes "unused") ∷ plain (codes "turn 4") ∷ plain (codes "impact site/h.pan")
+    ∷ plain (codes "impact other.pan") ∷ plain (codes "unused") ∷ plain (codes "impact /h.pan") ∷ plain (codes "impact ") ∷ plain (codes "unused ") ∷ []
+
+with_old : List (List MemFile)
+with_old = (file (codes "h.pan") (codes "object template h;\n'/v' = 1;\n") ∷ file (codes "old.pan") (codes "template old;\n") ∷ []) ∷ []
+
+looking_text : written (reached toy looking (started new_toy with_old [])) ≡ Some (codes "end\nend\nfiles 2 objects 1\npending\npending\nturns 4 left 0\ntouches h\nend\nend\nunused old.pan\nend\nbad line\nbad line\nbad line\n")
+unfolding digits with_old
+looking_text = refl
+
 -- a scan that breaks off, and a put that fails and is made again
 abbrev pictures : List (List MemFile)
 pictures = picture (codes "1") ∷ picture (codes "1") ∷ picture (codes "2") ∷ picture (codes "2") ∷ [] where

@@ -26,12 +26,13 @@ use Rattle.validate.specs.Steady.{Agrees, IsSteady}
 use Rattle.validate.proofs.Sound.{checks_soundness}
 use Rattle.runner.specs.declared.ends.Built.{Built}
 use Rattle.runner.specs.Ends.{End, Verdict}
+use Rattle.runner.specs.Meaning.{BuildsByName}
 use Rattle.template_meaning.specs.Program.{Site, Program}
 use Rattle.object_meaning.specs.Rest.{Rest}
 use Rattle.object_meaning.specs.Builds.{site_at, build_ending, build_told}
 use Rattle.object_meaning.specs.Checks.{around_built, means_of, check_run, check_ending, check_told}
 use Rattle.object_meaning.specs.Meanings.{meaning_of}
-use Rattle.sound_profiles.specs.Built.{told_whole, IsSoundBuilt}
+use Rattle.sound_profiles.specs.Built.{told_whole, IsSoundBuilt, PromisesSound}
 use Rattle.sound_profiles.proofs.Steady.{Alike}
 use Rattle.sound_profiles.proofs.SteadyLeaves.{look_at_steady}
 use Rattle.sound_profiles.proofs.SteadyCreate.{dml_steady}
@@ -118,7 +119,14 @@ built_object site (Returned t s m) b e = same_object _ b e
 built_object site (Failed f m) b e = let clash : ◌≡◌ {A = Answer Key (End Rest)} (Ends (Err f)) (Ends (Ok b)) = e in cc
 built_object site (Asks k m) b e = let clash : ◌≡◌ {A = Answer Key (End Rest)} (asked.Asks k) (Ends (Ok b)) = e in cc
 
+-- the promise of a runner
+
+pub builds_by_name : (dirs : List (List ℕ)) (limits : Limits) → BuildsByName (meaning_of dirs limits)
+builds_by_name dirs limits object asked b done = built_object (site_at dirs limits object) (build_told (site_at dirs limits object) asked) b done
+
+pub keeps_sound : (dirs : List (List ℕ)) (limits : Limits) (b : Built Rest) (pairs : List (Key × Content)) → (meaning_of dirs limits).check b pairs ≡ Ends None → PromisesSound dirs limits b pairs
+keeps_sound dirs limits b pairs none = ((check_tells dirs limits b pairs).0 none).0
+
 pub profiles_sound : (dirs : List (List ℕ)) (limits : Limits) (object : List ℕ) (b : Built Rest) (build_pairs check_pairs : List (Key × Content)) → (meaning_of dirs limits).build object build_pairs ≡ Ends (Ok b) → (meaning_of dirs limits).check b check_pairs ≡ Ends None → IsSoundBuilt (site_at dirs limits object) b check_pairs
 profiles_sound dirs limits object b build_pairs check_pairs done none =
-    let is : b.object ≡ object = built_object (site_at dirs limits object) (build_told (site_at dirs limits object) build_pairs) b done in
-    subst (λ o. IsSoundBuilt (site_at dirs limits o) b check_pairs) is ((check_tells dirs limits b check_pairs).0 none).0
+    subst (λ o. IsSoundBuilt (site_at dirs limits o) b check_pairs) (builds_by_name dirs limits object build_pairs b done) (keeps_sound dirs limits b check_pairs none)

@@ -5,16 +5,20 @@ ghost use Rattle.publication.specs.Wants.{wants_of};
 ghost use Rattle.rebuild.specs.Engines.{turns_left_of};
 ghost use Rattle.session.specs.Orders as orders;
 ghost use Rattle.session.specs.Orders.{order_of};
-ghost use Rattle.session.specs.Sessions.{answers_in, deps_of, profiles_of, shown_of};
-ghost use Rattle.session.specs.Texts.{about, outcome_text, deps_text};
+ghost use Rattle.session.specs.Sessions.{answers_in, deps_of, profiles_of, shown_of, touched_of, unused_of};
+ghost use Rattle.session.specs.Texts.{about, outcome_text, deps_text, touched_text, unused_text};
 ghost use Rattle.watch.specs.Sites.{Goes, IsBehind, IsBroken, IsCut, IsLater, Spends, spot_of};
 ghost use Rattle.watch.specs.Steps.{Publishes};
 
 use crate::reading::{Order, read_order};
 use crate::site::Site;
-use crate::texts::{push_deps, push_files, push_publication, push_shown, push_turns};
+use crate::texts::{
+    push_deps, push_files, push_publication, push_shown, push_touched, push_turns, push_unused,
+};
 use base::Steps;
-use compiler::{Took, Works, build, deps, make_turns, push_cause, shown, take_next};
+use compiler::{
+    Took, Works, build, deps, make_turns, push_cause, shown, take_next, touched, unused,
+};
 use outside::{Shelf, Source};
 use publication::Publisher;
 use runner::Runner;
@@ -155,6 +159,31 @@ fn deps_line<R: Runner>(
     push_deps(text, &deps(alloc, works, name)?)
 }
 
+/// `impact FILE`
+fn impact_line<R: Runner>(
+    alloc: Global,
+    works: &Works<R>,
+    file: &str,
+    text: &mut Vec<u8>,
+) -> Result<(), AllocError>
+    ensures { OnOk result (text.new.items ≡ text.old.items ++ touched_text (touched_of (machine_in
+        R.meaning works.now.engine.core) file.now (compiled_in works.now.engine.core))) }
+{
+    push_touched(text, &touched(alloc, works, file)?)
+}
+
+/// `unused`
+fn unused_line<R: Runner>(
+    alloc: Global,
+    works: &Works<R>,
+    text: &mut Vec<u8>,
+) -> Result<(), AllocError>
+    ensures { OnOk result (text.new.items ≡ text.old.items ++ unused_text (unused_of (machine_in
+        R.meaning works.now.engine.core) (compiled_in works.now.engine.core))) }
+{
+    push_unused(text, &unused(alloc, works)?)
+}
+
 /// A line that is no order of a watcher.
 fn bad_line(text: &mut Vec<u8>) -> Result<(), AllocError>
     ensures { OnOk result (text.new.items ≡ text.old.items ++ codes "bad line\n") }
@@ -234,6 +263,8 @@ pub fn work_on<R: Runner, S: Source, H: Shelf, L: Ledger>(
         Order::Show(name) => show_line(alloc, &site.works, name, text)?,
         Order::Why(name) => push_cause(text, &site.works, name)?,
         Order::Deps(name) => deps_line(alloc, &site.works, name, text)?,
+        Order::Impact(file) => impact_line(alloc, &site.works, file, text)?,
+        Order::Unused => unused_line(alloc, &site.works, text)?,
         Order::BadLine => bad_line(text)?,
     }
     Ok(Step::GoesOn)

@@ -29,7 +29,7 @@ work_left came.Done v left items = refl
 work_left (came.Failed f) v left items = refl
 work_left (came.Waits p) v left items = refl
 
-module _ (picture : List PictureFile) (numbers : List ℕ → ℕ) (objects : List ℕ → List Term → Option (ℕ × Option Plain)) where
+module _ (picture : List PictureFile) (numbers : List ℕ → ℕ) (objects : List ℕ → List Term → Option (ℕ × Option Plain)) (dirs : List (List ℕ)) where
   abbrev tells : Key → Word Content
   tells = words picture numbers objects
 
@@ -41,9 +41,9 @@ module _ (picture : List PictureFile) (numbers : List ℕ → ℕ) (objects : Li
       at None e = refl
       at (Some q) e = absurd (let clash : ◌≡◌ {A = Option Content} (Some _) None = e in cc)
 
-  module _ (own : List ℕ) (side : Side) (x : Came) (v : Plain) (left : ℕ) (items : List Item) (is : outcome_of x v (meter_of left items) ≡ object_run own (action_of side) (answers_of tells) undef whole) (are : AreNumbered tells items) where
+  module _ (own : List ℕ) (side : Side) (x : Came) (v : Plain) (left : ℕ) (items : List Item) (is : outcome_of x v (meter_of left items) ≡ object_run dirs own (action_of side) (answers_of tells) undef whole) (are : AreNumbered tells items) where
     stops : {R : Type 0} → (p : List ℕ) → x ≡ came.Waits p → ◌≡◌ {A = Ran Key R} (stopped (tells (Under p []))) (Stops p)
-    stops p e = waits_for p (asks_unknown (MayAsk own) (object_run own (action_of side)) (object_lawful own (action_of side)) (answers_of tells) undef whole (Under p []) (meter_of left items) (sym is ∙ ap (λ y. outcome_of y v (meter_of left items)) e))
+    stops p e = waits_for p (asks_unknown (MayAsk own) (object_run dirs own (action_of side)) (object_lawful dirs own (action_of side)) (answers_of tells) undef whole (Under p []) (meter_of left items) (sym is ∙ ap (λ y. outcome_of y v (meter_of left items)) e))
 
     built_at : (y : Came) → x ≡ y → ran_by tells (build_ending own) (outcome_of y v (meter_of left items)) ≡ build_ran (build_end_of y v items own)
     built_at came.Done e = ap (λ xs. Finished xs (Ok (built_with own v))) (sym are)
@@ -55,29 +55,29 @@ module _ (picture : List PictureFile) (numbers : List ℕ → ℕ) (objects : Li
     checked_at (came.Failed f) e = ap (λ xs. Finished xs (Some f)) (sym are)
     checked_at (came.Waits p) e = stops p e
 
-    work_at : work_of (object_run own (action_of side) (answers_of tells) undef whole) ≡ 2000000 - left
+    work_at : work_of (object_run dirs own (action_of side) (answers_of tells) undef whole) ≡ 2000000 - left
     work_at = ap work_of (sym is) ∙ work_left x v left items
 
-  module _ (own : List ℕ) (x : Came) (v : Plain) (left : ℕ) (items : List Item) (is : outcome_of x v (meter_of left items) ≡ object_run own (action_of Build) (answers_of tells) undef whole) (are : AreNumbered tells items) where
-    pub build_is : build_run meaning own tells ≡ build_ran (build_end_of x v items own)
+  module _ (own : List ℕ) (x : Came) (v : Plain) (left : ℕ) (items : List Item) (is : outcome_of x v (meter_of left items) ≡ object_run dirs own (action_of Build) (answers_of tells) undef whole) (are : AreNumbered tells items) where
+    pub build_is : build_run (meaning dirs) own tells ≡ build_ran (build_end_of x v items own)
     build_is =
-        ran_is (MayAsk own) (object_run own (action_of Build)) undef (build_ending own) (object_lawful own (action_of Build)) tells
+        ran_is (MayAsk own) (object_run dirs own (action_of Build)) undef (build_ending own) (object_lawful dirs own (action_of Build)) tells
         ∙ ap (ran_by tells (build_ending own)) (sym is)
         ∙ built_at own Build x v left items is are x refl
 
-    pub build_work : 2000000 - left ≡ build_steps meaning own tells
+    pub build_work : 2000000 - left ≡ build_steps (meaning dirs) own tells
     build_work =
         sym (work_at own Build x v left items is are)
-        ∙ work_is (MayAsk own) (object_run own (action_of Build)) undef (build_ending own) (object_lawful own (action_of Build)) tells
+        ∙ work_is (MayAsk own) (object_run dirs own (action_of Build)) undef (build_ending own) (object_lawful dirs own (action_of Build)) tells
 
-  module _ (built : Built (Unit {0})) (x : Came) (v : Plain) (left : ℕ) (items : List Item) (is : outcome_of x v (meter_of left items) ≡ object_run built.object (action_of Check) (answers_of tells) undef whole) (are : AreNumbered tells items) where
-    pub check_is : check_run meaning built tells ≡ check_ran (check_end_of x items)
+  module _ (built : Built (Unit {0})) (x : Came) (v : Plain) (left : ℕ) (items : List Item) (is : outcome_of x v (meter_of left items) ≡ object_run dirs built.object (action_of Check) (answers_of tells) undef whole) (are : AreNumbered tells items) where
+    pub check_is : check_run (meaning dirs) built tells ≡ check_ran (check_end_of x items)
     check_is =
-        ran_is (MayAsk built.object) (object_run built.object (action_of Check)) undef check_ending (object_lawful built.object (action_of Check)) tells
+        ran_is (MayAsk built.object) (object_run dirs built.object (action_of Check)) undef check_ending (object_lawful dirs built.object (action_of Check)) tells
         ∙ ap (ran_by tells check_ending) (sym is)
         ∙ checked_at built.object Check x v left items is are x refl
 
-    pub check_work : 2000000 - left ≡ check_steps meaning built tells
+    pub check_work : 2000000 - left ≡ check_steps (meaning dirs) built tells
     check_work =
         sym (work_at built.object Check x v left items is are)
-        ∙ work_is (MayAsk built.object) (object_run built.object (action_of Check)) undef check_ending (object_lawful built.object (action_of Check)) tells
+        ∙ work_is (MayAsk built.object) (object_run dirs built.object (action_of Check)) undef check_ending (object_lawful dirs built.object (action_of Check)) tells

@@ -1,5 +1,5 @@
 -- Keys keep their numbers.
-use Rattle.std.proofs.Common.{◌≡◌, ◌∙◌, ap, sym, refl, ℕ, List, [], ◌∷◌, ◌++◌, Bool, true, false, Option, Some, None, Result, Ok, Err, OnOk, cond, map, not, nat_eq, ◌-◌}
+use Rattle.std.proofs.Common.{◌≡◌, ◌∙◌, ap, sym, refl, ℕ, List, [], ◌∷◌, ◌++◌, Bool, true, false, Option, Some, None, is_some, option_copied, Bor, Result, Ok, Err, OnOk, cond, map, not, nat_eq, ◌-◌}
 use Rattle.std.proofs.lemmas.List.{map-append}
 use Rattle.path_tree.specs.Plain.{Plain}
 use Rattle.questions.specs.declared.key.Key.{Key}
@@ -9,9 +9,11 @@ use Rattle.asking.specs.Asked.{Word, Tells}
 use Rattle.questions.specs.Told.{number_of, numbered, content_of, answers_of}
 use Rattle.read_sets.specs.declared.trace.Item.{Item}
 use Rattle.read_sets.specs.Items.{key_of, pair_of, keys_in}
-use Rattle.runner.specs.Words.{object_word, object_content}
+use Rattle.load_path.specs.declared.picture.Content.{Content as FileContent}
+use Rattle.load_path.specs.declared.picture.Content.TheVariants as file
+use Rattle.runner.specs.Words.{object_word, object_content, file_content}
 use Rattle.written_runner.specs.Traces.{with_item, with_told, AreNumbered, meter_of}
-use Rattle.written_runner.specs.Written.{object_asked, file_asked}
+use Rattle.written_runner.specs.Written.{is_there, object_asked, file_asked, first_asked}
 use Rattle.pan_ast.specs.declared.place.Place.{Place}
 use Rattle.questions.specs.Run.{Run, Meter, then, ◌>>=◌, stepped, answered, ask}
 
@@ -61,6 +63,32 @@ file_goes_on p go file tells n d v left items some is =
     ap (λ b. then (stepped b p v (meter_of left items)) (λ _. (ask k >>= go) o)) some
     ∙ ap (λ w. then (answered (content_of w) k v m) (λ c. go c o)) is
     ∙ ap (λ ks. go d o v (record { left = left - 1; asked = ks })) (sym (keys_with k n items))
+
+-- the first of some files is asked for
+
+there_is : (c : Option FileContent) → is_there (file_content c) ≡ is_some c
+there_is None = refl
+there_is (Some file.TooLong) = refl
+there_is (Some (file.Bytes bs)) = refl
+
+module _ (p : Place) (go : Content → Run Plain (Unit {0})) (name : List ℕ) (names : List (List ℕ)) (tells : Key → Word Content) (n : ℕ) (c : Option FileContent) (v : Plain) (left : ℕ) (items : List Item) (some : nat_eq left 0 ≡ false) (is : tells (File name) ≡ Tells n (file_content c)) where
+  first_goes_on : (b : Bool) → is_some c ≡ b → first_asked p (name ∷ names) go (answers_of tells) v (meter_of left items) ≡ cond b (go (file_content c)) (first_asked p names go) (answers_of tells) v (meter_of (left - 1) (with_item (File name) n items))
+  first_goes_on b there =
+      file_goes_on p (λ d. cond (is_there d) (go d) (first_asked p names go)) name tells n (file_content c) v left items some is
+      ∙ ap (λ x. cond x (go (file_content c)) (first_asked p names go) (answers_of tells) v (meter_of (left - 1) (with_item (File name) n items))) (there_is c ∙ there)
+
+  -- it is there, and the run goes on with it
+  pub first_there : is_some c ≡ true → first_asked p (name ∷ names) go (answers_of tells) v (meter_of left items) ≡ go (file_content c) (answers_of tells) v (meter_of (left - 1) (with_item (File name) n items))
+  first_there there = first_goes_on true there
+
+  -- it is not, and the next is asked for
+  pub first_missing : is_some c ≡ false → first_asked p (name ∷ names) go (answers_of tells) v (meter_of left items) ≡ first_asked p names go (answers_of tells) v (meter_of (left - 1) (with_item (File name) n items))
+  first_missing there = first_goes_on false there
+
+-- a reference is there where its value is
+pub copied_some : {X : Type 0} → (x : Option (Bor X)) → is_some (option_copied x) ≡ is_some x
+copied_some None = refl
+copied_some (Some b) = refl
 
 pub not_zero : (b s : Bool) → s ≡ not b → s ≡ true → b ≡ false
 not_zero true s e t = absurd (let clash : false ≡ true = sym e ∙ t in cc)

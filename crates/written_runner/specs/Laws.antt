@@ -1,11 +1,12 @@
 -- The laws of written objects' runs.
-use Rattle.std.specs.Prelude.{◌≡◌, ℕ, List, [], ◌∷◌, Bool, true, false, Some, None, cond, drop, bytes_eq, refl}
+use Rattle.std.specs.Prelude.{◌≡◌, ℕ, List, [], ◌∷◌, Bool, true, false, Some, None, cond, codes, drop, bytes_eq, refl}
 use Rattle.path_tree.specs.Grammar.{is_name}
 use Rattle.path_tree.specs.Plain.{Plain, undef, text, boolean}
 use Rattle.pan_ast.specs.declared.place.Place.{Place}
 use Rattle.pan_ast.specs.Detail.{fault_at, fault_with}
 use Rattle.pan_ast.specs.declared.fault.Code.TheVariants.{UserError, BadPath, NoPath, NoObject, ForeignFailed, Circular as IsCircular, NoTemplate, FileTooLong}
 use Rattle.questions.specs.declared.key.Key.TheVariants.{File, Under}
+use Rattle.load_path.specs.Candidates.{candidates}
 use Rattle.questions.specs.Contents.{Content, Missing, TooLong, Bytes, Absent, Failed, Circular, NoValue, Value, is_circular_answer}
 use Rattle.questions.specs.Laws.{MayAsk}
 use Rattle.questions.specs.Run.{Run, fail, fail_about, become}
@@ -18,7 +19,7 @@ use Rattle.runner.specs.Meaning.{IsLawful}
 use Rattle.written_runner.specs.declared.action.Action.{Action}
 use Rattle.written_runner.specs.declared.action.Action.TheVariants.{Nothing, Gives, Fails, LooksFor, Reads, TestsFor}
 use Rattle.written_runner.specs.declared.running.Side.TheVariants.{Build, Check}
-use Rattle.written_runner.specs.Written.{letter_text, file_text, actions, action_of, is_there, read_in, tested_in, other_object, object_asked, file_asked, acted, all_acted, file_run, place_of, object_run}
+use Rattle.written_runner.specs.Written.{letter_text, file_text, actions, action_of, is_there, read_in, tested_in, other_object, object_asked, file_asked, first_asked, acted, all_acted, file_run, place_of, object_run}
 use Rattle.written_runner.specs.Meaning.{meaning, build_ending, check_ending}
 
 module _ (own : List ℕ) (p : Place) where
@@ -77,6 +78,19 @@ module _ (own : List ℕ) (p : Place) where
   file_fine file go fine =
       lawful_step_then (MayAsk own) 0 p _ (lawful_ask_then (MayAsk own) 0 (File file) go tt fine)
 
+  there_fine : (b : Bool) (there next : Run Plain (Unit {0})) → IsFine there → IsFine next
+      → IsFine (cond b there next)
+  there_fine true there next h k = h
+  there_fine false there next h k = k
+
+  first_fine : (files : List (List ℕ)) (go : Content → Run Plain (Unit {0}))
+      → ((c : Content) → IsFine (go c)) → IsFine (first_asked p files go)
+  first_fine [] go fine = fine Missing
+  first_fine (file ∷ files) go fine =
+      file_fine file (λ c. cond (is_there c) (go c) (first_asked p files go))
+      (λ c. there_fine (is_there c) (go c) (first_asked p files go) (fine c)
+      (first_fine files go fine))
+
   acted_fine : (a : Action) → IsFine (acted p own a)
   acted_fine Nothing = lawful_give (MayAsk own) 0 tt
   acted_fine (Gives n) = lawful_become (MayAsk own) 0 (text (letter_text n))
@@ -103,11 +117,11 @@ module _ (own : List ℕ) (p : Place) where
   content_fine act NoValue = lawful_fail (MayAsk own) 0 (fault_with NoTemplate p own) refl
   content_fine act (Value t) = lawful_fail (MayAsk own) 0 (fault_with NoTemplate p own) refl
 
-pub object_lawful : (own : List ℕ) (act : ℕ → ℕ → Action)
-    → Lawful (MayAsk own) 0 (object_run own act)
-object_lawful own act =
-    file_fine own (place_of own) (file_text own) (file_run (place_of own) own act)
-    (content_fine own (place_of own) act)
+pub object_lawful : (dirs : List (List ℕ)) (own : List ℕ) (act : ℕ → ℕ → Action)
+    → Lawful (MayAsk own) 0 (object_run dirs own act)
+object_lawful dirs own act =
+    first_fine own (place_of own) (candidates own (codes ".pan") [] dirs)
+    (file_run (place_of own) own act) (content_fine own (place_of own) act)
 
 pub build_end : (own : List ℕ) → IsEnd (build_ending own) is_circular_end
 build_end own = record { done = λ x s. refl; returned = λ t s. refl; failed = λ f. refl }
@@ -115,12 +129,13 @@ build_end own = record { done = λ x s. refl; returned = λ t s. refl; failed = 
 pub check_end : IsEnd check_ending is_circular_verdict
 check_end = record { done = λ x s. refl; returned = λ t s. refl; failed = λ f. refl }
 
-pub lawful : IsLawful meaning
-lawful = record {
+pub lawful : (dirs : List (List ℕ)) → IsLawful (meaning dirs)
+lawful dirs = record {
   builds =
-      λ own. run_laws (MayAsk own) (object_run own (action_of Build)) undef (build_ending own)
-      (object_lawful own (action_of Build)) is_circular_end (build_end own);
+      λ own. run_laws (MayAsk own) (object_run dirs own (action_of Build)) undef (build_ending own)
+      (object_lawful dirs own (action_of Build)) is_circular_end (build_end own);
   checks =
-      λ built. run_laws (MayAsk built.object) (object_run built.object (action_of Check)) undef
-      check_ending (object_lawful built.object (action_of Check)) is_circular_verdict check_end;
+      λ built. run_laws (MayAsk built.object) (object_run dirs built.object (action_of Check)) undef
+      check_ending (object_lawful dirs built.object (action_of Check)) is_circular_verdict
+      check_end;
 }

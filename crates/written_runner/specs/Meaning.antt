@@ -2,8 +2,9 @@
 -- give it up.
 use Rattle.std.specs.Prelude.{ℕ, List, [], Some, None, Ok, Err}
 use Rattle.path_tree.specs.Plain.{Plain, undef}
-use Rattle.questions.specs.Contents.{answer_in}
+use Rattle.questions.specs.Contents.{Content, answer_in}
 use Rattle.questions.specs.Run.{Meter, Outcome, Done, Failed, Asks}
+use Rattle.questions.specs.declared.key.Key.{Key}
 use Rattle.questions.specs.declared.key.Key.TheVariants.{Under}
 use Rattle.questions.specs.Told.{Ending, answer_by, whole, work_of}
 use Rattle.runner.specs.Ends.{End, Verdict}
@@ -32,17 +33,22 @@ build_ending object = record {
 abbrev pub check_ending : Ending Plain (Unit {0}) Verdict
 check_ending = record { done = λ x t. None; returned = λ r t. None; failed = Some }
 
-abbrev pub meaning : Meaning (Unit {0})
-meaning = record {
+-- files are looked for in these directories
+abbrev pub meaning : List (List ℕ) → Meaning (Unit {0})
+meaning dirs = record {
   build = λ object asked. answer_by (build_ending object)
-      (object_run object (action_of Build) (answer_in asked) undef whole);
+      (object_run dirs object (action_of Build) (answer_in asked) undef whole);
   build_work = λ object asked. work_of
-      (object_run object (action_of Build) (answer_in asked) undef whole);
+      (object_run dirs object (action_of Build) (answer_in asked) undef whole);
   check = λ built asked. answer_by check_ending
-      (object_run built.object (action_of Check) (answer_in asked) undef whole);
+      (object_run dirs built.object (action_of Check) (answer_in asked) undef whole);
   check_work = λ built asked. work_of
-      (object_run built.object (action_of Check) (answer_in asked) undef whole);
+      (object_run dirs built.object (action_of Check) (answer_in asked) undef whole);
 }
+
+-- a check of a written object promises nothing
+abbrev pub PromisesNothing : Built (Unit {0}) → List (Key × Content) → Type 0
+PromisesNothing built asked = Unit {0}
 
 -- how a line came out, as an outcome of its definition
 abbrev pub outcome_of : Came → Plain → Meter → Outcome Plain (Unit {0})

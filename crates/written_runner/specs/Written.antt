@@ -1,6 +1,7 @@
 -- The language of written objects.
 use Rattle.std.specs.Prelude.{ℕ, List, [], ◌∷◌, ◌++◌, Option, Some, None, Bool, true, false, cond, nat_eq, nat_lt, codes, drop, bytes_eq}
 use Rattle.path_tree.specs.Plain.{Plain, text, boolean}
+use Rattle.load_path.specs.Candidates.{candidates}
 use Rattle.path_tree.specs.Grammar.{is_name}
 use Rattle.pan_ast.specs.declared.place.Place.{Place}
 use Rattle.pan_ast.specs.declared.fault.Code.TheVariants.{UserError, BadPath, NoPath, NoObject, ForeignFailed, Circular as IsCircular, NoTemplate, FileTooLong}
@@ -86,6 +87,14 @@ object_asked p then (Some object) = step p >>= (λ _. (ask (Under object []) >>=
 abbrev pub file_asked : Place → List ℕ → (Content → Run Plain (Unit {0})) → Run Plain (Unit {0})
 file_asked p file then = step p >>= (λ _. (ask (File file) >>= then))
 
+-- files are asked for in order up to the first that is there, and the run goes on with its content, or
+-- else with that of a file that is not there
+abbrev pub first_asked : Place → List (List ℕ) → (Content → Run Plain (Unit {0}))
+    → Run Plain (Unit {0})
+first_asked p [] then = then Missing
+first_asked p (file ∷ files) then =
+    file_asked p file (λ c. cond (is_there c) (then c) (first_asked p files then))
+
 -- a line of the object `own`
 abbrev pub acted : Place → List ℕ → Action → Run Plain (Unit {0})
 acted p own Nothing = give tt
@@ -115,7 +124,8 @@ file_run p own act (Value t) = fail_about NoTemplate p own
 abbrev pub place_of : List ℕ → Place
 place_of own = record { file = file_text own; line = 1; column = 1 }
 
--- an object's file is asked for, and its lines are done
-abbrev pub object_run : List ℕ → (ℕ → ℕ → Action) → Run Plain (Unit {0})
-object_run own act =
-    let p = place_of own in file_asked p (file_text own) (file_run p own act)
+-- an object's file is looked for in these directories, and its lines are done
+abbrev pub object_run : List (List ℕ) → List ℕ → (ℕ → ℕ → Action) → Run Plain (Unit {0})
+object_run dirs own act =
+    let p = place_of own in
+    first_asked p (candidates own (codes ".pan") [] dirs) (file_run p own act)

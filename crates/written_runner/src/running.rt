@@ -4,7 +4,7 @@ ghost use Rattle.std.specs.Prelude.{◌≡◌, IfOk, OnOk, drop, option_copied};
 ghost use Rattle.path_tree.specs.Plain.{undef};
 ghost use Rattle.questions.specs.Told.{answers_of, whole};
 ghost use Rattle.runner.specs.Words.{words, file_content};
-ghost use Rattle.written_runner.specs.Written.{action_of, actions, all_acted, file_asked, file_run, object_run};
+ghost use Rattle.written_runner.specs.Written.{action_of, actions, all_acted, first_asked, file_run, object_run};
 ghost use Rattle.written_runner.specs.Meaning.{outcome_of};
 ghost use Rattle.written_runner.specs.Traces.{AreNumbered, meter_of};
 
@@ -13,7 +13,8 @@ use crate::action::{Action, build_action, check_action, file_text};
 use crate::questioning::ask_file;
 use crate::used::{Came, Used, step};
 use asking::limits::MAX_WORK;
-use load_path::{Content, Picture};
+use base::Text;
+use load_path::{Content, Picture, candidates};
 use pan_ast::{Code, Place};
 use path_tree::{Name, Tree};
 use read_sets::Trace;
@@ -109,7 +110,7 @@ fn act_on<K: Known>(
     }
 }
 
-/// The file at a place is asked for, and its lines are done.
+/// The files are asked for up to the first that is there, and its lines are done.
 fn begin<K: Known>(
     alloc: Global,
     picture: &Picture,
@@ -117,11 +118,12 @@ fn begin<K: Known>(
     place: &Place,
     own: &Name,
     side: Side,
+    files: &[Text],
     used: &mut Used,
 ) -> Result<Came, AllocError>
     ensures outcome { IfOk result (λ came. outcome_of came used.new.value
         (meter_of used.new.left used.new.trace)
-        ≡ file_asked place.now place.now.file (file_run place.now own.now (action_of side))
+        ≡ first_asked place.now files.now (file_run place.now own.now (action_of side))
         (answers_of (words picture.now (K.numbers known.now) (K.objects known.now)))
         used.old.value (meter_of used.old.left used.old.trace)) }
     ensures numbered { OnOk result
@@ -129,12 +131,16 @@ fn begin<K: Known>(
         used.old.trace → AreNumbered (words picture.now (K.numbers known.now)
         (K.objects known.now)) used.new.trace) }
 {
-    if !step(&mut used.left) {
-        return Ok(Came::Failed(fault_at(alloc, place, Code::WorkSpent)?));
+    for file in files {
+        if !step(&mut used.left) {
+            return Ok(Came::Failed(fault_at(alloc, place, Code::WorkSpent)?));
+        }
+        let content = ask_file(picture, known, file.share()?, &mut used.trace)?;
+        if content.is_some() {
+            return act_on(alloc, picture, known, place, own, side, content, used);
+        }
     }
-    let file = place.file.share()?;
-    let content = ask_file(picture, known, file, &mut used.trace)?;
-    act_on(alloc, picture, known, place, own, side, content, used)
+    act_on(alloc, picture, known, place, own, side, None, used)
 }
 
 /// How a run came out, and what it used.
@@ -144,16 +150,17 @@ pub(crate) struct Ran {
     pub used: Used,
 }
 
-/// A run of the build or of the check of an object.
+/// A run of the build or of the check of an object, whose file is looked for in the directories.
 pub(crate) fn run_object<K: Known>(
     alloc: Global,
     picture: &Picture,
+    dirs: &[Text],
     known: &K,
     own: &Name,
     side: Side,
 ) -> Result<Ran, AllocError>
     ensures outcome { IfOk result (λ ran. outcome_of ran.came ran.used.value
-        (meter_of ran.used.left ran.used.trace) ≡ object_run own.now (action_of side)
+        (meter_of ran.used.left ran.used.trace) ≡ object_run dirs.now own.now (action_of side)
         (answers_of (words picture.now (K.numbers known.now) (K.objects known.now)))
         undef whole) }
     ensures numbered { IfOk result (λ ran. AreNumbered (words picture.now (K.numbers known.now)
@@ -164,11 +171,13 @@ pub(crate) fn run_object<K: Known>(
         line: 1,
         column: 1,
     };
+    let files = candidates(alloc, own.as_str(), ".pan", &[], dirs)?;
     let mut used = Used {
         value: Tree::undef(),
         left: MAX_WORK,
         trace: Trace::new(alloc),
     };
-    let came = begin(alloc, picture, known, &place, own, side, &mut used)?;
+    let files = files.as_slice();
+    let came = begin(alloc, picture, known, &place, own, side, files, &mut used)?;
     Ok(Ran { came, used })
 }

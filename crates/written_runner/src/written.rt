@@ -87,12 +87,15 @@ fn check_end(ran: Ran) -> CheckEnd
 }
 
 impl Runner for Written {
-    ghost use Rattle.written_runner.specs.Meaning.{meaning};
+    ghost use Rattle.written_runner.specs.Meaning.{meaning, PromisesNothing};
     ghost use Rattle.written_runner.specs.Laws.{lawful};
+    ghost use Rattle.written_runner.specs.Promised.{builds_by_name, looks_for_template};
 
     type Rest = ();
 
-    ghost meaning = { λ dirs limits. meaning };
+    ghost meaning = { λ dirs limits. meaning dirs };
+
+    ghost promises = { λ dirs limits. PromisesNothing };
 
     ghost files_of = { λ r. r.picture };
 
@@ -117,7 +120,8 @@ impl Runner for Written {
         steps: &mut Steps<L>,
     ) -> Result<BuildEnd<()>, AllocError> {
         let object = name.share()?;
-        let ran = run_object(self.alloc, &self.picture, known, name, Side::Build)?;
+        let dirs = self.dirs.as_slice();
+        let ran = run_object(self.alloc, &self.picture, dirs, known, name, Side::Build)?;
         steps.pay(MAX_WORK.saturating_sub(ran.used.left));
         self.runs = count_up(self.runs);
         Ok(build_end(ran, object))
@@ -130,11 +134,19 @@ impl Runner for Written {
         _limits: &Limits,
         steps: &mut Steps<L>,
     ) -> Result<CheckEnd, AllocError> {
-        let ran = run_object(self.alloc, &self.picture, known, &built.object, Side::Check)?;
+        let dirs = self.dirs.as_slice();
+        let object = &built.object;
+        let ran = run_object(self.alloc, &self.picture, dirs, known, object, Side::Check)?;
         steps.pay(MAX_WORK.saturating_sub(ran.used.left));
         self.runs = count_up(self.runs);
         Ok(check_end(ran))
     }
 
-    ghost laws = { λ dirs limits. lawful };
+    ghost laws = { λ dirs limits. lawful dirs };
+
+    ghost by_name = { λ dirs limits. builds_by_name dirs };
+
+    ghost looks = { λ dirs limits. looks_for_template dirs };
+
+    ghost kept = { λ dirs limits built asked none. tt };
 }

@@ -1,4 +1,4 @@
-use Rattle.std.proofs.Common.{◌≡◌, ◌+◌, ◌∷◌, ◌++◌, [], drop, take, sym, ap, ◌∙◌, arith, rules, IfErr}
+use Rattle.std.proofs.Common.{◌≡◌, ◌+◌, ◌∷◌, ◌++◌, [], None, drop, take, sym, ap, ◌∙◌, arith, rules, IfErr}
 use Rattle.std.specs.Prelude.{flat_map}
 use Rattle.std.proofs.lemmas.List.{take-append-drop}
 use Rattle.publication.specs.Changing.{putting}
@@ -7,9 +7,10 @@ use Rattle.std.proofs.lemmas.Grind.{common_steps}
 use Rattle.std.proofs.lemmas.Result.{IfErr-weaker}
 use Rattle.publication.specs.Leavings.{IsEndAt}
 use Rattle.publication.specs.Halves.{placed}
+use Rattle.publication.specs.Wants.{wanted}
 use Rattle.publication.specs.OwnNames.{is_own}
 use Rattle.publication.proofs.Shelving.{left_early, placed_keeps, place_step}
-use Rattle.publication.proofs.Proper.{proper_own, proper_rest}
+use Rattle.publication.proofs.Proper.{proper_own, proper_rest, proper_once}
 use Rattle.publication.proofs.until_failure.place.Goals as goal
 
 pub returns-in_err-bring-clause-err : goal.returns-in_err-bring-clause-err
@@ -22,13 +23,14 @@ pub loop-want-preserved : goal.loop-want-preserved
 loop-want-preserved g c =
     let so_far : take (c.loop-want.want-index + 1) c.args.wants.now ≡ take c.loop-want.want-index c.args.wants.now ++ (c.want-item.result ∷ []) = grind (arith, common_steps, c.want-item.is, c.loop-want-test.true) in
     let e : drop c.loop-want.want-index c.args.wants.now ≡ c.want-item.result ∷ drop (c.loop-want.want-index + 1) c.args.wants.now = grind (arith, common_steps, c.want-item.is, c.loop-want-test.true) in
+    let once : wanted (drop (c.loop-want.want-index + 1) c.args.wants.now) c.want-item.result.name ≡ None = proper_once c.want-item.result (drop (c.loop-want.want-index + 1) c.args.wants.now) (rw e at c.loop-want.invariant.proper) in
     record {
       faults = c.in_ok-bring.ensures.cause.done ∙ c.loop-want.invariant.faults;
       opened = c.bring.ensures.opened ∙ c.loop-want.invariant.opened;
-      pending = rw (so_far, puts_next (g.H.Shelf.cell c.args.shelf.now) (take c.loop-want.want-index c.args.wants.now) c.want-item.result) (pending_on (g.H.Shelf.cell c.args.shelf.now) c.args.wants.now (drop (c.loop-want.want-index + 1) c.args.wants.now) c.want-item.result (flat_map (putting (g.H.Shelf.cell c.args.shelf.now)) (take c.loop-want.want-index c.args.wants.now)) (rw e at c.loop-want.invariant.proper) (rw e at c.loop-want.invariant.pending));
-      made = λ told. rw so_far (place_on c.args.wants.now (take c.loop-want.want-index c.args.wants.now) (drop (c.loop-want.want-index + 1) c.args.wants.now) c.want-item.result _ _ _ _ _ _ told (rw e at c.loop-want.invariant.proper) (rw e at c.loop-want.invariant.pending) (c.loop-want.invariant.made told) (rw (c.as_str.ensures.text, c.as_slice.ensures) at c.in_ok-bring.ensures.ok) (did_as (g.H.Shelf.cell c.loop-want.shelf) (g.H.Shelf.changes c.loop-want.shelf) (g.H.Shelf.changes c.bring.new.shelf) c.as_str.result.now c.want-item.result.name c.as_slice.result.now c.want-item.result.bytes c.as_str.ensures.text c.as_slice.ensures c.in_ok-bring.ensures.done));
+      pending = rw (so_far, puts_next (g.H.Shelf.cell c.args.shelf.now) (take c.loop-want.want-index c.args.wants.now) c.want-item.result) (pending_on (g.H.Shelf.cell c.args.shelf.now) c.args.wants.now (drop (c.loop-want.want-index + 1) c.args.wants.now) c.want-item.result (flat_map (putting (g.H.Shelf.cell c.args.shelf.now)) (take c.loop-want.want-index c.args.wants.now)) once (rw e at c.loop-want.invariant.pending));
+      made = λ told. rw so_far (place_on c.args.wants.now (take c.loop-want.want-index c.args.wants.now) (drop (c.loop-want.want-index + 1) c.args.wants.now) c.want-item.result _ _ _ _ _ _ told once (rw e at c.loop-want.invariant.pending) (c.loop-want.invariant.made told) (rw (c.as_str.ensures.text, c.as_slice.ensures) at c.in_ok-bring.ensures.ok) (did_as (g.H.Shelf.cell c.loop-want.shelf) (g.H.Shelf.changes c.loop-want.shelf) (g.H.Shelf.changes c.bring.new.shelf) c.as_str.result.now c.want-item.result.name c.as_slice.result.now c.want-item.result.bytes c.as_str.ensures.text c.as_slice.ensures c.in_ok-bring.ensures.done));
       proper = proper_rest c.want-item.result (drop (c.loop-want.want-index + 1) c.args.wants.now) (rw e at c.loop-want.invariant.proper);
-      cells = place_step c.want-item.result (drop (c.loop-want.want-index + 1) c.args.wants.now) _ _ _ _ (rw e at c.loop-want.invariant.proper) (rw e at c.loop-want.invariant.cells) (rw (c.as_str.ensures.text, c.as_slice.ensures) at c.in_ok-bring.ensures.ok);
+      cells = place_step c.want-item.result (drop (c.loop-want.want-index + 1) c.args.wants.now) _ _ _ _ once (rw e at c.loop-want.invariant.cells) (rw (c.as_str.ensures.text, c.as_slice.ensures) at c.in_ok-bring.ensures.ok);
     }
 
 pub returns-in_err-bring-clause-begun : goal.returns-in_err-bring-clause-begun

@@ -4,9 +4,9 @@ use Rattle.compiler.specs.Standing.{compiled_in, counts}
 use Rattle.compiler.proofs.Moves.{along}
 use Rattle.publication.proofs.Planning.{on_err}
 use Rattle.rebuild.specs.Answers.{why_at}
-use Rattle.session.specs.Orders.{order_of, Show, Why, Deps, BadLine}
-use Rattle.session.specs.Sessions.{shown_of, deps_of, writes}
-use Rattle.session.specs.Texts.{about, outcome_text, deps_text}
+use Rattle.session.specs.Orders.{order_of, Show, Why, Deps, Impact, Unused, BadLine}
+use Rattle.session.specs.Sessions.{shown_of, deps_of, touched_of, unused_of, writes}
+use Rattle.session.specs.Texts.{about, outcome_text, deps_text, touched_text, unused_text}
 use Rattle.watch.proofs.Going.{tells_of, quits}
 use Rattle.watch.specs.Sites.{IsBroken, spot_of}
 use Rattle.std.proofs.lemmas.Result.{on_err_weaker}
@@ -40,6 +40,22 @@ returns-in_ok-deps_line-in-Deps-clause-went g c =
     λ dirs limits s start began at.
     tells_of (compiler (M dirs limits) dirs) dirs limits s _ start began (order_of c.args.line.now) (Deps c.in-Deps.name.now) _ c.in-Deps.ensures (λ P. tt) (λ line. ap (writes s) (sym (text ∙ along core (λ d l e. about deps_text (deps_of (compiler (M core.dirs core.limits) core.dirs) c.in-Deps.name.now (compiled_in core)) ≡ about deps_text (deps_of (compiler (M d l) d) c.in-Deps.name.now e)) dirs limits s.engine at.engine.engine refl))) at
 
+pub returns-in_ok-impact_line-in-Impact-clause-went : goal.returns-in_ok-impact_line-in-Impact-clause-went
+returns-in_ok-impact_line-in-Impact-clause-went g c =
+    let M = g.R.Runner.meaning in
+    let core = c.args.site.now.works.engine.core in
+    let text : c.impact_line.new.text.items ≡ touched_text (touched_of (compiler (M core.dirs core.limits) core.dirs) c.in-Impact.file.now (compiled_in core)) = search rules in
+    λ dirs limits s start began at.
+    tells_of (compiler (M dirs limits) dirs) dirs limits s _ start began (order_of c.args.line.now) (Impact c.in-Impact.file.now) _ c.in-Impact.ensures (λ P. tt) (λ line. ap (writes s) (sym (text ∙ along core (λ d l e. touched_text (touched_of (compiler (M core.dirs core.limits) core.dirs) c.in-Impact.file.now (compiled_in core)) ≡ touched_text (touched_of (compiler (M d l) d) c.in-Impact.file.now e)) dirs limits s.engine at.engine.engine refl))) at
+
+pub returns-in_ok-unused_line-in-Unused-clause-went : goal.returns-in_ok-unused_line-in-Unused-clause-went
+returns-in_ok-unused_line-in-Unused-clause-went g c =
+    let M = g.R.Runner.meaning in
+    let core = c.args.site.now.works.engine.core in
+    let text : c.unused_line.new.text.items ≡ unused_text (unused_of (compiler (M core.dirs core.limits) core.dirs) (compiled_in core)) = search rules in
+    λ dirs limits s start began at.
+    tells_of (compiler (M dirs limits) dirs) dirs limits s _ start began (order_of c.args.line.now) Unused _ c.in-Unused.ensures (λ P. tt) (λ line. ap (writes s) (sym (text ∙ along core (λ d l e. unused_text (unused_of (compiler (M core.dirs core.limits) core.dirs) (compiled_in core)) ≡ unused_text (unused_of (compiler (M d l) d) e)) dirs limits s.engine at.engine.engine refl))) at
+
 pub returns-in_ok-bad_line-in-BadLine-clause-went : goal.returns-in_ok-bad_line-in-BadLine-clause-went
 returns-in_ok-bad_line-in-BadLine-clause-went g c =
     let text : c.bad_line.new.text.items ≡ codes "bad line\n" = search rules in
@@ -61,6 +77,18 @@ pub returns-in_err-deps_line-in-Deps-clause-cut : goal.returns-in_err-deps_line-
 returns-in_err-deps_line-in-Deps-clause-cut g c = on_err c.from_residual-in_err-deps_line-in-Deps.result (record {
   shelf = λ dirs limits s start began at. inl (λ n. refl);
   work = λ dirs limits s began at coming. worked_nothing (compiler (g.R.Runner.meaning dirs limits) dirs) (order_of c.args.line.now) s began (counts (g.R.Runner.runs_of c.args.site.now.works.runner) c.args.steps.now) (Deps c.in-Deps.name.now) c.in-Deps.ensures (λ line. record { in_runs = omega arith; in_steps = omega arith }) at.spent;
+})
+
+pub returns-in_err-impact_line-in-Impact-clause-cut : goal.returns-in_err-impact_line-in-Impact-clause-cut
+returns-in_err-impact_line-in-Impact-clause-cut g c = on_err c.from_residual-in_err-impact_line-in-Impact.result (record {
+  shelf = λ dirs limits s start began at. inl (λ n. refl);
+  work = λ dirs limits s began at coming. worked_nothing (compiler (g.R.Runner.meaning dirs limits) dirs) (order_of c.args.line.now) s began (counts (g.R.Runner.runs_of c.args.site.now.works.runner) c.args.steps.now) (Impact c.in-Impact.file.now) c.in-Impact.ensures (λ line. record { in_runs = omega arith; in_steps = omega arith }) at.spent;
+})
+
+pub returns-in_err-unused_line-in-Unused-clause-cut : goal.returns-in_err-unused_line-in-Unused-clause-cut
+returns-in_err-unused_line-in-Unused-clause-cut g c = on_err c.from_residual-in_err-unused_line-in-Unused.result (record {
+  shelf = λ dirs limits s start began at. inl (λ n. refl);
+  work = λ dirs limits s began at coming. worked_nothing (compiler (g.R.Runner.meaning dirs limits) dirs) (order_of c.args.line.now) s began (counts (g.R.Runner.runs_of c.args.site.now.works.runner) c.args.steps.now) Unused c.in-Unused.ensures (λ line. record { in_runs = omega arith; in_steps = omega arith }) at.spent;
 })
 
 pub returns-in_err-bad_line-in-BadLine-clause-cut : goal.returns-in_err-bad_line-in-BadLine-clause-cut

@@ -1,0 +1,27 @@
+ghost use Rattle.format_site.specs.Formats.{seen};
+ghost use Rattle.compiler.specs.Standing.{Counts};
+ghost use Rattle.pan_top.specs.Formats.{FormatCall};
+
+use crate::closing::close_build;
+use crate::status::Status;
+use command_words::Pair;
+use format_site::format_site;
+use outside::{Lines, Shelf, Sink, Source};
+use site_build::Devices;
+use std::alloc::Global;
+
+/// The layout of a source's templates, as `format_site::format_site` says; an end that comes early writes its line.
+pub fn format_templates<S: Source, H: Shelf, N: Lines, O: Sink>(
+    alloc: Global,
+    pair: &Pair,
+    devices: &mut Devices<S, H, N, O>,
+) -> Status
+    ensures { (spent : Counts) → FormatCall pair.now result
+        (seen S.Source H.Shelf N.Lines O.Sink devices.old spent)
+        (seen S.Source H.Shelf N.Lines O.Sink devices.new spent) }
+{
+    match format_site(alloc, pair, devices) {
+        Ok(ended) => Status::after(ended),
+        Err(end) => close_build(alloc, &end, &mut devices.out),
+    }
+}

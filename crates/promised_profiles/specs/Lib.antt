@@ -1,0 +1,2 @@
+-- What a stranger must believe: when a tree keeps a promise.
+pub mod Promised
