@@ -13,6 +13,7 @@ pan compiles templates of the Pan language into one JSON profile for each machin
   pan build SOURCE OUT [options]    compiles each object template below SOURCE into OUT, and tells faults
   pan watch SOURCE OUT [options]    the same, asked by lines on standard input (scan, build, why NAME, ..)
   pan demo COUNT START [options]    builds machines that are made up, in memory
+  pan format SOURCE OUT             writes each template below SOURCE into OUT in its one layout (OUT may be SOURCE)
       --include LIST                folders below SOURCE where templates are looked for, joined by `:` (.)
       --max-iteration N             turns of one loop, 1 to 1,000,000 (10,000)
       --max-recursion N             calls of functions that are open at once, 1 to 200 (50)
@@ -23,6 +24,10 @@ has a profile, 1 where one has a fault, and more where something failed.
 
 These are the script's own:
 
+  pan format FILE..                 brings files to their layout; `-` is standard input, to standard output
+  pan format --check PLACE..        names the files and templates of folders that have another layout, and changes nothing
+  pan impact SOURCE FILE [options]  the objects that an edit of the file FILE below SOURCE can change
+  pan unused SOURCE [options]       the templates below SOURCE that no object looks at
   pan --quiet WORDS                 leaves out the notes on standard error
   pan --version                     the version, the kit that proved it, and its checksum
   pan --help                        this text
@@ -64,7 +69,7 @@ version() {
 has_mode() {
   local word
   for word in "$@"; do
-    case $word in build | watch | demo) return 0 ;; esac
+    case $word in build | watch | demo | format | impact | unused) return 0 ;; esac
   done
   return 1
 }
@@ -180,6 +185,106 @@ watch() {
   exec "$program" "$@"
 }
 
+# Lines about one template that was given the name input.pan, with its own name.
+name_input() {
+  local line
+  while IFS= read -r line; do echo "${line//input.pan/$1}"; done
+}
+
+# The layout of one template, `-` being standard input, below the room.
+lay_out() {
+  local program=$1 file=$2 status=0
+  rm -rf "$room/from" "$room/to"
+  mkdir "$room/from"
+  cat -- "$file" >"$room/from/input.pan" || return 3
+  "$program" format "$room/from" "$room/to" >"$room/text" 2>"$room/notes" || status=$?
+  if [ "$status" -ne 0 ]; then grep -v '^files ' "$room/text" | name_input "$file" >&2 || true; fi
+  name_input "$file" <"$room/notes" >&2
+  return "$status"
+}
+
+# A file gets its layout at once, with the rights that it has.
+replace() {
+  local file new
+  file=$(readlink -f -- "$1")
+  new=$(mktemp "$(dirname -- "$file")/.format.XXXXXX")
+  chmod --reference="$file" "$new"
+  cat "$room/to/input.pan" >"$new"
+  mv -f -- "$new" "$file"
+}
+
+format_file() {
+  local program=$1 file=$2
+  lay_out "$program" "$file" || return
+  if [ "$file" = - ]; then
+    if [ -z "$is_check" ]; then cat "$room/to/input.pan"; return; fi
+    file=$room/from/input.pan
+  fi
+  if cmp -s -- "$file" "$room/to/input.pan"; then return; fi
+  if [ -n "$is_check" ]; then echo "differs $2"; return 1; fi
+  replace "$file"
+}
+
+# The templates of a folder that have another layout.
+check_folder() {
+  local program=$1 folder=${2%/} status=0 name
+  "$program" format "$folder" "$room/shelf" >"$room/text" || status=$?
+  [ "$status" -le 1 ] || { cat "$room/text"; return "$status"; }
+  grep -v '^files ' "$room/text" || true
+  while IFS= read -r name; do
+    cmp -s -- "$folder/$name" "$room/shelf/$name" || { echo "differs $folder/$name"; status=1; }
+  done < <(cd "$room/shelf" && find . -name '*.pan' -printf '%P\n' | LC_ALL=C sort)
+  rm -rf "$room/shelf"
+  return "$status"
+}
+
+# Files and folders one after the other; the status is the highest.
+format_places() {
+  local program=$1 place status=0 one
+  shift
+  room=$(mktemp -d)
+  trap 'rm -rf "$room"' EXIT
+  for place in "$@"; do
+    one=0
+    if [ ! -d "$place" ]; then format_file "$program" "$place" || one=$?
+    elif [ -n "$is_check" ]; then check_folder "$program" "$place" || one=$?
+    else "$program" format "$place" "$place" || one=$?; fi
+    [ "$one" -le "$status" ] || status=$one
+  done
+  exit "$status"
+}
+
+# The words of a layout: two folders are the program's, any other places the script's.
+is_check=''
+format() {
+  local program=$1 word places=()
+  shift 2
+  for word in "$@"; do
+    case $word in --check) is_check=1 ;; *) places+=("$word") ;; esac
+  done
+  if [ "${#places[@]}" -eq 0 ]; then echo "usage fault"; help >&2; exit 2; fi
+  if [ -z "$is_check" ] && [ "${#places[@]}" -eq 2 ] && [ ! -f "${places[0]}" ] && [ "${places[0]}" != - ]; then
+    out=${places[1]}
+    make_out >/dev/null
+    lock_out
+    exec "$program" format "${places[@]}"
+  fi
+  format_places "$program" "${places[@]}"
+}
+
+# What a watcher answers to one line about a site that is compiled and not published: the words behind this one.
+ask() {
+  local program=$1 line=$2 word=$3 status=0
+  room=$(mktemp -d)
+  trap 'rm -rf "$room"' EXIT
+  printf 'scan\nturn 1000000\n%s\nquit\n' "$line" >"$room/lines"
+  "$program" watch ${options[@]+"${options[@]}"} -- "$source" "$room/out" <"$room/lines" >"$room/text" || status=$?
+  if grep -qx 'source fault' "$room/text"; then status=3; fi
+  if grep -qx 'bad line' "$room/text"; then say "$line: no file name below SOURCE"; status=2; fi
+  [ "$status" -eq 0 ] || exit "$status"
+  sed -n "s/^$word //p" "$room/text"
+}
+
 # --quiet stands anywhere before `--`.
 words=() is_quiet=''
 while [ $# -gt 0 ]; do
@@ -200,8 +305,15 @@ case ${1:-} in
 esac
 if ! has_mode "$@"; then echo "usage fault"; help >&2; exit 2; fi
 program=$("$tools/pan-program")
+case ${1:-} in format) format "$program" "$@" ;; esac
 read_words "$@"
 [ "${PAN_NOTES:-}" = off ] || tell_include
+case $mode in
+  impact) [ -n "$out" ] || { echo "usage fault"; help >&2; exit 2; }
+    ask "$program" "impact $out" touches; exit ;;
+  unused) [ -n "$source" ] || { echo "usage fault"; help >&2; exit 2; }
+    ask "$program" unused unused; exit ;;
+esac
 if [ "${PAN_NOTES:-}" = off ] || [ -z "$out" ]; then
   case $mode in build | watch) [ -z "$out" ] || { make_out >/dev/null; lock_out; } ;; esac
   exec "$program" "$@"

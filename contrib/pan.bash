@@ -8,11 +8,14 @@ _pan() {
     --max-iteration | --max-recursion | --most-removed) return ;;
     --include) mapfile -t COMPREPLY < <(compgen -d -- "$word"); return ;;
   esac
-  if [[ $word == -* ]]; then
+  if [[ ${COMP_WORDS[1]} == format ]]; then
+    mapfile -t COMPREPLY < <(compgen -f -W '--check' -- "$word")
+    compopt -o filenames 2>/dev/null
+  elif [[ $word == -* ]]; then
     if [ "$COMP_CWORD" -eq 1 ]; then options+=' --help --version --prove --release --try'; fi
     mapfile -t COMPREPLY < <(compgen -W "$options" -- "$word")
   elif [[ $COMP_CWORD -eq 1 || ( $COMP_CWORD -eq 2 && $before == -* ) ]]; then
-    mapfile -t COMPREPLY < <(compgen -W 'build watch demo' -- "$word")
+    mapfile -t COMPREPLY < <(compgen -W 'build watch demo format impact unused' -- "$word")
   else
     mapfile -t COMPREPLY < <(compgen -d -- "$word")
     compopt -o filenames 2>/dev/null

@@ -119,8 +119,11 @@ def blocks_of(text):
 
 
 def readme():
-    """The first two blocks are the files of examples/first; then come the texts of two runs and what they leave."""
-    types, web1, report, profile, reads, fault, *_ = blocks_of((TOP / "README.md").read_text())
+    """The two files of examples/first, in two blocks each; then come the texts of two runs and what they leave."""
+    head, body, head_of_machine, body_of_machine, report, profile, reads, fault, *_ = blocks_of(
+        (TOP / "README.md").read_text()
+    )
+    types, web1 = f"{head}\n{body}", f"{head_of_machine}\n{body_of_machine}"
     first = TOP / "examples" / "first"
     yield "README.md shows examples/first", [types, web1] == [(first / name).read_text() for name in FIRST]
     extra = re.search(r"With one more line, `([^`]+)`", (TOP / "README.md").read_text())[1]

@@ -7,6 +7,7 @@
 - The notes on standard error: slips in SOURCE, files of others in OUT, and the line behind a build.
 - Accidents that would take every profile away: with --most-removed the files are still there, and a note says why.
 - One program at a time works on a folder of profiles.
+- The layout of folders, files and standard input, and what only looks at it; what an edit touches, and what is unused.
 - What contrib/install puts below a folder runs there, with nothing of the repository.
 
 The program is the one that the variable PAN names, else the one that contrib/pan-program finds.
@@ -46,13 +47,19 @@ class Ended:
         )
 
 
-def pan(folder, *words, script=TOP / "pan", **variables):
+def pan(folder, *words, script=TOP / "pan", given=None, **variables):
     surroundings = {**os.environ, "PAN": str(PROGRAM), "PAN_NOTES": "", **variables}
     for name in [name for name, value in surroundings.items() if value is None]:
         del surroundings[name]
     return Ended(
         subprocess.run(
-            [script, *words], cwd=folder, env=surroundings, capture_output=True, text=True, timeout=SECONDS
+            [script, *words],
+            cwd=folder,
+            env=surroundings,
+            input=given,
+            capture_output=True,
+            text=True,
+            timeout=SECONDS,
         )
     )
 
@@ -218,6 +225,61 @@ def lock(folder):
     yield "four builds at once", [each.status for each in ended[1:]] == [0, 0, 0, 0]
 
 
+LOOSE = "object template a ; # its first line\n'/x'={y=0x10;\ny+1};"
+LAID_OUT = "object template a;\n\n# its first line\n'/x' = {\n    y = 16;\n    y + 1;\n};\n"
+
+
+def layout(folder):
+    write(folder, "site/a.pan", LOOSE)
+    write(folder, "site/sub/b.pan", "template sub/b;\n")
+    write(folder, "site/note.txt", LOOSE)
+    ended = pan(folder, "format", "--check", "site")
+    yield "a look at a folder", (ended.status, ended.text) == (1, "differs site/a.pan\n")
+    yield "it changes nothing", (folder / "site/a.pan").read_text() == LOOSE
+    ended = pan(folder, "format", "site", "out")
+    yield "another folder", (ended.status, ended.text) == (0, "files 2 ok 2 faults 0\n")
+    yield "it holds the layout", (folder / "out/a.pan").read_text() == LAID_OUT
+    yield "and no other file", not (folder / "out/note.txt").exists()
+    ended = pan(folder, "format", "-", given=LOOSE)
+    yield "standard input", (ended.status, ended.text) == (0, LAID_OUT)
+    ended = pan(folder, "format", "-", given="object template a\n")
+    yield "standard input with a fault", ended.status == 1 and not ended.text and "fault - F06 -:2:1" in ended.notes
+    write(folder, "one.pan", LOOSE)
+    (folder / "one.pan").chmod(0o640)
+    ended = pan(folder, "format", "--check", "one.pan", "site/sub/b.pan")
+    yield "a look at files", (ended.status, ended.text) == (1, "differs one.pan\n")
+    ended = pan(folder, "format", "one.pan")
+    yield "a file", (ended.status, ended.text) == (0, "") and (folder / "one.pan").read_text() == LAID_OUT
+    yield "with its rights", (folder / "one.pan").stat().st_mode & 0o777 == 0o640
+    write(folder, "bad.pan", "object template bad\n")
+    ended = pan(folder, "format", "bad.pan", "one.pan")
+    yield "a file with a fault", ended.status == 1 and "bad.pan:2:1" in ended.notes
+    yield "it stays", (folder / "bad.pan").read_text() == "object template bad\n"
+    ended = pan(folder, "format", "site", "site")
+    yield "the same folder", (ended.status, ended.text) == (0, "files 2 ok 2 faults 0\n")
+    yield "it is laid out", (folder / "site/a.pan").read_text() == LAID_OUT
+    yield "all is laid out", pan(folder, "format", "--check", "site", "one.pan").status == 0
+    yield "no word", (pan(folder, "format").status, pan(folder, "format", "--check").status) == (2, 2)
+    for example in ("first", "site"):
+        ended = pan(folder, "format", "--check", TOP / "examples" / example)
+        yield f"examples/{example} is laid out", (ended.status, ended.text) == (0, "")
+
+
+def touched(folder):
+    machines(folder, 2)
+    write(folder, "site/alone.pan", "object template alone;\n'/port' = 1;\n")
+    write(folder, "site/old/base.pan", "template old/base;\n")
+    ended = pan(folder, "impact", "site", "common/base.pan")
+    yield "what an edit touches", (ended.status, ended.text) == (0, "web1\nweb2\n")
+    ended = pan(folder, "impact", "site", "alone.pan")
+    yield "an object's own file", (ended.status, ended.text) == (0, "alone\n")
+    ended = pan(folder, "impact", "site", "../base.pan")
+    yield "no file name", ended.status == 2 and "no file name" in ended.notes
+    ended = pan(folder, "unused", "site")
+    yield "what is unused", (ended.status, ended.text) == (0, "old/base.pan\n")
+    yield "no folder", pan(folder, "unused", "nowhere").status == 3
+
+
 def installed(folder):
     ended = pan(folder, folder / "there", script=TOP / "contrib/install")
     yield "contrib/install", ended.status == 0
@@ -250,7 +312,7 @@ def vim(folder):
 
 def main():
     passed = failed = 0
-    for part in (words, found, notes, accidents, lock, installed, vim):
+    for part in (words, found, notes, accidents, lock, layout, touched, installed, vim):
         with tempfile.TemporaryDirectory() as room:
             for name, is_well in part(Path(room).resolve()):
                 passed, failed = passed + bool(is_well), failed + (not is_well)

@@ -1,2 +1,6 @@
 declaration template types;
-type host = { 'name' : string 'port' : long(1..65535) = 80 };
+
+type host = {
+    'name' : string
+    'port' : long(1..65535) = 80
+};

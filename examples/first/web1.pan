@@ -1,4 +1,5 @@
 object template web1;
+
 include 'types';
 bind '/' = host;
 '/name' = OBJECT;
