@@ -1,0 +1,2 @@
+-- What a stranger has to believe: what it is that a text is read back.
+pub mod Again
