@@ -158,6 +158,7 @@ build() {
     tell_faults "$program"
     exit 13
   fi
+  "$tools/pan-notes" unused "$source" "$out" "$room/text"
   profiles >"$room/after"
   "$tools/pan-notes" summary "$room/text" "$room/before" "$room/after" $((${EPOCHREALTIME/./} - start))
   exit "$status"

@@ -277,6 +277,11 @@ def touched(folder):
     yield "no file name", ended.status == 2 and "no file name" in ended.notes
     ended = pan(folder, "unused", "site")
     yield "what is unused", (ended.status, ended.text) == (0, "old/base.pan\n")
+    ended = pan(folder, "build", "site", "out")
+    yield "a build tells it", "templates that no machine looks at (pan unused site): 1 (old/base.pan)" in ended.notes
+    write(folder, "site/web3.pan", "object template web3;\ninclude 'old/base';\n")
+    ended = pan(folder, "build", "site", "out")
+    yield "and not where there is none", ended.status == 0 and "no machine looks at" not in ended.notes
     yield "no folder", pan(folder, "unused", "nowhere").status == 3
 
 
