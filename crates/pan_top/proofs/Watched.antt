@@ -31,8 +31,8 @@ use Rattle.watch.specs.declared.ends.End.{End}
 use Rattle.watch.specs.declared.ends.End.TheVariants as ends
 use Rattle.pan_top.specs.Builds.{Wrote}
 use Rattle.site_build.specs.Scenes.{Scene}
-use Rattle.pan_top.specs.Statuses.{Says, status_after}
-use Rattle.pan_top.specs.Watches.{HasListed, IsOpening, IsPlayed, Plays, PlaysAll, PlaysTo, SourceAt, line_at, spot_in, status_at}
+use Rattle.pan_top.specs.Statuses.{status_after}
+use Rattle.pan_top.specs.Watches.{EndsWith, HasListed, IsOpening, IsPlayed, Plays, PlaysAll, PlaysTo, SourceAt, line_at, spot_in, status_at}
 use Rattle.pan_top.specs.declared.status.Status.{Status}
 use Rattle.pan_top.specs.declared.status.Status.TheVariants as S
 use Rattle.pan_top.proofs.Counting.{counted_by, counted_same, not_out_after}
@@ -85,7 +85,7 @@ all_ended M first last publisher publisher_last status before after has_faults p
 }
 
 -- it ended before its lines did
-pub all_halted : {T : Type 0} (M : Meanings T) (first last : Core T) (publisher publisher_last : Publisher) (status : Status) (before after : Scene) (has_faults : Bool) (end : End) (held : Option (List ℕ)) → sites.Stops M end (reel before.lines after.lines before.held held) (spot_in first publisher before false) (spot_in last publisher_last after has_faults) → Says (status_at end) (line_at end) status held after.held → after.source_opened ≡ before.source_opened → after.shelf_opened ≡ before.shelf_opened → Counted (end ≡ ends.Lines) before.lines_count after.lines_count → Counted (status ≡ S.OutFault) before.out_count after.out_count → PlaysAll M first publisher status before after
+pub all_halted : {T : Type 0} (M : Meanings T) (first last : Core T) (publisher publisher_last : Publisher) (status : Status) (before after : Scene) (has_faults : Bool) (end : End) (held : Option (List ℕ)) → sites.Stops M end (reel before.lines after.lines before.held held) (spot_in first publisher before false) (spot_in last publisher_last after has_faults) → EndsWith (status_at end) (line_at end) status held after.held → after.source_opened ≡ before.source_opened → after.shelf_opened ≡ before.shelf_opened → Counted (end ≡ ends.Lines) before.lines_count after.lines_count → Counted (status ≡ S.OutFault) before.out_count after.out_count → PlaysAll M first publisher status before after
 all_halted M first last publisher publisher_last status before after has_faults end held played said source shelf lines out = record {
   end = Some end;
   has_faults = has_faults;

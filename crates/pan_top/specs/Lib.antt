@@ -1,5 +1,5 @@
 -- What a stranger must believe: the statuses and their lines; how a build, a watcher, a demo and a
--- formatting end; the call; and what profiles keep.
+-- formatting end; the call; what profiles keep; and what a layout keeps.
 pub mod Statuses
 pub mod Builds
 pub mod Watches
@@ -7,3 +7,4 @@ pub mod Demos
 pub mod Formats
 pub mod Calls
 pub mod Profiles
+pub mod Layouts

@@ -26,7 +26,8 @@ use Rattle.pan_top.specs.Statuses.{status_after, Says}
 use Rattle.pan_top.specs.declared.status.Status.{Status}
 use Rattle.pan_top.specs.declared.status.Status.TheVariants as S
 
--- the status of a watcher whose lines did not end it, and the line of its end
+-- the status of a watcher whose lines did not end it, and the line of its end: where a text could not
+-- be written, or memory was wanting, nothing more is written
 abbrev pub status_at : End → Status
 status_at W.Lines = S.LinesFault
 status_at W.Out = S.OutFault
@@ -35,13 +36,19 @@ status_at W.TooMuch = S.TooMuch
 status_at W.TooManyLines = S.TooManyLines
 status_at W.Memory = S.Memory
 
-abbrev pub line_at : End → List ℕ
-line_at W.Lines = codes "lines fault\n"
-line_at W.Out = []
-line_at W.NumbersSpent = codes "numbers spent\n"
-line_at W.TooMuch = codes "too much\n"
-line_at W.TooManyLines = codes "too many lines\n"
-line_at W.Memory = []
+abbrev pub line_at : End → Option (List ℕ)
+line_at W.Lines = Some (codes "lines fault\n")
+line_at W.Out = None
+line_at W.NumbersSpent = Some (codes "numbers spent\n")
+line_at W.TooMuch = Some (codes "too much\n")
+line_at W.TooManyLines = Some (codes "too many lines\n")
+line_at W.Memory = None
+
+-- behind what was written stands the line of an end, or a part of it, as it was cut; or nothing does,
+-- where the end has none
+abbrev pub EndsWith : Status → Option (List ℕ) → Status → Option (List ℕ) → Option (List ℕ) → Type 0
+EndsWith own None status old new = (status ≡ own) × (new ≡ old)
+EndsWith own (Some line) status old new = Says own line status old new
 
 -- what a watcher's lines find there, beside the engine, whether the last report had a fault, and the
 -- publisher
@@ -52,8 +59,7 @@ spot_in core publisher s has_faults = record {
   has_faults = has_faults;
   spent = s.spent;
   source_count = s.source_count;
-  shelf_count = s.shelf_count;
-  cell = s.cell;
+  shelf = record { cell = s.cell; changes = s.changes; count = s.shelf_count };
   publisher = publisher;
 }
 
@@ -91,12 +97,13 @@ pub record Unbegun (w : Work) (status : Status) (before after : Scene) : Type 0 
   pub shelf_count : Counted (IsFailureOf D.Shelf end) before.shelf_count after.shelf_count
   pub out_count : Counted (status ≡ S.OutFault) before.out_count after.out_count
 
--- The status of a session that came to its end says whether its last report had a fault; behind what
--- one wrote that did not stands the line of its end.
+-- The status of a session that came to its end says whether its last report had a fault; one that did
+-- not has the status and the line of its end.
 abbrev pub Closes : Option End → Bool → Status → Option (List ℕ) → Option (List ℕ) → Type 0
 Closes None has_faults status old new =
     (status ≡ status_after (ended_by has_faults)) × (new ≡ old)
-Closes (Some end) has_faults status old new = Says (status_at end) (line_at end) status old new
+Closes (Some end) has_faults status old new =
+    EndsWith (status_at end) (line_at end) status old new
 
 -- a session was played to its end, or to this one
 abbrev pub IsPlayed : {T : Type 0} → Meanings T → Option End → Reel → Spot T → Spot T → Type 0

@@ -5,6 +5,7 @@ ghost use Rattle.compiler.specs.Untouched.{LeavesRest};
 ghost use Rattle.pan_ast.specs.declared.work.Limits.{Limits};
 ghost use Rattle.site_build.specs.Scenes.{scene};
 ghost use Rattle.pan_top.specs.Calls.{CallOf};
+ghost use Rattle.pan_top.specs.Layouts.{LayoutsKeep, LayoutsSettle};
 ghost use Rattle.pan_top.specs.Profiles.{AreKept};
 
 use crate::building::build;
@@ -66,7 +67,8 @@ fn carry_out<R: Runner, S: Source, H: Shelf, N: Lines, O: Sink, L: Ledger>(
 /// wants it. What the call writes, what it leaves on the shelf and its status are those of the words' session with the
 /// pictures that the source has to give, by what the runner means; a fault of a device, and want of memory, end it early.
 /// Each profile keeps what the runner's checks promise (`profiles`), and an edit of one file changes no answer but those
-/// of the objects that a watcher's `impact` names (`edits`).
+/// of the objects that a watcher's `impact` names (`edits`). A layout keeps the template, its comments and its annotations
+/// (`layouts`), and has itself as its layout (`settled`).
 ///
 /// The runner and the devices are handed back with the status. `steps` rises by the session's steps: one for each file that is taken, for each item that is compared, and the work of
 /// each run.
@@ -83,6 +85,8 @@ pub fn pan<R: Runner, S: Source, H: Shelf, N: Lines, O: Sink, L: Ledger>(
     ensures profiles { AreKept R.meaning R.promises }
     ensures edits { (dirs : List (List ℕ)) (limits : Limits) → length dirs ≤ MAX_WORK
         → LeavesRest (R.meaning dirs limits) dirs }
+    ensures layouts { LayoutsKeep }
+    ensures settled { LayoutsSettle }
 {
     carry_out(alloc, words, runner, devices, steps)
 }

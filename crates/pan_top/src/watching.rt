@@ -7,8 +7,7 @@ ghost use Rattle.site_build.specs.Session.{IsPerhapsOpened};
 ghost use Rattle.site_build.specs.declared.ends.Device.{Device};
 ghost use Rattle.watch.specs.declared.ends.End.TheVariants as ends;
 ghost use Rattle.site_build.specs.Scenes.{scene};
-ghost use Rattle.pan_top.specs.Statuses.{Says};
-ghost use Rattle.pan_top.specs.Watches.{HasListed, IsOpening, PlaysAll, SourceAt, WatchCall, line_at, status_at};
+ghost use Rattle.pan_top.specs.Watches.{EndsWith, HasListed, IsOpening, PlaysAll, SourceAt, WatchCall, line_at, status_at};
 ghost use Rattle.pan_top.specs.declared.status.Status.{Status};
 
 use crate::closing::{close_build, say};
@@ -62,7 +61,8 @@ fn open<S: Source, H: Shelf>(
 
 /// Writes the line of an end of the session, and gives the status.
 fn close<O: Sink>(end: Stop, out: &mut O) -> Status
-    ensures closes { Says (status_at end) (line_at end) result (O.held out.old) (O.held out.new) }
+    ensures closes { EndsWith (status_at end) (line_at end) result (O.held out.old)
+        (O.held out.new) }
     ensures count { (before : ℕ) → Counted (end ≡ ends.Out) before (O.fault_count out.old)
         → Counted (result ≡ Status.OutFault) before (O.fault_count out.new) }
 {

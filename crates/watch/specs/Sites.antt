@@ -1,7 +1,7 @@
 -- What a session works on, as clauses speak of it, and what a line makes of it.
 use Rattle.std.specs.Prelude.{◌≡◌, ◌≤◌, ℕ, List, Some, false, Result, OnOk}
 use Rattle.compiler.specs.Compiler.{Compiled, compiler}
-use Rattle.compiler.specs.Standing.{Here, Counts, counts, IsAt, IsIn}
+use Rattle.compiler.specs.Standing.{Here, Counts, counts, IsIn}
 use Rattle.outside.specs.Cells.{Cell}
 use Rattle.outside.specs.declared.shelf.Shelf as shelf
 use Rattle.outside.specs.declared.source.Source as source
@@ -13,10 +13,14 @@ use Rattle.session.specs.Orders.{Order}
 use Rattle.session.specs.Sessions.{started}
 use Rattle.outside.specs.declared.source.MemFile.{MemFile}
 use Rattle.watch.specs.Played.{Reel, Played, Finished, HasNames, Stopped}
+use Rattle.watch.specs.Shelves.{Shelved}
 use Rattle.watch.specs.declared.ends.End.{End}
-use Rattle.watch.specs.Steps.{Spot, At, Went, Cut, Worked}
+use Rattle.watch.specs.Steps.{Spot, At, Went, Cut}
 use Rattle.watch.specs.declared.site.Site.{Site}
 use Rattle.watch.specs.declared.step.Step.{Step}
+
+abbrev pub shelved : {H : Type 0} → shelf.Ghosts H → H → Shelved
+shelved H h = record { cell = H.cell h; changes = H.changes h; count = H.fault_count h }
 
 -- what a site holds and its devices tell
 abbrev pub spot_of : {R S H T : Type 0} (M : runner.Ghosts R T) → source.Ghosts S → shelf.Ghosts H
@@ -27,8 +31,7 @@ spot_of M S H site steps = record {
   has_faults = site.has_faults;
   spent = counts (M.runs_of site.works.runner) steps;
   source_count = S.fault_count site.source;
-  shelf_count = H.fault_count site.shelf;
-  cell = H.cell site.shelf;
+  shelf = shelved H site.shelf;
   publisher = site.publisher;
 }
 
@@ -47,14 +50,7 @@ Goes {T} means order step text before after = (dirs : List (List ℕ)) (limits :
 abbrev pub IsCut : {T : Type 0} → Meanings T → Order → Spot T → Spot T → Type 0
 IsCut {T} means order before after = (dirs : List (List ℕ)) (limits : Limits) (s : Here T)
     (start : List ℕ → Cell) (began : Counts) → At dirs limits s before start began
-    → Cut (compiler (means dirs limits) dirs) order s before after start
-
--- .. and at most its runs and steps were made
-abbrev pub Spends : {T : Type 0} → Meanings T → Order → Spot T → Spot T → Type 0
-Spends {T} means order before after = (dirs : List (List ℕ)) (limits : Limits) (s : Here T)
-    (began : Counts) → IsAt dirs limits s before.core began before.spent
-    → before.coming ≡ Some s.coming
-    → Worked (compiler (means dirs limits) dirs) order s began after.spent
+    → Cut (compiler (means dirs limits) dirs) order s before after began
 
 -- the devices were opened where they are, and no failure is forgotten
 pub record IsLater {R S H T : Type 0} {M : runner.Ghosts R T} (D : source.Ghosts S)
@@ -63,12 +59,6 @@ pub record IsLater {R S H T : Type 0} {M : runner.Ghosts R T} (D : source.Ghosts
   pub shelf_opened : P.opened after.shelf ≡ P.opened before.shelf
   pub source_later : D.fault_count before.source ≤ D.fault_count after.source
   pub shelf_later : P.fault_count before.shelf ≤ P.fault_count after.shelf
-
--- it was cut off: what stands on the shelf, and what was run
-pub record IsBroken {T : Type 0} (means : Meanings T) (order : Order) (before after : Spot T)
-    : Type 0 where
-  pub shelf : IsCut means order before after
-  pub work : Spends means order before after
 
 -- what holds behind a line, however it ended: where it was worked on, the publisher knows the shelf
 pub record IsBehind {R S H T A E : Type 0} {M : runner.Ghosts R T} (D : source.Ghosts S)

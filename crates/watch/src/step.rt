@@ -1,14 +1,13 @@
 ghost use Rattle.std.specs.Prelude.{◌≡◌, ◌≤◌, IfOk, OnOk, OnErr, [], ◌++◌, codes};
 ghost use Rattle.compiler.specs.Standing.{compiled_in, machine_in};
-ghost use Rattle.publication.specs.Published.{Knows, InterruptedWithin, may_stand_in};
-ghost use Rattle.publication.specs.Wants.{wants_of};
+ghost use Rattle.publication.specs.Published.{Knows};
 ghost use Rattle.rebuild.specs.Engines.{turns_left_of};
 ghost use Rattle.session.specs.Orders as orders;
 ghost use Rattle.session.specs.Orders.{order_of};
-ghost use Rattle.session.specs.Sessions.{answers_in, deps_of, profiles_of, shown_of, touched_of, unused_of};
+ghost use Rattle.session.specs.Sessions.{deps_of, shown_of, touched_of, unused_of};
 ghost use Rattle.session.specs.Texts.{about, outcome_text, deps_text, touched_text, unused_text};
-ghost use Rattle.watch.specs.Sites.{Goes, IsBehind, IsBroken, IsCut, IsLater, Spends, spot_of};
-ghost use Rattle.watch.specs.Steps.{Publishes};
+ghost use Rattle.watch.specs.Sites.{Goes, IsBehind, IsCut, IsLater, shelved, spot_of};
+ghost use Rattle.watch.specs.Steps.{Publishes, StopsPublishing};
 
 use crate::reading::{Order, read_order};
 use crate::site::Site;
@@ -45,7 +44,7 @@ fn scan_line<R: Runner, S: Source, H: Shelf, L: Ledger>(
     ensures went { IfOk result (λ step. Goes R.meaning orders.Scan step text.new.items
         (spot_of R.Runner S.Source H.Shelf site.old steps.old)
         (spot_of R.Runner S.Source H.Shelf site.new steps.new)) }
-    ensures work { OnErr result (Spends R.meaning orders.Scan
+    ensures cut { OnErr result (IsCut R.meaning orders.Scan
         (spot_of R.Runner S.Source H.Shelf site.old steps.old)
         (spot_of R.Runner S.Source H.Shelf site.new steps.new)) }
     ensures shelf { site.new.shelf ≡ site.old.shelf }
@@ -83,7 +82,7 @@ fn turn_line<R: Runner, S: Source, H: Shelf, L: Ledger>(
     ensures went { IfOk result (λ step. Goes R.meaning (orders.Turns number) step text.new.items
         (spot_of R.Runner S.Source H.Shelf site.old steps.old)
         (spot_of R.Runner S.Source H.Shelf site.new steps.new)) }
-    ensures work { OnErr result (Spends R.meaning (orders.Turns number)
+    ensures cut { OnErr result (IsCut R.meaning (orders.Turns number)
         (spot_of R.Runner S.Source H.Shelf site.old steps.old)
         (spot_of R.Runner S.Source H.Shelf site.new steps.new)) }
     ensures source { site.new.source ≡ site.old.source }
@@ -111,15 +110,12 @@ fn publish_built<R: Runner, H: Shelf>(
     requires settled { turns_left_of works.now.engine.core ≡ 0 }
     requires knows { Knows publisher.old (H.cell shelf.old) }
     ensures done { OnOk result (Publishes (machine_in R.meaning works.now.engine.core)
-        (compiled_in works.now.engine.core) has_faults.new text.new.items (H.fault_count shelf.old)
-        (H.fault_count shelf.new) (H.cell shelf.old) (H.cell shelf.new) publisher.old
-        publisher.new) }
+        (compiled_in works.now.engine.core) has_faults.new text.new.items
+        (shelved H.Shelf shelf.old) (shelved H.Shelf shelf.new) publisher.old publisher.new) }
     ensures knows { OnOk result (Knows publisher.new (H.cell shelf.new)) }
-    ensures left { OnErr result (InterruptedWithin publisher.old.most (wants_of (profiles_of
-        (answers_in (machine_in R.meaning works.now.engine.core)
-        (compiled_in works.now.engine.core)))) (may_stand_in publisher.old)
-        (H.fault_count shelf.old) (H.fault_count shelf.new) (H.cell shelf.old)
-        (H.cell shelf.new)) }
+    ensures left { OnErr result (StopsPublishing (machine_in R.meaning works.now.engine.core)
+        (compiled_in works.now.engine.core) publisher.old (shelved H.Shelf shelf.old)
+        (shelved H.Shelf shelf.new)) }
     ensures later { H.fault_count shelf.old ≤ H.fault_count shelf.new }
     ensures opened { H.opened shelf.new ≡ H.opened shelf.old }
 {
@@ -206,9 +202,6 @@ fn build_line<R: Runner, S: Source, H: Shelf, L: Ledger>(
     ensures cut { OnErr result (IsCut R.meaning orders.Build
         (spot_of R.Runner S.Source H.Shelf site.old steps.old)
         (spot_of R.Runner S.Source H.Shelf site.new steps.new)) }
-    ensures work { OnErr result (Spends R.meaning orders.Build
-        (spot_of R.Runner S.Source H.Shelf site.old steps.old)
-        (spot_of R.Runner S.Source H.Shelf site.new steps.new)) }
     ensures knows { OnOk result (Knows site.new.publisher (H.cell site.new.shelf)) }
     ensures later { IsLater S.Source H.Shelf site.old site.new }
 {
@@ -250,7 +243,7 @@ pub fn work_on<R: Runner, S: Source, H: Shelf, L: Ledger>(
     ensures went { IfOk result (λ step. Goes R.meaning (order_of line.now) step text.new.items
         (spot_of R.Runner S.Source H.Shelf site.old steps.old)
         (spot_of R.Runner S.Source H.Shelf site.new steps.new)) }
-    ensures cut { OnErr result (IsBroken R.meaning (order_of line.now)
+    ensures cut { OnErr result (IsCut R.meaning (order_of line.now)
         (spot_of R.Runner S.Source H.Shelf site.old steps.old)
         (spot_of R.Runner S.Source H.Shelf site.new steps.new)) }
     ensures behind { IsBehind S.Source H.Shelf result site.old site.new }

@@ -1,4 +1,5 @@
 use Rattle.compiler.proofs.Untouched.{leaves_rest}
+use Rattle.format_laws.proofs.Formatting.{formatting_kept, settled_again}
 use Rattle.pan_top.proofs.Profiles.{are_kept}
 use Rattle.pan_top.proofs.top.pan.Goals as goal
 
@@ -7,3 +8,9 @@ returns-clause-profiles g c = are_kept g.R.Runner.meaning g.met.R.Runner.laws g.
 
 pub returns-clause-edits : goal.returns-clause-edits
 returns-clause-edits g c = λ dirs limits few. leaves_rest (g.R.Runner.meaning dirs limits) dirs (g.met.R.Runner.laws dirs limits) (g.met.R.Runner.looks dirs limits) few
+
+pub returns-clause-layouts : goal.returns-clause-layouts
+returns-clause-layouts g c = formatting_kept
+
+pub returns-clause-settled : goal.returns-clause-settled
+returns-clause-settled g c = settled_again

@@ -1,13 +1,13 @@
-use Rattle.std.proofs.Common.{◌≡◌, [], codes, refl, subst, rules}
+use Rattle.std.proofs.Common.{◌≡◌, [], codes, refl, rules, subst, true}
 use Rattle.compiler.specs.Compiler.{compiler}
 use Rattle.compiler.specs.Standing.{counts, MakesTurns, TakesNext}
 use Rattle.compiler.proofs.Moves.{forgotten_in}
 use Rattle.publication.proofs.Planning.{on_err}
 use Rattle.publication.specs.declared.answer.Publication.TheVariants as publication
 use Rattle.session.specs.Orders.{Build}
-use Rattle.session.specs.Sessions.{Done, built}
+use Rattle.session.specs.Sessions.{built}
 use Rattle.watch.proofs.Going.{scan_failed, scan_spends, scan_exceeds, built_whole, build_spends, cut_off}
-use Rattle.watch.proofs.Working.{build_cut, build_untold, builds_rise, scan_worked}
+use Rattle.watch.proofs.Working.{build_cut, build_untold, builds_rise, scan_cut, scan_untold}
 use Rattle.watch.specs.Sites.{spot_of}
 use Rattle.watch.proofs.step.build_line.Goals as goal
 
@@ -15,15 +15,15 @@ pub returns-in-Failed-clause-went : goal.returns-in-Failed-clause-went
 returns-in-Failed-clause-went g c =
     let text : c.extend_from_slice.new.self.items ≡ codes "source fault\n" = search rules in
     λ dirs limits s start began at.
-    scan_failed (compiler (g.R.Runner.meaning dirs limits) dirs) dirs limits s (spot_of g.R.Runner g.S.Source g.H.Shelf c.args.site.now c.args.steps.now) _ _ _ _ start began Build _ _ (λ line scan. refl) at (subst (λ how. TakesNext (compiler (g.R.Runner.meaning dirs limits) dirs) dirs limits s how c.take_next.new.works.engine.core began (counts (g.R.Runner.runs_of c.take_next.new.works.runner) c.take_next.new.steps) (g.S.Source.coming c.take_next.new.source) (g.S.Source.fault_count c.args.site.now.source) (g.S.Source.fault_count c.take_next.new.source)) c.in-Failed.is (c.in_ok-take_next.ensures.took dirs limits s began at.engine at.coming)) c.take_next.ensures.count.later text
+    scan_failed (compiler (g.R.Runner.meaning dirs limits) dirs) dirs limits s (spot_of g.R.Runner g.S.Source g.H.Shelf c.args.site.now c.args.steps.now) _ _ _ _ start began Build _ _ refl (λ line scan. refl) at (subst (λ how. TakesNext (compiler (g.R.Runner.meaning dirs limits) dirs) dirs limits s how c.take_next.new.works.engine.core began (counts (g.R.Runner.runs_of c.take_next.new.works.runner) c.take_next.new.steps) (g.S.Source.coming c.take_next.new.source) (g.S.Source.fault_count c.args.site.now.source) (g.S.Source.fault_count c.take_next.new.source)) c.in-Failed.is (c.in_ok-take_next.ensures.took dirs limits s began at.engine at.coming)) c.take_next.ensures.count.later text
 
 pub returns-in-SpendsNumbers-clause-went : goal.returns-in-SpendsNumbers-clause-went
 returns-in-SpendsNumbers-clause-went g c = λ dirs limits s start began at.
-    scan_spends (compiler (g.R.Runner.meaning dirs limits) dirs) dirs limits s (spot_of g.R.Runner g.S.Source g.H.Shelf c.args.site.now c.args.steps.now) _ _ _ _ start began Build _ _ (λ line scan. refl) (subst (λ how. TakesNext (compiler (g.R.Runner.meaning dirs limits) dirs) dirs limits s how c.take_next.new.works.engine.core began (counts (g.R.Runner.runs_of c.take_next.new.works.runner) c.take_next.new.steps) (g.S.Source.coming c.take_next.new.source) (g.S.Source.fault_count c.args.site.now.source) (g.S.Source.fault_count c.take_next.new.source)) c.in-SpendsNumbers.is (c.in_ok-take_next.ensures.took dirs limits s began at.engine at.coming)) c.take_next.ensures.count.later
+    scan_spends (compiler (g.R.Runner.meaning dirs limits) dirs) dirs limits s (spot_of g.R.Runner g.S.Source g.H.Shelf c.args.site.now c.args.steps.now) _ _ _ _ start began Build _ _ refl (λ line scan. refl) (subst (λ how. TakesNext (compiler (g.R.Runner.meaning dirs limits) dirs) dirs limits s how c.take_next.new.works.engine.core began (counts (g.R.Runner.runs_of c.take_next.new.works.runner) c.take_next.new.steps) (g.S.Source.coming c.take_next.new.source) (g.S.Source.fault_count c.args.site.now.source) (g.S.Source.fault_count c.take_next.new.source)) c.in-SpendsNumbers.is (c.in_ok-take_next.ensures.took dirs limits s began at.engine at.coming)) c.take_next.ensures.count.later
 
 pub returns-in-IsTooMuch-clause-went : goal.returns-in-IsTooMuch-clause-went
 returns-in-IsTooMuch-clause-went g c = λ dirs limits s start began at.
-    scan_exceeds (compiler (g.R.Runner.meaning dirs limits) dirs) dirs limits s (spot_of g.R.Runner g.S.Source g.H.Shelf c.args.site.now c.args.steps.now) _ _ _ _ start began Build _ _ (λ line scan. refl) (subst (λ how. TakesNext (compiler (g.R.Runner.meaning dirs limits) dirs) dirs limits s how c.take_next.new.works.engine.core began (counts (g.R.Runner.runs_of c.take_next.new.works.runner) c.take_next.new.steps) (g.S.Source.coming c.take_next.new.source) (g.S.Source.fault_count c.args.site.now.source) (g.S.Source.fault_count c.take_next.new.source)) c.in-IsTooMuch.is (c.in_ok-take_next.ensures.took dirs limits s began at.engine at.coming)) c.take_next.ensures.count.later
+    scan_exceeds (compiler (g.R.Runner.meaning dirs limits) dirs) dirs limits s (spot_of g.R.Runner g.S.Source g.H.Shelf c.args.site.now c.args.steps.now) _ _ _ _ start began Build _ _ refl (λ line scan. refl) (subst (λ how. TakesNext (compiler (g.R.Runner.meaning dirs limits) dirs) dirs limits s how c.take_next.new.works.engine.core began (counts (g.R.Runner.runs_of c.take_next.new.works.runner) c.take_next.new.steps) (g.S.Source.coming c.take_next.new.source) (g.S.Source.fault_count c.args.site.now.source) (g.S.Source.fault_count c.take_next.new.source)) c.in-IsTooMuch.is (c.in_ok-take_next.ensures.took dirs limits s began at.engine at.coming)) c.take_next.ensures.count.later
 
 pub returns-then-not-branch-clause-went : goal.returns-then-not-branch-clause-went
 returns-then-not-branch-clause-went g c = λ dirs limits s start began at.
@@ -36,27 +36,28 @@ returns-clause-went g c = λ dirs limits s start began at.
     let made = (subst (λ all. MakesTurns (compiler (g.R.Runner.meaning dirs limits) dirs) dirs limits c.turns_left-left.result t.state all c.make_turns.new.works.engine.core began (counts (g.R.Runner.runs_of c.make_turns.new.works.runner) c.make_turns.new.steps)) c.if-not-branch.false (c.in_ok-make_turns.ensures.made dirs limits t.state began t.stands)) in
     let settled = c.make_turns.new.works.engine.core in
     let forgot = forgotten_in g.R.Runner.meaning settled c.forget_runs.new.self.core c.forget_runs.ensures.files c.forget_runs.ensures.dirs c.forget_runs.ensures.limits c.forget_runs.ensures.state dirs limits made.state.engine made.stands.engine in
-    built_whole g.R.Runner.meaning dirs limits s (spot_of g.R.Runner g.S.Source g.H.Shelf c.args.site.now c.args.steps.now) c.take_next.new.works.engine.core c.make_turns.new.works.engine.core _ _ _ _ c.turns_left-left.result start began _ _ _ _ _ c.publish_built.new.text.items at t c.take_next.ensures.count.later c.turns_left-left.ensures made c.in_ok-publish_built.ensures.done forgot c.publish_built.ensures.later
+    built_whole g.R.Runner.meaning dirs limits s (spot_of g.R.Runner g.S.Source g.H.Shelf c.args.site.now c.args.steps.now) c.take_next.new.works.engine.core c.make_turns.new.works.engine.core _ _ _ _ c.turns_left-left.result start began _ _ _ _ c.publish_built.new.text.items at t c.take_next.ensures.count.later c.turns_left-left.ensures made c.in_ok-publish_built.ensures.done forgot
+
+pub returns-in_err-take_next-clause-cut : goal.returns-in_err-take_next-clause-cut
+returns-in_err-take_next-clause-cut g c =
+    let same : g.S.Source.fault_count c.take_next.new.source ≡ g.S.Source.fault_count c.args.site.now.source = search rules in
+    on_err c.from_residual.result (λ dirs limits s start began at.
+    let machine = compiler (g.R.Runner.meaning dirs limits) dirs in
+    scan_cut g.R.Runner.meaning dirs limits s (spot_of g.R.Runner g.S.Source g.H.Shelf c.args.site.now c.args.steps.now) _ began c.take_next.new.works.engine.core Build refl (built machine (publication.Done [])) (λ line scan. refl) (builds_rise machine) c.take_next.ensures.perhaps c.take_next.ensures.count.later refl same (c.in_err-take_next.ensures.cut dirs limits s began at.engine at.coming (built machine (publication.Done [])) (builds_rise machine)))
+
+pub returns-in_err-extend_from_slice-in-Failed-clause-cut : goal.returns-in_err-extend_from_slice-in-Failed-clause-cut
+returns-in_err-extend_from_slice-in-Failed-clause-cut g c = on_err c.from_residual-in_err-extend_from_slice-in-Failed.result (λ dirs limits s start began at.
+    let machine = compiler (g.R.Runner.meaning dirs limits) dirs in
+    scan_untold g.R.Runner.meaning dirs limits s (spot_of g.R.Runner g.S.Source g.H.Shelf c.args.site.now c.args.steps.now) _ began c.take_next.new.works.engine.core Build refl (built machine (publication.Done [])) (λ line scan. refl) (builds_rise machine) c.take_next.ensures.perhaps c.take_next.ensures.count.later refl _ (c.in_ok-take_next.ensures.took dirs limits s began at.engine at.coming))
+
+pub returns-in_err-make_turns-clause-cut : goal.returns-in_err-make_turns-clause-cut
+returns-in_err-make_turns-clause-cut g c = on_err c.from_residual-in_err-make_turns.result (λ dirs limits s start began at.
+    let t = (subst (λ how. TakesNext (compiler (g.R.Runner.meaning dirs limits) dirs) dirs limits s how c.take_next.new.works.engine.core began (counts (g.R.Runner.runs_of c.take_next.new.works.runner) c.take_next.new.steps) (g.S.Source.coming c.take_next.new.source) (g.S.Source.fault_count c.args.site.now.source) (g.S.Source.fault_count c.take_next.new.source)) c.in-Taken.is (c.in_ok-take_next.ensures.took dirs limits s began at.engine at.coming)) in
+    build_cut g.R.Runner.meaning dirs limits s (spot_of g.R.Runner g.S.Source g.H.Shelf c.args.site.now c.args.steps.now) _ began t c.turns_left-left.ensures c.take_next.ensures.perhaps c.take_next.ensures.count.later refl (c.in_err-make_turns.ensures.cut dirs limits t.state began t.stands))
 
 pub returns-in_err-publish_built-clause-cut : goal.returns-in_err-publish_built-clause-cut
 returns-in_err-publish_built-clause-cut g c = on_err c.from_residual-in_err-publish_built.result (λ dirs limits s start began at.
     let t = (subst (λ how. TakesNext (compiler (g.R.Runner.meaning dirs limits) dirs) dirs limits s how c.take_next.new.works.engine.core began (counts (g.R.Runner.runs_of c.take_next.new.works.runner) c.take_next.new.steps) (g.S.Source.coming c.take_next.new.source) (g.S.Source.fault_count c.args.site.now.source) (g.S.Source.fault_count c.take_next.new.source)) c.in-Taken.is (c.in_ok-take_next.ensures.took dirs limits s began at.engine at.coming)) in
-    cut_off g.R.Runner.meaning dirs limits s (spot_of g.R.Runner g.S.Source g.H.Shelf c.args.site.now c.args.steps.now) c.take_next.new.works.engine.core c.make_turns.new.works.engine.core _ _ _ _ c.turns_left-left.result start began at _ t c.turns_left-left.ensures (subst (λ all. MakesTurns (compiler (g.R.Runner.meaning dirs limits) dirs) dirs limits c.turns_left-left.result t.state all c.make_turns.new.works.engine.core began (counts (g.R.Runner.runs_of c.make_turns.new.works.runner) c.make_turns.new.steps)) c.if-not-branch.false (c.in_ok-make_turns.ensures.made dirs limits t.state began t.stands)) c.in_err-publish_built.ensures.left)
-
-pub returns-in_err-take_next-clause-work : goal.returns-in_err-take_next-clause-work
-returns-in_err-take_next-clause-work g c = on_err c.from_residual.result (λ dirs limits s began at coming.
-    record { scan = Done; publication = publication.Done []; spent = λ line. c.in_err-take_next.ensures.cut dirs limits s began at coming (built (compiler (g.R.Runner.meaning dirs limits) dirs) (publication.Done [])) (builds_rise (compiler (g.R.Runner.meaning dirs limits) dirs)) })
-
-pub returns-in_err-extend_from_slice-in-Failed-clause-work : goal.returns-in_err-extend_from_slice-in-Failed-clause-work
-returns-in_err-extend_from_slice-in-Failed-clause-work g c = on_err c.from_residual-in_err-extend_from_slice-in-Failed.result (λ dirs limits s began at coming.
-    scan_worked g.R.Runner.meaning dirs limits s c.take_next.new.works.engine.core began (counts (g.R.Runner.runs_of c.take_next.new.works.runner) c.take_next.new.steps) (g.S.Source.coming c.take_next.new.source) (g.S.Source.fault_count c.args.site.now.source) (g.S.Source.fault_count c.take_next.new.source) Build (built (compiler (g.R.Runner.meaning dirs limits) dirs) (publication.Done [])) (λ line scan. refl) (builds_rise (compiler (g.R.Runner.meaning dirs limits) dirs)) _ (c.in_ok-take_next.ensures.took dirs limits s began at coming))
-
-pub returns-in_err-make_turns-clause-work : goal.returns-in_err-make_turns-clause-work
-returns-in_err-make_turns-clause-work g c = on_err c.from_residual-in_err-make_turns.result (λ dirs limits s began at coming.
-    let t = (subst (λ how. TakesNext (compiler (g.R.Runner.meaning dirs limits) dirs) dirs limits s how c.take_next.new.works.engine.core began (counts (g.R.Runner.runs_of c.take_next.new.works.runner) c.take_next.new.steps) (g.S.Source.coming c.take_next.new.source) (g.S.Source.fault_count c.args.site.now.source) (g.S.Source.fault_count c.take_next.new.source)) c.in-Taken.is (c.in_ok-take_next.ensures.took dirs limits s began at coming)) in
-    build_cut g.R.Runner.meaning dirs limits (counts (g.R.Runner.runs_of c.make_turns.new.works.runner) c.make_turns.new.steps) t c.turns_left-left.ensures (c.in_err-make_turns.ensures.cut dirs limits t.state began t.stands))
-
-pub returns-in_err-publish_built-clause-work : goal.returns-in_err-publish_built-clause-work
-returns-in_err-publish_built-clause-work g c = on_err c.from_residual-in_err-publish_built.result (λ dirs limits s began at coming.
-    let t = (subst (λ how. TakesNext (compiler (g.R.Runner.meaning dirs limits) dirs) dirs limits s how c.take_next.new.works.engine.core began (counts (g.R.Runner.runs_of c.take_next.new.works.runner) c.take_next.new.steps) (g.S.Source.coming c.take_next.new.source) (g.S.Source.fault_count c.args.site.now.source) (g.S.Source.fault_count c.take_next.new.source)) c.in-Taken.is (c.in_ok-take_next.ensures.took dirs limits s began at coming)) in
-    build_untold g.R.Runner.meaning dirs limits (counts (g.R.Runner.runs_of c.make_turns.new.works.runner) c.make_turns.new.steps) t c.turns_left-left.ensures _ c.make_turns.new.works.engine.core (c.in_ok-make_turns.ensures.made dirs limits t.state began t.stands))
+    let made = (subst (λ all. MakesTurns (compiler (g.R.Runner.meaning dirs limits) dirs) dirs limits c.turns_left-left.result t.state all c.make_turns.new.works.engine.core began (counts (g.R.Runner.runs_of c.make_turns.new.works.runner) c.make_turns.new.steps)) c.if-not-branch.false (c.in_ok-make_turns.ensures.made dirs limits t.state began t.stands)) in
+    let shelf = cut_off g.R.Runner.meaning dirs limits s (spot_of g.R.Runner g.S.Source g.H.Shelf c.args.site.now c.args.steps.now) c.take_next.new.works.engine.core c.make_turns.new.works.engine.core _ _ _ _ c.turns_left-left.result start began at _ t c.turns_left-left.ensures made c.in_err-publish_built.ensures.left in
+    build_untold g.R.Runner.meaning dirs limits s (spot_of g.R.Runner g.S.Source g.H.Shelf c.args.site.now c.args.steps.now) _ began t c.turns_left-left.ensures c.take_next.ensures.perhaps c.take_next.ensures.count.later shelf true c.make_turns.new.works.engine.core made)

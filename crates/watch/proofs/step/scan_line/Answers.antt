@@ -1,15 +1,14 @@
-use Rattle.std.proofs.Common.{◌≡◌, [], ◌++◌, ap₂, codes, length, rules, refl, subst, ◌∙◌}
+use Rattle.std.proofs.Common.{◌≡◌, ◌++◌, ap₂, codes, length, refl, rules, subst, ◌∙◌}
 use Rattle.compiler.specs.Compiler.{compiler}
 use Rattle.compiler.specs.Standing.{counts, TakesNext}
 use Rattle.engine_turns.specs.Places.{names}
 use Rattle.engine_turns.specs.States.{pictured}
 use Rattle.publication.proofs.Planning.{on_err}
-use Rattle.publication.specs.declared.answer.Publication.TheVariants as publication
 use Rattle.session.specs.Orders.{Scan}
-use Rattle.session.specs.Sessions.{Done, writes, answers_in}
+use Rattle.session.specs.Sessions.{writes, answers_in}
 use Rattle.session.specs.Texts.{files_line}
 use Rattle.watch.proofs.Going.{files_are, scan_taken, scan_failed, scan_spends, scan_exceeds}
-use Rattle.watch.proofs.Working.{scan_worked, writes_rises}
+use Rattle.watch.proofs.Working.{scan_cut, scan_untold, writes_rises}
 use Rattle.watch.specs.Sites.{spot_of}
 use Rattle.watch.proofs.step.scan_line.Goals as goal
 
@@ -17,7 +16,7 @@ pub returns-in_ok-extend_from_slice-in-Failed-clause-went : goal.returns-in_ok-e
 returns-in_ok-extend_from_slice-in-Failed-clause-went g c =
     let text : c.extend_from_slice.new.self.items ≡ codes "source fault\n" = search rules in
     λ dirs limits s start began at.
-    scan_failed (compiler (g.R.Runner.meaning dirs limits) dirs) dirs limits s (spot_of g.R.Runner g.S.Source g.H.Shelf c.args.site.now c.args.steps.now) _ _ _ _ start began Scan _ _ (λ line scan. refl) at (subst (λ how. TakesNext (compiler (g.R.Runner.meaning dirs limits) dirs) dirs limits s how c.take_next.new.works.engine.core began (counts (g.R.Runner.runs_of c.take_next.new.works.runner) c.take_next.new.steps) (g.S.Source.coming c.take_next.new.source) (g.S.Source.fault_count c.args.site.now.source) (g.S.Source.fault_count c.take_next.new.source)) c.in-Failed.is (c.in_ok-take_next.ensures.took dirs limits s began at.engine at.coming)) c.take_next.ensures.count.later text
+    scan_failed (compiler (g.R.Runner.meaning dirs limits) dirs) dirs limits s (spot_of g.R.Runner g.S.Source g.H.Shelf c.args.site.now c.args.steps.now) _ _ _ _ start began Scan _ _ refl (λ line scan. refl) at (subst (λ how. TakesNext (compiler (g.R.Runner.meaning dirs limits) dirs) dirs limits s how c.take_next.new.works.engine.core began (counts (g.R.Runner.runs_of c.take_next.new.works.runner) c.take_next.new.steps) (g.S.Source.coming c.take_next.new.source) (g.S.Source.fault_count c.args.site.now.source) (g.S.Source.fault_count c.take_next.new.source)) c.in-Failed.is (c.in_ok-take_next.ensures.took dirs limits s began at.engine at.coming)) c.take_next.ensures.count.later text
 
 pub returns-in_ok-push_files-in-Taken-clause-went : goal.returns-in_ok-push_files-in-Taken-clause-went
 returns-in_ok-push_files-in-Taken-clause-went g c =
@@ -30,24 +29,30 @@ returns-in_ok-push_files-in-Taken-clause-went g c =
 
 pub returns-in-SpendsNumbers-clause-went : goal.returns-in-SpendsNumbers-clause-went
 returns-in-SpendsNumbers-clause-went g c = λ dirs limits s start began at.
-    scan_spends (compiler (g.R.Runner.meaning dirs limits) dirs) dirs limits s (spot_of g.R.Runner g.S.Source g.H.Shelf c.args.site.now c.args.steps.now) _ _ _ _ start began Scan _ _ (λ line scan. refl) (subst (λ how. TakesNext (compiler (g.R.Runner.meaning dirs limits) dirs) dirs limits s how c.take_next.new.works.engine.core began (counts (g.R.Runner.runs_of c.take_next.new.works.runner) c.take_next.new.steps) (g.S.Source.coming c.take_next.new.source) (g.S.Source.fault_count c.args.site.now.source) (g.S.Source.fault_count c.take_next.new.source)) c.in-SpendsNumbers.is (c.in_ok-take_next.ensures.took dirs limits s began at.engine at.coming)) c.take_next.ensures.count.later
+    scan_spends (compiler (g.R.Runner.meaning dirs limits) dirs) dirs limits s (spot_of g.R.Runner g.S.Source g.H.Shelf c.args.site.now c.args.steps.now) _ _ _ _ start began Scan _ _ refl (λ line scan. refl) (subst (λ how. TakesNext (compiler (g.R.Runner.meaning dirs limits) dirs) dirs limits s how c.take_next.new.works.engine.core began (counts (g.R.Runner.runs_of c.take_next.new.works.runner) c.take_next.new.steps) (g.S.Source.coming c.take_next.new.source) (g.S.Source.fault_count c.args.site.now.source) (g.S.Source.fault_count c.take_next.new.source)) c.in-SpendsNumbers.is (c.in_ok-take_next.ensures.took dirs limits s began at.engine at.coming)) c.take_next.ensures.count.later
 
 pub returns-in-IsTooMuch-clause-went : goal.returns-in-IsTooMuch-clause-went
 returns-in-IsTooMuch-clause-went g c = λ dirs limits s start began at.
-    scan_exceeds (compiler (g.R.Runner.meaning dirs limits) dirs) dirs limits s (spot_of g.R.Runner g.S.Source g.H.Shelf c.args.site.now c.args.steps.now) _ _ _ _ start began Scan _ _ (λ line scan. refl) (subst (λ how. TakesNext (compiler (g.R.Runner.meaning dirs limits) dirs) dirs limits s how c.take_next.new.works.engine.core began (counts (g.R.Runner.runs_of c.take_next.new.works.runner) c.take_next.new.steps) (g.S.Source.coming c.take_next.new.source) (g.S.Source.fault_count c.args.site.now.source) (g.S.Source.fault_count c.take_next.new.source)) c.in-IsTooMuch.is (c.in_ok-take_next.ensures.took dirs limits s began at.engine at.coming)) c.take_next.ensures.count.later
+    scan_exceeds (compiler (g.R.Runner.meaning dirs limits) dirs) dirs limits s (spot_of g.R.Runner g.S.Source g.H.Shelf c.args.site.now c.args.steps.now) _ _ _ _ start began Scan _ _ refl (λ line scan. refl) (subst (λ how. TakesNext (compiler (g.R.Runner.meaning dirs limits) dirs) dirs limits s how c.take_next.new.works.engine.core began (counts (g.R.Runner.runs_of c.take_next.new.works.runner) c.take_next.new.steps) (g.S.Source.coming c.take_next.new.source) (g.S.Source.fault_count c.args.site.now.source) (g.S.Source.fault_count c.take_next.new.source)) c.in-IsTooMuch.is (c.in_ok-take_next.ensures.took dirs limits s began at.engine at.coming)) c.take_next.ensures.count.later
 
-pub returns-in_err-take_next-clause-work : goal.returns-in_err-take_next-clause-work
-returns-in_err-take_next-clause-work g c = on_err c.from_residual.result (λ dirs limits s began at coming.
-    record { scan = Done; publication = publication.Done []; spent = λ line. c.in_err-take_next.ensures.cut dirs limits s began at coming (λ u. writes u (files_line (length ((compiler (g.R.Runner.meaning dirs limits) dirs).picture u.engine)) (length (answers_in (compiler (g.R.Runner.meaning dirs limits) dirs) u.engine)))) (writes_rises (λ u. files_line (length ((compiler (g.R.Runner.meaning dirs limits) dirs).picture u.engine)) (length (answers_in (compiler (g.R.Runner.meaning dirs limits) dirs) u.engine)))) })
+pub returns-in_err-take_next-clause-cut : goal.returns-in_err-take_next-clause-cut
+returns-in_err-take_next-clause-cut g c =
+    let same : g.S.Source.fault_count c.take_next.new.source ≡ g.S.Source.fault_count c.args.site.now.source = search rules in
+    on_err c.from_residual.result (λ dirs limits s start began at.
+    let machine = compiler (g.R.Runner.meaning dirs limits) dirs in
+    scan_cut g.R.Runner.meaning dirs limits s (spot_of g.R.Runner g.S.Source g.H.Shelf c.args.site.now c.args.steps.now) _ began c.take_next.new.works.engine.core Scan refl (λ u. writes u (files_line (length (machine.picture u.engine)) (length (answers_in machine u.engine)))) (λ line scan. refl) (writes_rises (λ u. files_line (length (machine.picture u.engine)) (length (answers_in machine u.engine)))) c.take_next.ensures.perhaps c.take_next.ensures.count.later refl same (c.in_err-take_next.ensures.cut dirs limits s began at.engine at.coming (λ u. writes u (files_line (length (machine.picture u.engine)) (length (answers_in machine u.engine)))) (writes_rises (λ u. files_line (length (machine.picture u.engine)) (length (answers_in machine u.engine))))))
 
-pub returns-in_err-extend_from_slice-in-Failed-clause-work : goal.returns-in_err-extend_from_slice-in-Failed-clause-work
-returns-in_err-extend_from_slice-in-Failed-clause-work g c = on_err c.from_residual-in_err-extend_from_slice-in-Failed.result (λ dirs limits s began at coming.
-    scan_worked g.R.Runner.meaning dirs limits s c.take_next.new.works.engine.core began (counts (g.R.Runner.runs_of c.take_next.new.works.runner) c.take_next.new.steps) (g.S.Source.coming c.take_next.new.source) (g.S.Source.fault_count c.args.site.now.source) (g.S.Source.fault_count c.take_next.new.source) Scan (λ u. writes u (files_line (length ((compiler (g.R.Runner.meaning dirs limits) dirs).picture u.engine)) (length (answers_in (compiler (g.R.Runner.meaning dirs limits) dirs) u.engine)))) (λ line scan. refl) (writes_rises (λ u. files_line (length ((compiler (g.R.Runner.meaning dirs limits) dirs).picture u.engine)) (length (answers_in (compiler (g.R.Runner.meaning dirs limits) dirs) u.engine)))) _ (c.in_ok-take_next.ensures.took dirs limits s began at coming))
+pub returns-in_err-extend_from_slice-in-Failed-clause-cut : goal.returns-in_err-extend_from_slice-in-Failed-clause-cut
+returns-in_err-extend_from_slice-in-Failed-clause-cut g c = on_err c.from_residual-in_err-extend_from_slice-in-Failed.result (λ dirs limits s start began at.
+    let machine = compiler (g.R.Runner.meaning dirs limits) dirs in
+    scan_untold g.R.Runner.meaning dirs limits s (spot_of g.R.Runner g.S.Source g.H.Shelf c.args.site.now c.args.steps.now) _ began c.take_next.new.works.engine.core Scan refl (λ u. writes u (files_line (length (machine.picture u.engine)) (length (answers_in machine u.engine)))) (λ line scan. refl) (writes_rises (λ u. files_line (length (machine.picture u.engine)) (length (answers_in machine u.engine)))) c.take_next.ensures.perhaps c.take_next.ensures.count.later refl _ (c.in_ok-take_next.ensures.took dirs limits s began at.engine at.coming))
 
-pub returns-in_err-objects-in-Taken-clause-work : goal.returns-in_err-objects-in-Taken-clause-work
-returns-in_err-objects-in-Taken-clause-work g c = on_err c.from_residual-in_err-objects-in-Taken.result (λ dirs limits s began at coming.
-    scan_worked g.R.Runner.meaning dirs limits s c.take_next.new.works.engine.core began (counts (g.R.Runner.runs_of c.take_next.new.works.runner) c.take_next.new.steps) (g.S.Source.coming c.take_next.new.source) (g.S.Source.fault_count c.args.site.now.source) (g.S.Source.fault_count c.take_next.new.source) Scan (λ u. writes u (files_line (length ((compiler (g.R.Runner.meaning dirs limits) dirs).picture u.engine)) (length (answers_in (compiler (g.R.Runner.meaning dirs limits) dirs) u.engine)))) (λ line scan. refl) (writes_rises (λ u. files_line (length ((compiler (g.R.Runner.meaning dirs limits) dirs).picture u.engine)) (length (answers_in (compiler (g.R.Runner.meaning dirs limits) dirs) u.engine)))) _ (c.in_ok-take_next.ensures.took dirs limits s began at coming))
+pub returns-in_err-objects-in-Taken-clause-cut : goal.returns-in_err-objects-in-Taken-clause-cut
+returns-in_err-objects-in-Taken-clause-cut g c = on_err c.from_residual-in_err-objects-in-Taken.result (λ dirs limits s start began at.
+    let machine = compiler (g.R.Runner.meaning dirs limits) dirs in
+    scan_untold g.R.Runner.meaning dirs limits s (spot_of g.R.Runner g.S.Source g.H.Shelf c.args.site.now c.args.steps.now) _ began c.take_next.new.works.engine.core Scan refl (λ u. writes u (files_line (length (machine.picture u.engine)) (length (answers_in machine u.engine)))) (λ line scan. refl) (writes_rises (λ u. files_line (length (machine.picture u.engine)) (length (answers_in machine u.engine)))) c.take_next.ensures.perhaps c.take_next.ensures.count.later refl _ (c.in_ok-take_next.ensures.took dirs limits s began at.engine at.coming))
 
-pub returns-in_err-push_files-in-Taken-clause-work : goal.returns-in_err-push_files-in-Taken-clause-work
-returns-in_err-push_files-in-Taken-clause-work g c = on_err c.from_residual-in_err-push_files-in-Taken.result (λ dirs limits s began at coming.
-    scan_worked g.R.Runner.meaning dirs limits s c.take_next.new.works.engine.core began (counts (g.R.Runner.runs_of c.take_next.new.works.runner) c.take_next.new.steps) (g.S.Source.coming c.take_next.new.source) (g.S.Source.fault_count c.args.site.now.source) (g.S.Source.fault_count c.take_next.new.source) Scan (λ u. writes u (files_line (length ((compiler (g.R.Runner.meaning dirs limits) dirs).picture u.engine)) (length (answers_in (compiler (g.R.Runner.meaning dirs limits) dirs) u.engine)))) (λ line scan. refl) (writes_rises (λ u. files_line (length ((compiler (g.R.Runner.meaning dirs limits) dirs).picture u.engine)) (length (answers_in (compiler (g.R.Runner.meaning dirs limits) dirs) u.engine)))) _ (c.in_ok-take_next.ensures.took dirs limits s began at coming))
+pub returns-in_err-push_files-in-Taken-clause-cut : goal.returns-in_err-push_files-in-Taken-clause-cut
+returns-in_err-push_files-in-Taken-clause-cut g c = on_err c.from_residual-in_err-push_files-in-Taken.result (λ dirs limits s start began at.
+    let machine = compiler (g.R.Runner.meaning dirs limits) dirs in
+    scan_untold g.R.Runner.meaning dirs limits s (spot_of g.R.Runner g.S.Source g.H.Shelf c.args.site.now c.args.steps.now) _ began c.take_next.new.works.engine.core Scan refl (λ u. writes u (files_line (length (machine.picture u.engine)) (length (answers_in machine u.engine)))) (λ line scan. refl) (writes_rises (λ u. files_line (length (machine.picture u.engine)) (length (answers_in machine u.engine)))) c.take_next.ensures.perhaps c.take_next.ensures.count.later refl _ (c.in_ok-take_next.ensures.took dirs limits s began at.engine at.coming))

@@ -1,9 +1,12 @@
-use Rattle.std.proofs.Common.{◌≡◌, ◌∙◌, true, false, [], inl, inr, refl, arith}
+use Rattle.std.proofs.Common.{◌≡◌, ◌<◌, ◌∙◌, true, false, inl, inr, refl, arith}
 use Rattle.compiler.specs.Compiler.{compiler}
 use Rattle.outside.specs.Contents.{Appends}
 use Rattle.outside.specs.Lines.{NextLine}
 use Rattle.watch.proofs.Playing.{one_more, none_yet}
-use Rattle.watch.proofs.Stopping.{broken, no_part, stopped_lines, stopped_out, spent, exceeded, quitted}
+use Rattle.watch.proofs.Stopping.{broken, caused_behind, ends_in, stopped_lines, stopped_out}
+use Rattle.watch.specs.declared.ends.End.TheVariants as ends
+use Rattle.watch.specs.declared.step.Step.TheVariants as step
+use Rattle.watch.specs.declared.watch.TheConstants.{MAX_LINES}
 use Rattle.watch.proofs.watch.play.Goals as goal
 
 pub loop-i-init : goal.loop-i-init
@@ -19,40 +22,54 @@ loop-i-init g c = record {
 pub returns-in-Ok-false-clause-ok : goal.returns-in-Ok-false-clause-ok
 returns-in-Ok-false-clause-ok g c =
     let read : NextLine false c.next_line.new.into.items (g.N.Lines.left c.loop-i.lines) (g.N.Lines.left c.next_line.new.lines) = rw c.in-Ok-false.field-0-test at c.in-Ok-false.ensures.ok in
-    λ dirs limits e ps names is told has. inl (record { many = c.loop-i._i; lines = g.N.Lines.left c.loop-i.lines; played = c.loop-i.invariant.played dirs limits e ps names is told has; line = c.next_line.new.into.items; over = read })
+    let few : c.loop-i._i < MAX_LINES = omega (arith, c.loop-i-test.true) in
+    λ dirs limits e ps names is told has. inl (record { many = c.loop-i._i; few = few; lines = g.N.Lines.left c.loop-i.lines; played = c.loop-i.invariant.played dirs limits e ps names is told has; line = c.next_line.new.into.items; over = read })
 
 pub returns-in-Err-clause-err : goal.returns-in-Err-clause-err
-returns-in-Err-clause-err g c = λ dirs limits e ps names is told has. stopped_lines (compiler (g.R.Runner.meaning dirs limits) dirs) dirs limits _ _ _ _ _ _ _ _ _ _ _ c.in-Err.end c.in-Err.ensures.kind (c.loop-i.invariant.played dirs limits e ps names is told has) c.in-Err.ensures.err refl refl
+returns-in-Err-clause-err g c =
+    let few : c.loop-i._i < MAX_LINES = omega (arith, c.loop-i-test.true) in
+    λ dirs limits e ps names is told has. stopped_lines (compiler (g.R.Runner.meaning dirs limits) dirs) dirs limits _ _ _ _ _ _ _ _ _ _ _ few (c.loop-i.invariant.played dirs limits e ps names is told has) c.in-Err.end c.in-Err.ensures.kind c.in-Err.ensures.err refl refl
+
+pub returns-in-Err-clause-lines_cause : goal.returns-in-Err-clause-lines_cause
+returns-in-Err-clause-lines_cause g c = caused_behind c.in-Err.end ends.Lines (g.N.Lines.fault_count c.args.lines.now) (g.N.Lines.fault_count c.loop-i.lines) (g.N.Lines.fault_count c.next_line.new.lines) c.loop-i.invariant.lines c.in-Err.ensures.cause
 
 pub returns-in-Ok-Quits-clause-ok : goal.returns-in-Ok-Quits-clause-ok
 returns-in-Ok-Quits-clause-ok g c =
     let read : NextLine true c.next_line.new.into.items (g.N.Lines.left c.loop-i.lines) (g.N.Lines.left c.next_line.new.lines) = rw c.in-Ok-true.field-0-test at c.in-Ok-true.ensures.ok in
+    let few : c.loop-i._i < MAX_LINES = omega (arith, c.loop-i-test.true) in
     λ dirs limits e ps names is told has. let played = c.loop-i.invariant.played dirs limits e ps names is told has in
-    inr (quitted (compiler (g.R.Runner.meaning dirs limits) dirs) dirs limits _ _ _ _ _ _ (g.O.Sink.held c.loop-i.out) _ _ _ _ c.next_line.new.into.items c.work_on.new.text.items played read (rw (c.deref.ensures.value, c.in-Ok-Quits.field-0-is) at (c.in-Ok-Quits.ensures.went dirs limits played.state _ _ played.at)))
+    let went = rw (c.deref.ensures.value, c.in-Ok-Quits.field-0-is) at (c.in-Ok-Quits.ensures.went dirs limits played.state _ _ played.at) in
+    inr (ends_in (compiler (g.R.Runner.meaning dirs limits) dirs) dirs limits _ _ _ _ _ (g.O.Sink.held c.loop-i.out) (g.O.Sink.held c.loop-i.out) _ _ _ _ few played c.next_line.new.into.items read step.Quits c.work_on.new.text.items went went.on)
 
 pub returns-in-Ok-SpendsNumbers-clause-err : goal.returns-in-Ok-SpendsNumbers-clause-err
 returns-in-Ok-SpendsNumbers-clause-err g c =
     let read : NextLine true c.next_line.new.into.items (g.N.Lines.left c.loop-i.lines) (g.N.Lines.left c.next_line.new.lines) = rw c.in-Ok-true.field-0-test at c.in-Ok-true.ensures.ok in
+    let few : c.loop-i._i < MAX_LINES = omega (arith, c.loop-i-test.true) in
     λ dirs limits e ps names is told has. let played = c.loop-i.invariant.played dirs limits e ps names is told has in
-    (spent (compiler (g.R.Runner.meaning dirs limits) dirs) dirs limits _ _ _ _ _ _ (g.O.Sink.held c.loop-i.out) _ _ _ _ c.next_line.new.into.items c.work_on.new.text.items played read (rw (c.deref.ensures.value, c.in-Ok-SpendsNumbers.field-0-is) at (c.in-Ok-SpendsNumbers.ensures.went dirs limits played.state _ _ played.at)))
+    let went = rw (c.deref.ensures.value, c.in-Ok-SpendsNumbers.field-0-is) at (c.in-Ok-SpendsNumbers.ensures.went dirs limits played.state _ _ played.at) in
+    ends_in (compiler (g.R.Runner.meaning dirs limits) dirs) dirs limits _ _ _ _ _ (g.O.Sink.held c.loop-i.out) (g.O.Sink.held c.loop-i.out) _ _ _ _ few played c.next_line.new.into.items read step.SpendsNumbers c.work_on.new.text.items went went.on
 
 pub returns-in-Ok-IsTooMuch-clause-err : goal.returns-in-Ok-IsTooMuch-clause-err
 returns-in-Ok-IsTooMuch-clause-err g c =
     let read : NextLine true c.next_line.new.into.items (g.N.Lines.left c.loop-i.lines) (g.N.Lines.left c.next_line.new.lines) = rw c.in-Ok-true.field-0-test at c.in-Ok-true.ensures.ok in
+    let few : c.loop-i._i < MAX_LINES = omega (arith, c.loop-i-test.true) in
     λ dirs limits e ps names is told has. let played = c.loop-i.invariant.played dirs limits e ps names is told has in
-    (exceeded (compiler (g.R.Runner.meaning dirs limits) dirs) dirs limits _ _ _ _ _ _ (g.O.Sink.held c.loop-i.out) _ _ _ _ c.next_line.new.into.items c.work_on.new.text.items played read (rw (c.deref.ensures.value, c.in-Ok-IsTooMuch.field-0-is) at (c.in-Ok-IsTooMuch.ensures.went dirs limits played.state _ _ played.at)))
+    let went = rw (c.deref.ensures.value, c.in-Ok-IsTooMuch.field-0-is) at (c.in-Ok-IsTooMuch.ensures.went dirs limits played.state _ _ played.at) in
+    ends_in (compiler (g.R.Runner.meaning dirs limits) dirs) dirs limits _ _ _ _ _ (g.O.Sink.held c.loop-i.out) (g.O.Sink.held c.loop-i.out) _ _ _ _ few played c.next_line.new.into.items read step.IsTooMuch c.work_on.new.text.items went went.on
 
 pub returns-in-Err-work_on-clause-err : goal.returns-in-Err-work_on-clause-err
 returns-in-Err-work_on-clause-err g c =
     let read : NextLine true c.next_line.new.into.items (g.N.Lines.left c.loop-i.lines) (g.N.Lines.left c.next_line.new.lines) = rw c.in-Ok-true.field-0-test at c.in-Ok-true.ensures.ok in
+    let few : c.loop-i._i < MAX_LINES = omega (arith, c.loop-i-test.true) in
     λ dirs limits e ps names is told has. let played = c.loop-i.invariant.played dirs limits e ps names is told has in
-    (broken (compiler (g.R.Runner.meaning dirs limits) dirs) dirs limits _ _ (g.N.Lines.left c.loop-i.lines) (g.N.Lines.left c.next_line.new.lines) _ _ _ _ _ _ _ c.next_line.new.into.items [] played (0, no_part (g.O.Sink.held c.loop-i.out)) (inr read) (rw c.deref.ensures.value at (c.in-Err-work_on.ensures.cut.shelf dirs limits played.state _ _ played.at)) (rw c.deref.ensures.value at (c.in-Err-work_on.ensures.cut.work dirs limits played.state _ played.at.engine played.at.coming)))
+    broken (compiler (g.R.Runner.meaning dirs limits) dirs) dirs limits _ _ (g.N.Lines.left c.loop-i.lines) (g.N.Lines.left c.next_line.new.lines) _ _ (g.O.Sink.held c.loop-i.out) _ _ _ _ few played c.next_line.new.into.items read (rw c.deref.ensures.value at (c.in-Err-work_on.ensures.cut dirs limits played.state _ _ played.at))
 
 pub returns-in-Err-write-clause-err : goal.returns-in-Err-write-clause-err
 returns-in-Err-write-clause-err g c =
     let read : NextLine true c.next_line.new.into.items (g.N.Lines.left c.loop-i.lines) (g.N.Lines.left c.next_line.new.lines) = rw c.in-Ok-true.field-0-test at c.in-Ok-true.ensures.ok in
+    let few : c.loop-i._i < MAX_LINES = omega (arith, c.loop-i-test.true) in
     λ dirs limits e ps names is told has. let played = c.loop-i.invariant.played dirs limits e ps names is told has in
-    (stopped_out (compiler (g.R.Runner.meaning dirs limits) dirs) dirs limits _ _ _ _ _ _ _ _ _ _ _ c.in-Err-write.end c.next_line.new.into.items c.work_on.new.text.items c.in-Err-write.ensures.kind played read (rw (c.deref.ensures.value, c.in-Ok-GoesOn.field-0-is) at (c.in-Ok-GoesOn.ensures.went dirs limits played.state _ _ played.at)) (rw c.deref-in-loop-i.ensures.value at c.in-Err-write.ensures.err))
+    stopped_out (compiler (g.R.Runner.meaning dirs limits) dirs) dirs limits _ _ _ _ _ _ _ _ _ _ _ few played c.next_line.new.into.items read c.in-Err-write.end c.work_on.new.text.items c.in-Err-write.ensures.kind (rw (c.deref.ensures.value, c.in-Ok-GoesOn.field-0-is) at (c.in-Ok-GoesOn.ensures.went dirs limits played.state _ _ played.at)) (rw c.deref-in-loop-i.ensures.value at c.in-Err-write.ensures.err)
 
 pub loop-i-preserved : goal.loop-i-preserved
 loop-i-preserved g c =
