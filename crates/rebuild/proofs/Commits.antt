@@ -58,7 +58,7 @@ pub record IsDone {T : Type 0} (files : List PictureFile) (objects : List Name) 
   pub made : IsMade settled objects reached c.rows.items new.rows.items
   pub committed : IsCommitted files c new
 
-module _ {T : Type 0} (files : List PictureFile) (objects : List Name) (c new : Core T) (old asks' : Asking) (ready : IsReady c) (indexed : AreIndexed old (situation_of c)) (in_order : is_rising files ≡ true) (once : are_rising objects ≡ true) (d : IsDone files objects c new old asks') where
+module _ {T : Type 0} (files : List PictureFile) (objects : List Name) (c new : Core T) (old asks' : Asking) (ready : IsReady c) (in_order : is_rising files ≡ true) (once : are_rising objects ≡ true) (d : IsDone files objects c new old asks') where
   abbrev fs : List FileRow
   fs = numbered c.files.items c.counter files
 
@@ -68,14 +68,14 @@ module _ {T : Type 0} (files : List PictureFile) (objects : List Name) (c new : 
   reaching : AreReaching d.asks (all_moved c ready fs rise objects d.settled d.is_settled) d.reached
   reaching = subst (λ l. AreReaching d.asks l d.reached) d.moved_are d.reaches
 
-  flags : (p : Name) → column (λ r. r.touched) true new.rows.items p ≡ touched_by (situation_of c) (picture_of fs objects) (file_number fs) p
-  flags = flags_made c ready fs rise objects d.settled d.is_settled old d.asks indexed d.brought d.reached reaching new d.made
+  flags : AreIndexed old (situation_of c) → (p : Name) → column (λ r. r.touched) true new.rows.items p ≡ touched_by (situation_of c) (picture_of fs objects) (file_number fs) p
+  flags indexed = flags_made c ready fs rise objects d.settled d.is_settled old d.asks indexed d.brought d.reached reaching new d.made
 
-  pub done_taken : IsTaken files objects c new
-  done_taken = core_taken c new files d.settled objects d.reached d.made d.committed ready in_order once flags
+  pub done_taken : IsTaken old files objects c new
+  done_taken = core_taken c new files d.settled objects d.reached d.made d.committed old ready in_order once flags
 
   gone : take (length (missing (names c.rows.items) objects)) d.moved ≡ missing (names c.rows.items) objects
   gone = ap (take (length (missing (names c.rows.items) objects))) d.moved_are ∙ take-append_seam (missing (names c.rows.items) objects) _
 
-  pub done_indexed : AreIndexed asks' (situation_of new)
-  done_indexed = index_made c ready fs rise objects d.settled d.is_settled old d.asks indexed d.brought d.reached reaching new d.made files done_taken refl asks' (λ r k. d.clears r k ∙ ap (λ l. cleared l d.asks r k) gone)
+  pub done_indexed : AreIndexed old (situation_of c) → AreIndexed asks' (situation_of new)
+  done_indexed indexed = index_made c ready fs rise objects d.settled d.is_settled old d.asks indexed d.brought d.reached reaching new d.made files done_taken refl asks' (λ r k. d.clears r k ∙ ap (λ l. cleared l d.asks r k) gone)

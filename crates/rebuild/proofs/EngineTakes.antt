@@ -21,6 +21,7 @@ use Rattle.rebuild.specs.declared.taking.TakeError.{TakeError}
 use Rattle.engine_turns.specs.Places.{names}
 use Rattle.engine_turns.specs.States.{picture_of, pictured, file_number}
 use Rattle.rebuild.specs.Taking.{old_or_none, counter_or, numbered, counter_after}
+use Rattle.rebuild.specs.Reaching.{Asking, AreIndexed}
 use Rattle.rebuild.specs.Renewing.{IsTaken, IsPictureTaken}
 use Rattle.engine_turns.specs.Ready.{core_picture, IsReady}
 use Rattle.rebuild.specs.Engines.{EngineSituation, Meanings, situation_of, objects_of, value_of, is_ready, IsEngine, take_of, after_take}
@@ -34,11 +35,11 @@ pictured_numbered old counter [] = refl
 pictured_numbered old counter (f ∷ fs) = ap (λ gs. f ∷ gs) (pictured_numbered old (counter_or counter (old_or_none old f.name f.content)) fs)
 
 module _ {T : Type 0} (m : Meanings T) (lawful : (dirs : List (List ℕ)) (limits : Limits) → IsLawful (m dirs limits)) where
-  pub take_situation : (files : List PictureFile) (objects : List Name) (c n : Core T) → IsTaken files objects c n → situation_of n ≡ after_take m (value_of c) files objects
-  take_situation files objects c n t i = record { picture = (ap (λ f. picture_of f (names n.rows.items)) t.files_are ∙ ap (λ os. picture_of (numbered c.files.items c.counter files) os) t.objects_are ∙ ap (λ f. picture_in f objects) (pictured_numbered c.files.items c.counter files)) i; state = t.state i }
+  pub take_situation : (asks : Asking) (files : List PictureFile) (objects : List Name) (c n : Core T) → IsTaken asks files objects c n → AreIndexed asks (situation_of c) → situation_of n ≡ after_take m (value_of c) files objects
+  take_situation asks files objects c n t indexed i = record { picture = (ap (λ f. picture_of f (names n.rows.items)) t.files_are ∙ ap (λ os. picture_of (numbered c.files.items c.counter files) os) t.objects_are ∙ ap (λ f. picture_in f objects) (pictured_numbered c.files.items c.counter files)) i; state = t.state indexed i }
 
-  engine_taken : (files : List PictureFile) (objects : List Name) (c n : Core T) → IsReady c → IsTaken files objects c n → IsEngine m (value_of c) → IsEngine m (value_of n)
-  engine_taken files objects c n ready t e =
+  pub engine_taken : (asks : Asking) (files : List PictureFile) (objects : List Name) (c n : Core T) → IsReady c → IsTaken asks files objects c n → AreIndexed asks (situation_of c) → IsEngine m (value_of c) → IsEngine m (value_of n)
+  engine_taken asks files objects c n ready t indexed e =
       let run = runner_of (m c.dirs c.limits).build in
       let jd = judge_of (m c.dirs c.limits).check in
       let h = reached_holds run keeping jd (situation_of c) e in
@@ -47,42 +48,36 @@ module _ {T : Type 0} (m : Meanings T) (lawful : (dirs : List (List ℕ)) (limit
       let laws = laws_of (m c.dirs c.limits) (lawful c.dirs c.limits) files objects in
       let next = leads_on run keeping jd (situation_of c) e (take_of c.files.items c.counter files objects) (laws, keep_laws_of (m c.dirs c.limits).build files objects, numbers) in
       let P : Limits → List (List ℕ) → EngineSituation T → Type 0 = λ l d x. IsReached (runner_of (m d l).build) keeping (judge_of (m d l).check) x in
-      subst (λ l. P l n.dirs (situation_of n)) (sym t.limits) (subst (λ d. P c.limits d (situation_of n)) (sym t.dirs) (subst (P c.limits c.dirs) (sym (take_situation files objects c n t)) next))
+      subst (λ l. P l n.dirs (situation_of n)) (sym t.limits) (subst (λ d. P c.limits d (situation_of n)) (sym t.dirs) (subst (P c.limits c.dirs) (sym (take_situation asks files objects c n t indexed)) next))
 
   -- what holds of the engine after a take, refused or not
   pub record AfterTake (files : List PictureFile) (c n : Core T) {A : Type 0} (r : Result A TakeError) : Type 0 where
     pub ready : is_ready n ≡ true
     pub low : n.counter ≤ END_OF_NUMBERS
     pub few : length n.rows.items ≤ MAX_OBJECTS
-    pub reached : ∥ IsEngine m (value_of n) ∥₁
     pub dirs : n.dirs ≡ c.dirs
     pub limits : n.limits ≡ c.limits
-    pub state : OnOk r (situation_of n ≡ after_take m (value_of c) files (objects_of n))
     pub objects : OnOk r (AreObjects files c.dirs (objects_of n))
     pub few_objects : OnOk r (length (objects_of n) ≤ MAX_OBJECTS)
     pub files_are : OnOk r (pictured n.files.items ≡ files)
 
-  pub take_facts : {A : Type 0} (files : List PictureFile) (c n : Core T) (r : Result A TakeError) → OnOk r (IsPictureTaken files c n) → OnErr r (n ≡ c) → is_ready c ≡ true → c.counter ≤ END_OF_NUMBERS → length c.rows.items ≤ MAX_OBJECTS → ∥ IsEngine m (value_of c) ∥₁ → AfterTake files c n r
-  take_facts files c n (Ok a) t before ready low few kept = record {
+  pub take_facts : {A : Type 0} (asks : Asking) (files : List PictureFile) (c n : Core T) (r : Result A TakeError) → OnOk r (IsPictureTaken asks files c n) → OnErr r (n ≡ c) → is_ready c ≡ true → c.counter ≤ END_OF_NUMBERS → length c.rows.items ≤ MAX_OBJECTS → AfterTake files c n r
+  take_facts asks files c n (Ok a) t before ready low few = record {
     ready = is_ready_of n t.taken.ready;
     low = t.taken.low low;
     few = t.few;
-    reached = ∥∥₁_map kept (λ e. engine_taken files (objects_of n) c n (ready_is c ready) t.taken e);
     dirs = t.taken.dirs;
     limits = t.taken.limits;
-    state = take_situation files (objects_of n) c n t.taken;
     objects = t.objects;
     few_objects = subst (λ k. k ≤ MAX_OBJECTS) (sym (names_length n.rows.items)) t.few;
     files_are = ap pictured t.taken.files_are ∙ pictured_numbered c.files.items c.counter files;
   }
-  take_facts files c n (Err e) t before ready low few kept = record {
+  take_facts asks files c n (Err e) t before ready low few = record {
     ready = ap is_ready before ∙ ready;
     low = subst (λ z. z.counter ≤ END_OF_NUMBERS) (sym before) low;
     few = subst (λ z. length z.rows.items ≤ MAX_OBJECTS) (sym before) few;
-    reached = subst (λ z. ∥ IsEngine m (value_of z) ∥₁) (sym before) kept;
     dirs = ap (λ z. z.dirs) before;
     limits = ap (λ z. z.limits) before;
-    state = tt;
     objects = tt;
     few_objects = tt;
     files_are = tt;

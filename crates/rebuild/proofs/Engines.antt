@@ -47,6 +47,24 @@ is_ready_of c r =
 pub same_count : {T : Type 0} → (c n : Core T) → names n.rows.items ≡ names c.rows.items → length n.rows.items ≡ length c.rows.items
 same_count c n e = sym (names_length n.rows.items) ∙ ap length e ∙ names_length c.rows.items
 
+-- what holds of the engine after a turn, refused or not
+pub record AfterTurn {T : Type 0} (n : Core T) : Type 0 where
+  pub ready : is_ready n ≡ true
+  pub low : n.counter ≤ END_OF_NUMBERS
+  pub few : length n.rows.items ≤ MAX_OBJECTS
+
+pub turn_facts : {T A : Type 0} → (c n : Core T) (r : Result A TurnError) → OnOk r (StaysReady c n) → OnErr r (n ≡ c) → is_ready c ≡ true → c.counter ≤ END_OF_NUMBERS → length c.rows.items ≤ MAX_OBJECTS → AfterTurn n
+turn_facts c n (Ok t) stays before ready low few = record {
+  ready = is_ready_of n stays.ready;
+  low = stays.low low;
+  few = subst (λ k. k ≤ MAX_OBJECTS) (sym (same_count c n stays.objects)) few;
+}
+turn_facts c n (Err e) stays before ready low few = record {
+  ready = ap is_ready before ∙ ready;
+  low = subst (λ z. z.counter ≤ END_OF_NUMBERS) (sym before) low;
+  few = subst (λ z. length z.rows.items ≤ MAX_OBJECTS) (sym before) few;
+}
+
 module _ {T : Type 0} (m : Meanings T) where
   pub turn_situation : (c n : Core T) (dirs : List (List ℕ)) → dirs ≡ c.dirs → core_state n ≡ turned (m dirs c.limits).build (m dirs c.limits).check c → StaysReady c n → situation_of n ≡ after_turn m (value_of c)
   turn_situation c n dirs same state stays i = record {
@@ -61,40 +79,11 @@ module _ {T : Type 0} (m : Meanings T) where
   pub refused_by : (c : Core T) (dirs : List (List ℕ)) → dirs ≡ c.dirs → (e : TurnError) → IsTurnRefused e (turned (m dirs c.limits).build (m dirs c.limits).check c).counter → IsTurnRefused e (after_turn m (value_of c)).state.counter
   refused_by c dirs same e = subst (IsTurnRefused e) (ap (λ d. (turned (m d c.limits).build (m d c.limits).check c).counter) same)
 
-  engine_after : (c n : Core T) → StaysReady c n → situation_of n ≡ after_turn m (value_of c) → IsEngine m (value_of c) → IsEngine m (value_of n)
+  pub engine_after : (c n : Core T) → StaysReady c n → situation_of n ≡ after_turn m (value_of c) → IsEngine m (value_of c) → IsEngine m (value_of n)
   engine_after c n stays is e =
       let next = leads_on (runner_of (m c.dirs c.limits).build) keeping (judge_of (m c.dirs c.limits).check) (situation_of c) e Turn tt in
       let P : Limits → List (List ℕ) → EngineSituation T → Type 0 = λ l d x. IsReached (runner_of (m d l).build) keeping (judge_of (m d l).check) x in
       subst (λ l. P l n.dirs (situation_of n)) (sym stays.limits) (subst (λ d. P c.limits d (situation_of n)) (sym stays.dirs) (subst (P c.limits c.dirs) (sym is) next))
-
-  -- what holds of the engine after the turn, refused or not
-  pub record AfterTurn (c n : Core T) {A : Type 0} (r : Result A TurnError) : Type 0 where
-    pub ready : is_ready n ≡ true
-    pub low : n.counter ≤ END_OF_NUMBERS
-    pub few : length n.rows.items ≤ MAX_OBJECTS
-    pub reached : ∥ IsEngine m (value_of n) ∥₁
-    pub state : OnOk r (situation_of n ≡ after_turn m (value_of c))
-    pub before : OnErr r (value_of n ≡ value_of c)
-
-  pub turn_facts : {A : Type 0} → (c n : Core T) (dirs : List (List ℕ)) → dirs ≡ c.dirs → (r : Result A TurnError) → OnOk r (core_state n ≡ turned (m dirs c.limits).build (m dirs c.limits).check c) → OnOk r (StaysReady c n) → OnErr r (n ≡ c) → is_ready c ≡ true → c.counter ≤ END_OF_NUMBERS → length c.rows.items ≤ MAX_OBJECTS → ∥ IsEngine m (value_of c) ∥₁ → AfterTurn c n r
-  turn_facts c n dirs same (Ok t) state stays before ready low few kept =
-      let is = turn_situation c n dirs same state stays in
-      record {
-        ready = is_ready_of n stays.ready;
-        low = stays.low low;
-        few = subst (λ k. k ≤ MAX_OBJECTS) (sym (same_count c n stays.objects)) few;
-        reached = ∥∥₁_map kept (λ e. engine_after c n stays is e);
-        state = is;
-        before = tt;
-      }
-  turn_facts c n dirs same (Err e) state stays before ready low few kept = record {
-    ready = ap is_ready before ∙ ready;
-    low = subst (λ z. z.counter ≤ END_OF_NUMBERS) (sym before) low;
-    few = subst (λ z. length z.rows.items ≤ MAX_OBJECTS) (sym before) few;
-    reached = subst (λ z. ∥ IsEngine m (value_of z) ∥₁) (sym before) kept;
-    state = tt;
-    before = ap value_of before;
-  }
 
   pub true_of : (e : _) → ∥ IsEngine m e ∥₁ → ∥ IsTrue m e ∥₁
   true_of e kept = ∥∥₁_map kept (λ r. reached_scratch (runner_of (m e.dirs e.limits).build) keeping (judge_of (m e.dirs e.limits).check) e.situation r)

@@ -1,5 +1,5 @@
 -- The index says what the objects ask for, at each event.
-use Rattle.std.proofs.Common.{◌≡◌, ◌||◌, ◌&&◌, ◌++◌, ℕ, List, Bool, true, false, not, cond, nat_eq, length, Option, Some, None, Result, Ok, Err, OnOk, OnErr, refl, sym, ap, ◌∙◌, subst, inl, inr, ⊎_elim, ◌⊎◌}
+use Rattle.std.proofs.Common.{◌≡◌, ◌||◌, ◌&&◌, ◌++◌, ℕ, List, Bool, true, false, not, cond, nat_eq, length, Option, Some, None, refl, sym, ap, ◌∙◌, subst, inl, inr, ⊎_elim, ◌⊎◌}
 use Rattle.std.specs.Prelude.{bytes_eq}
 use Rattle.std.specs.List.{list_any}
 use Rattle.std.proofs.Math.Logic.{∥∥₁_elim}
@@ -21,7 +21,6 @@ use Rattle.engine_machine.specs.Machine.{runner_of, keeping, judge_of}
 use Rattle.engine_machine.specs.Pictures.{target_in}
 use Rattle.engine_machine.proofs.RunnerLaws.{is_in, target_among}
 use Rattle.engine_turns.specs.declared.core_data.Core.{Core}
-use Rattle.engine_turns.specs.declared.turned.TurnError.{TurnError}
 use Rattle.engine_turns.specs.declared.rows.FileRow.{FileRow}
 use Rattle.engine_turns.specs.declared.rows.Row.{Row}
 use Rattle.engine_turns.specs.Places.{row_in, of_row, column, names, file_names, file_number_in}
@@ -210,7 +209,7 @@ module _ {T : Type 0} (c : Core T) (ready : IsReady c) (fs : List FileRow) (fs_r
           at false is = sym (ap (λ b. not b || is_touched (situation_of c) (picture_of fs objects) number (length os) p) is)
 
       -- the index after the Take
-      pub index_made : (files : List PictureFile) → IsTaken files objects c new → fs ≡ numbered c.files.items c.counter files → (asks' : Asking) → ((q k : Key) → asks' q k ≡ cleared (missing os objects) asks q k) → AreIndexed asks' (situation_of new)
+      pub index_made : (files : List PictureFile) → IsTaken old files objects c new → fs ≡ numbered c.files.items c.counter files → (asks' : Asking) → ((q k : Key) → asks' q k ≡ cleared (missing os objects) asks q k) → AreIndexed asks' (situation_of new)
       index_made files t is asks' clears = (gone, kept)
         where
           gone : (p : Name) (k : Key) → is_among p (names new.rows.items) ≡ false → asks' (reader_key p) k ≡ false
@@ -232,7 +231,7 @@ module _ {T : Type 0} (c : Core T) (ready : IsReady c) (fs : List FileRow) (fs_r
               clears (reader_key p) k
               ∙ ap (λ b. cond b false (asks (reader_key p) k)) there
               ∙ fits p k was by_none
-              ∙ sym ((λ i. asks_for k (both_items ((t.state i).reads p) ((t.state i).checked p))) ∙ (λ i. asks_for k (both_items (cond (here i) ((core_state c).reads p) None) (cond (here i) ((core_state c).checked p) None))))
+              ∙ sym ((λ i. asks_for k (both_items ((t.state indexed i).reads p) ((t.state indexed i).checked p))) ∙ (λ i. asks_for k (both_items (cond (here i) ((core_state c).reads p) None) (cond (here i) ((core_state c).checked p) None))))
             where
               calm : touches p ≡ false
               calm = sym (flags_made p) ∙ off
@@ -290,11 +289,6 @@ module _ {T : Type 0} (m : Meanings T) (c n : Core T) (asks : Asking) (indexed :
 
       after : AreIndexed asks (after_turn m (value_of c))
       after = (indexed.0, λ p k off. ∥∥₁_elim kept (truth_set _ _) (read p k off))
-
-  -- after a turn, refused or not
-  pub index_after : {A : Type 0} (r : Result A TurnError) → OnOk r (situation_of n ≡ after_turn m (value_of c)) → OnErr r (n ≡ c) → ∥ IsEngine m (value_of c) ∥₁ → AreIndexed asks (situation_of n)
-  index_after (Ok a) is before kept = index_turned is kept
-  index_after (Err e) is before kept = subst (λ z. AreIndexed asks (situation_of z)) (sym before) indexed
 
   pub index_forgot : situation_of n ≡ after_forget m (value_of c) → AreIndexed asks (situation_of n)
   index_forgot is = subst (AreIndexed asks) (sym is) indexed

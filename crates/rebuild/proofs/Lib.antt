@@ -18,3 +18,4 @@ pub mod Scratch
 pub mod Answering
 pub mod Fewer
 pub mod Forgetting
+pub mod Sound

@@ -24,18 +24,14 @@ use Rattle.engine_turns.specs.Ready.{core_state, core_picture, IsReady}
 use Rattle.engine_turns.proofs.ByName.{no_row, some_row}
 use Rattle.engine_turns.proofs.Once.{rising_once}
 use Rattle.rebuild.specs.Engines.{Meanings, situation_of, value_of, IsEngine}
-use Rattle.rebuild.specs.Answers.{Seen, Seen-set, pending, no_object, is_pending, settled, by_verdict, by_check, by_result, by_last, answer_found, answer_of}
+use Rattle.rebuild.specs.Answers.{Seen, Seen-set, pending, no_object, is_pending, settled, by_verdict, by_check, by_result, by_last, answer_found, answer_at, answer_of}
 use Rattle.rebuild.proofs.Fewer.{once_is}
 
 module _ {T : Type 0} (c : Core T) (p : Name) where
-  -- the answer by the state
-  abbrev pub answer_at : Seen
-  answer_at = cond (is_among p (names c.rows.items)) (cond (is_pending (situation_of c) p) pending (by_last ((core_state c).last p) ((core_state c).checked p))) no_object
-
-  row_answers : answer_found (row_in p c.rows.items) ≡ answer_at
+  pub row_answers : answer_found (row_in p c.rows.items) ≡ answer_at (situation_of c) p
   row_answers = at (row_in p c.rows.items) refl
     where
-      at : (x : Option (Row T)) → row_in p c.rows.items ≡ x → answer_found x ≡ answer_at
+      at : (x : Option (Row T)) → row_in p c.rows.items ≡ x → answer_found x ≡ answer_at (situation_of c) p
       at None e = rw (no_row p c.rows.items e) refl
       at (Some r) e = rw (some_row p c.rows.items r e) (rw e refl)
 
@@ -73,7 +69,7 @@ module _ {T : Type 0} (m : Meanings T) (lawful : (dirs : List (List ℕ)) (limit
           let of : End T → Verdict = verdict (runner_of means.build) (judge_of means.check) (core_picture c) in
           ap (by_check b.tree) (v.1 ∙ ap (λ r. Some (v.0, of r)) is) ∙ verdict_seen b.tree (of (Ok b))
 
-  scratch_at : (p : Name) → IsEngine m (value_of c) → answer_at c p ≡ answer_of m (value_of c) p
+  scratch_at : (p : Name) → IsEngine m (value_of c) → answer_at (situation_of c) p ≡ answer_of m (value_of c) p
   scratch_at p e = at (is_among p (names c.rows.items)) refl
     where
       at_open : (b k : Bool) → (core_state c).open_build p ≡ b → (core_state c).open_check p ≡ k → IsIn p (names c.rows.items) → cond (b || k) pending (by_last ((core_state c).last p) ((core_state c).checked p)) ≡ cond (b || k) pending (settled (checked_end means (pictured c.files.items) (names c.rows.items) (built_end means (pictured c.files.items) (names c.rows.items) p)))
@@ -85,7 +81,7 @@ module _ {T : Type 0} (m : Meanings T) (lawful : (dirs : List (List ℕ)) (limit
       at true is = at_open ((core_state c).open_build p) ((core_state c).open_check p) refl refl (is_in p (names c.rows.items) is)
       at false is = refl
 
-  pub answered : ∥ IsEngine m (value_of c) ∥₁ → (p : Name) → answer_found (row_in p c.rows.items) ≡ answer_of m (value_of c) p
+  pub answered : ∥ IsEngine m (value_of c) ∥₁ → (p : Name) → answer_at (situation_of c) p ≡ answer_of m (value_of c) p
   answered kept p =
-      let prop : IsProp (answer_at c p ≡ answer_of m (value_of c) p) = seen_set (answer_at c p) (answer_of m (value_of c) p) in
-      row_answers c p ∙ ∥∥₁_elim kept prop (scratch_at p)
+      let prop : IsProp (answer_at (situation_of c) p ≡ answer_of m (value_of c) p) = seen_set (answer_at (situation_of c) p) (answer_of m (value_of c) p) in
+      ∥∥₁_elim kept prop (scratch_at p)

@@ -14,7 +14,7 @@ use Rattle.load_path.specs.declared.picture.PictureFile.{PictureFile}
 use Rattle.engine_turns.specs.declared.core_data.Core.{Core}
 use Rattle.rebuild.specs.Renewing.{taken_row, taken_rows, IsTaken}
 use Rattle.rebuild.specs.Engines.{situation_of}
-use Rattle.rebuild.specs.Reaching.{calmless, IsTouched}
+use Rattle.rebuild.specs.Reaching.{Asking, AreIndexed, calmless, IsTouched}
 use Rattle.rebuild.specs.Keeping.{kept_entries}
 use Rattle.rebuild.proofs.Kept.{kept_is}
 use Rattle.rebuild.proofs.Touching.{touched_names, touched_column}
@@ -216,10 +216,10 @@ module _ {T : Type 0} (c new : Core T) (files : List PictureFile) (settled : Boo
         known = ap (are_known (names new.rows.items)) d.chain;
       }
 
-  pub core_taken : IsReady c → is_rising files ≡ true → are_rising objects ≡ true → ((p : Name) → column (λ r. r.touched) true new.rows.items p ≡ touched_after p) → IsTaken files objects c new
-  core_taken ready in_order once flags = record {
-    state = (λ i. state_of (d.counter i) (d.numbers i) new.rows.items (d.chain i))
-        ∙ taken_is settled objects reached c.rows.items new.rows.items m c.counter (counter_after c.files.items c.counter files) c.files.items (numbered c.files.items c.counter files) c.chain touched_after flags;
+  pub core_taken : (asks : Asking) → IsReady c → is_rising files ≡ true → are_rising objects ≡ true → (AreIndexed asks (situation_of c) → (p : Name) → column (λ r. r.touched) true new.rows.items p ≡ touched_after p) → IsTaken asks files objects c new
+  core_taken asks ready in_order once flags = record {
+    state = λ indexed. (λ i. state_of (d.counter i) (d.numbers i) new.rows.items (d.chain i))
+        ∙ taken_is settled objects reached c.rows.items new.rows.items m c.counter (counter_after c.files.items c.counter files) c.files.items (numbered c.files.items c.counter files) c.chain touched_after (flags indexed);
     ready = ready_taken ready in_order once;
     limits = d.limits;
     dirs = d.dirs;

@@ -48,6 +48,28 @@ answer_of m e p = cond (is_among p e.situation.picture.objects)
     (cond (is_pending e.situation p) pending (settled
     (compiled (m e.dirs e.limits) (pictured e.files) e.situation.picture.objects p))) no_object
 
+abbrev pub by_verdict : Plain → Verdict → Seen
+by_verdict t None = profile t
+by_verdict t (Some f) = fault f
+
+abbrev pub by_check : Plain → Option (List (Key × ℕ) × Verdict) → Seen
+by_check t None = pending
+by_check t (Some c) = by_verdict t c.1
+
+abbrev pub by_result : Kept → Option (List (Key × ℕ) × Verdict) → Seen
+by_result (Err f) c = fault f
+by_result (Ok t) c = by_check t c
+
+abbrev pub by_last : Option (ℕ × Kept) → Option (List (Key × ℕ) × Verdict) → Seen
+by_last None c = pending
+by_last (Some l) c = by_result l.1 c
+
+-- The answer by the state alone: that it is no object of the last picture, that a part of it is
+-- unsettled, or else its last result, with the verdict of its last check where that is a tree.
+abbrev pub answer_at : {T : Type 0} → EngineSituation T → Name → Seen
+answer_at x p = cond (is_among p x.picture.objects)
+    (cond (is_pending x p) pending (by_last (x.state.last p) (x.state.checked p))) no_object
+
 -- why a name was run last, or that it is no object
 pub data SeenWhy : Type 0 where
   of_object : (why : EngineWhy Key) → SeenWhy
@@ -82,22 +104,6 @@ abbrev pub runs_at : {T : Type 0} → EngineSituation T → List Name
 runs_at x = filter x.state.runs x.picture.objects
 
 -- by the rows of the code
-
-abbrev pub by_verdict : Plain → Verdict → Seen
-by_verdict t None = profile t
-by_verdict t (Some f) = fault f
-
-abbrev pub by_check : Plain → Option (List (Key × ℕ) × Verdict) → Seen
-by_check t None = pending
-by_check t (Some c) = by_verdict t c.1
-
-abbrev pub by_result : Kept → Option (List (Key × ℕ) × Verdict) → Seen
-by_result (Err f) c = fault f
-by_result (Ok t) c = by_check t c
-
-abbrev pub by_last : Option (ℕ × Kept) → Option (List (Key × ℕ) × Verdict) → Seen
-by_last None c = pending
-by_last (Some l) c = by_result l.1 c
 
 abbrev pub answer_of_row : {T : Type 0} → Row T → Seen
 answer_of_row r = cond (r.open_build || r.open_check) pending (by_last (last_of r) (checked_of r))

@@ -14,7 +14,7 @@ use Rattle.engine_turns.specs.declared.core_data.Core.{Core}
 use Rattle.engine_turns.specs.States.{EngineState, file_number, picture_of}
 use Rattle.engine_turns.specs.Ready.{core_state, IsReady}
 use Rattle.rebuild.specs.Engines.{situation_of}
-use Rattle.rebuild.specs.Reaching.{touched_first}
+use Rattle.rebuild.specs.Reaching.{Asking, AreIndexed, touched_first}
 use Rattle.rebuild.specs.Taking.{new_row, numbered, counter_after}
 
 -- both parts are unsettled, there are no paths, and the object is touched where it is so whatever the
@@ -63,10 +63,11 @@ taken_state files objects c = let w = picture_of (numbered c.files.items c.count
     taken keeping w (touched_by (situation_of c) w number) number
     (counter_after c.files.items c.counter files) (core_state c)
 
--- the data after a Take of a picture with these files and objects
-pub record IsTaken {T : Type 0} (files : List PictureFile) (objects : List Name)
+-- the data after a Take of a picture with these files and objects; the state where the index was in
+-- order, as what is touched is looked up in it
+pub record IsTaken {T : Type 0} (asks : Asking) (files : List PictureFile) (objects : List Name)
     (c new : Core T) : Type 0 where
-  pub state : core_state new ≡ taken_state files objects c
+  pub state : AreIndexed asks (situation_of c) → core_state new ≡ taken_state files objects c
   pub ready : IsReady new
   pub limits : new.limits ≡ c.limits
   pub dirs : new.dirs ≡ c.dirs
@@ -75,7 +76,8 @@ pub record IsTaken {T : Type 0} (files : List PictureFile) (objects : List Name)
   pub low : c.counter ≤ END_OF_NUMBERS → new.counter ≤ END_OF_NUMBERS
 
 -- the data after a Take of a picture: its objects are those of the picture, and not too many
-pub record IsPictureTaken {T : Type 0} (files : List PictureFile) (c new : Core T) : Type 0 where
-  pub taken : IsTaken files (names new.rows.items) c new
+pub record IsPictureTaken {T : Type 0} (asks : Asking) (files : List PictureFile)
+    (c new : Core T) : Type 0 where
+  pub taken : IsTaken asks files (names new.rows.items) c new
   pub objects : AreObjects files c.dirs (names new.rows.items)
   pub few : length new.rows.items ≤ MAX_OBJECTS

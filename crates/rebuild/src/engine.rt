@@ -3,9 +3,7 @@
 ghost use Rattle.std.specs.Prelude.{◌≡◌, ◌↔◌, [], ◌≤◌, ◌+◌, ◌-◌, true, IfOk, IfErr, OnOk, OnErr, length};
 ghost use Rattle.asking.specs.declared.limits.TheConstants.{END_OF_NUMBERS};
 ghost use Rattle.base.specs.declared.limits.TheConstants.{MAX_OBJECTS};
-ghost use Rattle.read_index.specs.Readers.{asks};
-ghost use Rattle.rebuild.specs.Engines.{is_ready, IsEngine, situation_of, value_of};
-ghost use Rattle.rebuild.specs.Reaching.{AreIndexed};
+ghost use Rattle.rebuild.specs.Engines.{is_ready};
 
 use crate::answers::{
     Answer, Reads, Why, answer_in, forget_rows, names_in, reads_in, runs_in, turns_left, why_in,
@@ -24,6 +22,9 @@ use std::alloc::{AllocError, Global};
 use std::sync::ledger::Ledger;
 
 /// The incremental engine, over a runner that it does not keep.
+///
+/// What its calls do is told of a sound engine: one that takes and turns lead to, from a new engine or from rows that an
+/// engine has kept. Of another one it is told that they are safe, and what they leave as it was.
 #[derive(Drop)]
 pub struct Engine<R: Runner> {
     core: Core<R::Rest>,
@@ -32,8 +33,6 @@ pub struct Engine<R: Runner> {
     ghost ready: { is_ready core ≡ true },
     ghost low: { core.counter ≤ END_OF_NUMBERS },
     ghost few: { length core.rows.items ≤ MAX_OBJECTS },
-    ghost reached: { ∥ IsEngine R.meaning (value_of core) ∥₁ },
-    ghost indexed: { AreIndexed (asks index) (situation_of core) },
 }
 
 /// The same texts, shared.
@@ -49,8 +48,10 @@ fn shared(alloc: Global, texts: &[Text]) -> Result<Seq<Text>, AllocError>
 
 impl<R: Runner> Engine<R> {
     ghost use Rattle.object_names.specs.Objects.{AreObjects};
-    ghost use Rattle.rebuild.specs.Answers.{seen_answer, answer_of, seen_why, why_at, seen_reads, reads_at, runs_at};
-    ghost use Rattle.rebuild.specs.Engines.{situation_of, new_situation, after_take, after_turn, after_forget, turn_work_of, IsTrue, AreKept, AreSpared, objects_of, parts_of, turns_left_of};
+    ghost use Rattle.read_index.specs.Readers.{asks};
+    ghost use Rattle.rebuild.specs.Answers.{seen_answer, answer_at, answer_of, seen_why, why_at, seen_reads, reads_at, runs_at};
+    ghost use Rattle.rebuild.specs.Sound.{IsSound};
+    ghost use Rattle.rebuild.specs.Engines.{situation_of, value_of, new_situation, after_take, after_turn, after_forget, turn_work_of, IsTrue, AreKept, AreSpared, objects_of, parts_of, turns_left_of};
     ghost use Rattle.engine_turns.specs.Opening.{turned_by};
     ghost use Rattle.engine_turns.specs.Spent.{Spends, IsTurnRefused};
     ghost use Rattle.engine_turns.specs.declared.turned.Turned.TheVariants.{Idle};
@@ -63,7 +64,7 @@ impl<R: Runner> Engine<R> {
         ensures limits { result.core.limits ≡ limits }
         ensures dirs { result.core.dirs ≡ dirs }
         ensures files { result.core.files.items ≡ [] }
-        ensures reached { ∥ IsEngine R.meaning (value_of result.core) ∥₁ }
+        ensures sound { IsSound R.meaning result.core (asks result.index) }
     {
         Engine {
             core: Core {
@@ -95,7 +96,8 @@ impl<R: Runner> Engine<R> {
         ensures objects { OnOk result (AreObjects picture self.old.core.dirs
             (objects_of self.new.core)) }
         ensures few { OnOk result (length (objects_of self.new.core) ≤ MAX_OBJECTS) }
-        ensures state { OnOk result (situation_of self.new.core
+        ensures state { IsSound R.meaning self.old.core (asks self.old.index)
+            → OnOk result (situation_of self.new.core
             ≡ after_take R.meaning (value_of self.old.core) picture (objects_of self.new.core)) }
         ensures files { OnOk result (pictured self.new.core.files.items ≡ picture) }
         ensures dirs { self.new.core.dirs ≡ self.old.core.dirs }
@@ -109,10 +111,14 @@ impl<R: Runner> Engine<R> {
         ensures before { OnErr result (self.new.core ≡ self.old.core) }
         ensures runner_before { OnErr result (runner.new ≡ runner.old) }
         ensures refused_steps { OnErr result (steps.new ≤ steps.old + length picture) }
-        ensures reached { ∥ IsEngine R.meaning (value_of self.new.core) ∥₁ }
-        ensures scratch { ∥ IsTrue R.meaning (value_of self.new.core) ∥₁ }
-        ensures numbers { ∥ AreKept R.meaning (value_of self.old.core) ∥₁ }
-        ensures spared { ∥ AreSpared R.meaning (value_of self.new.core) ∥₁ }
+        ensures sound { IsSound R.meaning self.old.core (asks self.old.index)
+            → IsSound R.meaning self.new.core (asks self.new.index) }
+        ensures scratch { IsSound R.meaning self.old.core (asks self.old.index)
+            → ∥ IsTrue R.meaning (value_of self.new.core) ∥₁ }
+        ensures numbers { IsSound R.meaning self.old.core (asks self.old.index)
+            → ∥ AreKept R.meaning (value_of self.old.core) ∥₁ }
+        ensures spared { IsSound R.meaning self.old.core (asks self.old.index)
+            → ∥ AreSpared R.meaning (value_of self.new.core) ∥₁ }
     {
         let dirs = shared(alloc, self.core.dirs.as_slice())?;
         take_picture(alloc, &mut self.core, &mut self.index, &picture, steps)?;
@@ -133,17 +139,21 @@ impl<R: Runner> Engine<R> {
     ) -> Result<Turned, TurnError>
         requires picture { R.files_of runner.old ≡ pictured self.old.core.files.items }
         requires dirs { R.dirs_of runner.old ≡ self.old.core.dirs }
-        ensures state { OnOk result (situation_of self.new.core
+        ensures state { IsSound R.meaning self.old.core (asks self.old.index)
+            → OnOk result (situation_of self.new.core
             ≡ after_turn R.meaning (value_of self.old.core)) }
         ensures turned { IfOk result (λ did. did ≡ turned_by (parts_of self.old.core)
             (parts_of self.new.core)) }
-        ensures idle { IfOk result (λ did. did ≡ Idle ↔ turns_left_of self.old.core ≡ 0) }
-        ensures fewer { OnOk result (turns_left_of self.new.core ≡ turns_left_of self.old.core
-            - 1) }
-        ensures spent { Spends result (turn_work_of R.meaning (value_of self.old.core)) steps.old
+        ensures idle { IsSound R.meaning self.old.core (asks self.old.index)
+            → IfOk result (λ did. did ≡ Idle ↔ turns_left_of self.old.core ≡ 0) }
+        ensures fewer { IsSound R.meaning self.old.core (asks self.old.index)
+            → OnOk result (turns_left_of self.new.core ≡ turns_left_of self.old.core - 1) }
+        ensures spent { IsSound R.meaning self.old.core (asks self.old.index)
+            → Spends result (turn_work_of R.meaning (value_of self.old.core)) steps.old
             steps.new (R.runs_of runner.old) (R.runs_of runner.new) }
         ensures few_runs { (turn_work_of R.meaning (value_of self.old.core)).0 ≤ 2 }
-        ensures refused { IfErr result (λ e. IsTurnRefused e
+        ensures refused { IsSound R.meaning self.old.core (asks self.old.index)
+            → IfErr result (λ e. IsTurnRefused e
             (after_turn R.meaning (value_of self.old.core)).state.counter) }
         ensures within { OnOk result ((situation_of self.new.core).state.counter
             ≤ END_OF_NUMBERS) }
@@ -153,10 +163,14 @@ impl<R: Runner> Engine<R> {
         ensures before { OnErr result (self.new.core ≡ self.old.core) }
         ensures runner_files { R.files_of runner.new ≡ R.files_of runner.old }
         ensures runner_dirs { R.dirs_of runner.new ≡ R.dirs_of runner.old }
-        ensures reached { ∥ IsEngine R.meaning (value_of self.new.core) ∥₁ }
-        ensures scratch { ∥ IsTrue R.meaning (value_of self.new.core) ∥₁ }
-        ensures numbers { ∥ AreKept R.meaning (value_of self.old.core) ∥₁ }
-        ensures spared { ∥ AreSpared R.meaning (value_of self.old.core) ∥₁ }
+        ensures sound { IsSound R.meaning self.old.core (asks self.old.index)
+            → IsSound R.meaning self.new.core (asks self.new.index) }
+        ensures scratch { IsSound R.meaning self.old.core (asks self.old.index)
+            → ∥ IsTrue R.meaning (value_of self.new.core) ∥₁ }
+        ensures numbers { IsSound R.meaning self.old.core (asks self.old.index)
+            → ∥ AreKept R.meaning (value_of self.old.core) ∥₁ }
+        ensures spared { IsSound R.meaning self.old.core (asks self.old.index)
+            → ∥ AreSpared R.meaning (value_of self.old.core) ∥₁ }
     {
         let before = self.core.chain.len();
         step(alloc, &mut self.core, runner, steps)?;
@@ -178,15 +192,19 @@ impl<R: Runner> Engine<R> {
         ensures files { self.new.core.files.items ≡ self.old.core.files.items }
         ensures dirs { self.new.core.dirs ≡ self.old.core.dirs }
         ensures limits { self.new.core.limits ≡ self.old.core.limits }
-        ensures reached { ∥ IsEngine R.meaning (value_of self.new.core) ∥₁ }
+        ensures sound { IsSound R.meaning self.old.core (asks self.old.index)
+            → IsSound R.meaning self.new.core (asks self.new.index) }
     {
         forget_rows(&mut self.core.rows);
     }
 
     /// The answer for a name: that it is no object of the last picture (or there was no take), that it has an unsettled
-    /// part, or what compiling the whole picture from scratch gives, a profile's tree or a fault.
+    /// part, or its last result, a profile's tree or a fault, which of a sound engine is what compiling the whole picture
+    /// from scratch gives.
     pub fn answer(&self, name: &str) -> Answer<'_>
-        ensures { seen_answer result ≡ answer_of R.meaning (value_of self.now.core) name.now }
+        ensures exact { seen_answer result ≡ answer_at (situation_of self.now.core) name.now }
+        ensures scratch { IsSound R.meaning self.now.core (asks self.now.index)
+            → seen_answer result ≡ answer_of R.meaning (value_of self.now.core) name.now }
     {
         answer_in(&self.core.rows, name)
     }
@@ -202,7 +220,8 @@ impl<R: Runner> Engine<R> {
     /// What an object asked for. None where its answer is `Pending` or `NoObject`.
     pub fn reads(&self, name: &str) -> Option<Reads<'_>>
         ensures exact { seen_reads result ≡ reads_at (situation_of self.now.core) name.now }
-        ensures scratch { ∥ IsTrue R.meaning (value_of self.now.core) ∥₁ }
+        ensures scratch { IsSound R.meaning self.now.core (asks self.now.index)
+            → ∥ IsTrue R.meaning (value_of self.now.core) ∥₁ }
     {
         reads_in(&self.core.rows, name)
     }

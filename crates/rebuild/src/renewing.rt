@@ -117,11 +117,11 @@ fn take_files<T: Drop, L: Ledger>(
 ) -> Result<(), TakeError>
     requires ready { IsReady core.old }
     requires few { length core.old.rows.items ≤ MAX_OBJECTS }
-    requires indexed { AreIndexed (asks index.old) (situation_of core.old) }
     requires rising { is_rising files.now ≡ true }
     requires objects { are_rising objects.now ≡ true }
-    ensures taken { OnOk result (IsTaken files.now objects.now core.old core.new) }
-    ensures indexed { AreIndexed (asks index.new) (situation_of core.new) }
+    ensures taken { OnOk result (IsTaken (asks index.old) files.now objects.now core.old core.new) }
+    ensures indexed { AreIndexed (asks index.old) (situation_of core.old)
+        → AreIndexed (asks index.new) (situation_of core.new) }
     ensures before { OnErr result (core.new ≡ core.old) }
     ensures steps { OnOk result (steps.new ≡ steps.old + length files.now) }
     ensures refused { IfErr result (λ e. IsSpent e
@@ -162,9 +162,9 @@ pub(crate) fn take_picture<T: Drop, L: Ledger>(
 ) -> Result<(), TakeError>
     requires ready { IsReady core.old }
     requires few { length core.old.rows.items ≤ MAX_OBJECTS }
-    requires indexed { AreIndexed (asks index.old) (situation_of core.old) }
-    ensures taken { OnOk result (IsPictureTaken picture.now core.old core.new) }
-    ensures indexed { AreIndexed (asks index.new) (situation_of core.new) }
+    ensures taken { OnOk result (IsPictureTaken (asks index.old) picture.now core.old core.new) }
+    ensures indexed { AreIndexed (asks index.old) (situation_of core.old)
+        → AreIndexed (asks index.new) (situation_of core.new) }
     ensures before { OnErr result (core.new ≡ core.old) }
     ensures steps { OnOk result (steps.new ≡ steps.old + length picture.now) }
     ensures refused { IfErr result (λ e. IsRefused core.old.files.items core.old.counter picture.now

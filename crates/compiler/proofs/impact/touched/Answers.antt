@@ -16,4 +16,4 @@ pub returns : goal.returns
 returns g c =
     let engine = c.args.works.now.engine in
     let none : turns_left_of engine.core ≡ 0 = omega (arith, c.if-left-gt0.false, c.turns_left-left.ensures) in
-    touched_is g.R.Runner.meaning engine.core c.args.works.now.kept g.met.R.Runner.laws engine.ready engine.reached c.in_ok-register.register c.args.file.now _ c.in_ok-names.names.items (c.as_slice.ensures ∙ c.args.works.now.directories_are) none c.in_ok-register.ensures c.in_ok-names.ensures.listed
+    touched_is g.R.Runner.meaning engine.core c.args.works.now.kept g.met.R.Runner.laws engine.ready c.args.works.now.sound.reached c.in_ok-register.register c.args.file.now _ c.in_ok-names.names.items (c.as_slice.ensures ∙ c.args.works.now.directories_are) none c.in_ok-register.ensures c.in_ok-names.ensures.listed

@@ -1,6 +1,7 @@
 use Rattle.std.proofs.Common.{OnOk, IfErr, ap, ◌∙◌, subst, arith}
 use Rattle.object_names.specs.Objects.{AreObjects, are_rising}
 use Rattle.load_path.specs.Pictures.{is_rising}
+use Rattle.read_index.specs.Readers.{asks}
 use Rattle.rebuild.specs.Refused.{IsSpent}
 use Rattle.rebuild.specs.Renewing.{IsTaken}
 use Rattle.rebuild.specs.Taking.{counter_after}
@@ -21,10 +22,10 @@ returns-clause-taken g c =
     let found = c.in_ok-found.found.items in
     let gt = c.if-len-gt-MAX_OBJECTS.false in
     let count = c.len.ensures in
-    let of_files = subst (λ fs. OnOk c.take_files.result (IsTaken fs c.deref.result.now old new)) c.files.ensures.files c.take_files.ensures.taken in
-    let taken = subst (λ os. OnOk c.take_files.result (IsTaken picture os old new)) c.deref.ensures.value of_files in
+    let of_files = subst (λ fs. OnOk c.take_files.result (IsTaken (asks c.args.index.now) fs c.deref.result.now old new)) c.files.ensures.files c.take_files.ensures.taken in
+    let taken = subst (λ os. OnOk c.take_files.result (IsTaken (asks c.args.index.now) picture os old new)) c.deref.ensures.value of_files in
     let are = subst (λ ds. AreObjects picture ds found) c.as_slice.ensures c.in_ok-found.ensures in
-    picture_taken picture found old new c.take_files.result are (omega (arith, gt, count)) taken
+    picture_taken (asks c.args.index.now) picture found old new c.take_files.result are (omega (arith, gt, count)) taken
 
 pub returns-clause-refused : goal.returns-clause-refused
 returns-clause-refused g c =

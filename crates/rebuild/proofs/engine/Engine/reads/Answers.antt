@@ -10,4 +10,4 @@ pub returns-clause-exact : goal.returns-clause-exact
 returns-clause-exact g c = c.reads_in.ensures ∙ ap (λ rows. reads_found (row_in c.args.name.now rows)) c.deref.ensures.value ∙ asked c.args.self.now.core c.args.name.now
 
 pub returns-clause-scratch : goal.returns-clause-scratch
-returns-clause-scratch g c = true_of g.R.Runner.meaning (value_of c.args.self.now.core) c.args.self.now.reached
+returns-clause-scratch g c sound = true_of g.R.Runner.meaning (value_of c.args.self.now.core) sound.reached

@@ -1,0 +1,3 @@
+pub mod Restores
+pub mod Stored
+pub mod Copies
