@@ -21,9 +21,10 @@ abbrev pub with_default : Place → List Term → Plain → Store → Plain → 
 with_default p ms d s t = record { tree = t; log = s.log ++ default_change p ms d ∷ [] }
 
 module _ (R : Store → Store → Type 0) (same : (s : Store) → R s s) (twice : (s t u : Store) → R s t → R t u → R s u) (puts : (p : Place) (ms : List Term) (d : Plain) (s : Store) (t : Plain) → put ms d s.tree ≡ Ok t → R s (with_default p ms d s t)) where
-  -- where the run is done, the store before has the relation to what it leaves
+  -- the store before has the relation to what the run leaves, where it comes to its end
   abbrev pub KeptFrom : Store → Outcome Store (Unit {0}) → Type 0
   KeptFrom s (Done x t m) = R s t
+  KeptFrom s (Returned u t m) = R s t
   KeptFrom s _ = Unit {0}
 
   abbrev Keeps : Fill → Type 0
@@ -31,13 +32,13 @@ module _ (R : Store → Store → Type 0) (same : (s : Store) → R s s) (twice 
 
   kept_on : (z : Outcome Store (Unit {0})) (s t : Store) → R s t → KeptFrom t z → KeptFrom s z
   kept_on (Done x u m) s t h k = twice s t u h k
-  kept_on (Returned u v m) s t h k = tt
+  kept_on (Returned u v m) s t h k = twice s t v h k
   kept_on (Failed d m) s t h k = tt
   kept_on (Asks q m) s t h k = tt
 
   kept_then : (z : Outcome Store (Unit {0})) (f : Fill) (o : Answers) (s : Store) → KeptFrom s z → Keeps f → KeptFrom s (then z (λ _. f o))
   kept_then (Done x t m) f o s h k = kept_on (f o t m) s t h (k o t m)
-  kept_then (Returned t v m) f o s h k = tt
+  kept_then (Returned t v m) f o s h k = h
   kept_then (Failed d m) f o s h k = tt
   kept_then (Asks q m) f o s h k = tt
 

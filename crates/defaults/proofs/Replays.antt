@@ -9,6 +9,8 @@ use Rattle.pan_ast.specs.declared.place.Place.{Place}
 use Rattle.pan_ast.specs.declared.work.Work.{Work}
 use Rattle.assign_rules.specs.Profiles.{IsLogOf, goes_on, replayed_value}
 use Rattle.assign_rules.proofs.Logs.{replayed_more}
+use Rattle.questions.specs.Contents.{Answers}
+use Rattle.questions.specs.Run.{Meter, Outcome, Done, Returned, Failed, Asks}
 use Rattle.type_defs.specs.Bindings.{Bound}
 use Rattle.type_defs.specs.Resolved.{Resolved}
 use Rattle.defaults.specs.Fills.{Fills, meter}
@@ -27,6 +29,21 @@ pub fill_replays : (r : Result (Unit {0}) Failure) (bs : List Bound) (s t : Stor
 fill_replays (Ok x) bs s t before after h log =
     subst (KeptFrom Replays (λ u g. g) (λ u v w g k l. k (g l)) put_replays s) (h (λ k. None) []) (keeps_all Replays (λ u g. g) (λ u v w g k l. k (g l)) put_replays bs (λ k. None) s (meter before [])) log
 fill_replays (Err e) bs s t before after h log = tt
+
+-- the log of what a run leaves gives its tree
+abbrev pub LeavesLog : Outcome Store (Unit {0}) → Type 0
+LeavesLog (Done x t m) = IsLogOf t.log t.tree
+LeavesLog (Returned u t m) = IsLogOf t.log t.tree
+LeavesLog _ = Unit {0}
+
+pub all_replays : (bs : List Bound) (o : Answers) (s : Store) (m : Meter) → IsLogOf s.log s.tree → LeavesLog (all_filled bs o s m)
+all_replays bs o s m log = at (all_filled bs o s m) (keeps_all Replays (λ u g. g) (λ u v w g k l. k (g l)) put_replays bs o s m)
+  where
+    at : (z : Outcome Store (Unit {0})) → KeptFrom Replays (λ u g. g) (λ u v w g k l. k (g l)) put_replays s z → LeavesLog z
+    at (Done x t n) k = k log
+    at (Returned u t n) k = k log
+    at (Failed f n) k = tt
+    at (Asks q n) k = tt
 
 -- the log never shrinks, and where it has not grown, the tree is as before
 abbrev Grows : Store → Store → Type 0

@@ -1,2 +1,3 @@
 pub mod BothLawful
+pub mod Logging
 pub mod Looking

@@ -1,7 +1,8 @@
 -- Builds and checks of objects, as what a runner means.
-use Rattle.std.specs.Prelude.{ℕ, List}
+use Rattle.std.specs.Prelude.{ℕ, List, Option, Some, None, cond}
 use Rattle.pan_ast.specs.declared.work.Limits.{Limits}
 use Rattle.questions.specs.Told.{work_of}
+use Rattle.runner.specs.Logged.{Logged, put_no_null}
 use Rattle.runner.specs.Meaning.{Meaning}
 use Rattle.object_meaning.specs.Rest.{Rest}
 use Rattle.object_meaning.specs.Builds.{site_at, build, build_told}
@@ -14,3 +15,8 @@ meaning_of dirs limits = record {
   check = λ b. check (site_at dirs limits b.object) b;
   check_work = λ b pairs. work_of (check_told (site_at dirs limits b.object) b pairs);
 }
+
+-- how the tree of a build was made, where no change puts null
+abbrev pub log_of : Rest → Option Logged
+log_of r =
+    cond (put_no_null r.log) (Some (record { header = r.header; changes = r.log })) None

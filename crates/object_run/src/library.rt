@@ -1,8 +1,10 @@
-ghost use Rattle.object_meaning.specs.Meanings.{meaning_of};
+ghost use Rattle.object_meaning.specs.Meanings.{log_of, meaning_of};
 ghost use Rattle.object_meaning.proofs.BothLawful.{is_lawful};
+ghost use Rattle.object_meaning.proofs.Logging.{logs_its_trees};
 ghost use Rattle.object_meaning.proofs.Looking.{looks_for_template};
 ghost use Rattle.sound_profiles.specs.Built.{PromisesSound};
 ghost use Rattle.sound_profiles.proofs.Profiles.{builds_by_name, keeps_sound};
+ghost use Rattle.runner.specs.Logged.{put_no_null, puts_no_null};
 ghost use Rattle.runner.specs.Meaning.{counted};
 ghost use Rattle.std.specs.Prelude.{◌≡◌, []};
 
@@ -10,10 +12,10 @@ use crate::rest::Rest;
 use crate::runs::{Ran, build_in, check_in};
 use base::{Seq, Steps, Text};
 use load_path::Picture;
-use pan_ast::Limits;
+use pan_ast::{Change, Limits};
 use path_tree::Name;
 use run_world::Kept;
-use runner::{BuildEnd, Built, CheckEnd, Known, Runner};
+use runner::{BuildEnd, Built, CheckEnd, Known, Log, Runner};
 use std::alloc::{AllocError, Global};
 use std::marker::Brand;
 use std::mem;
@@ -35,6 +37,23 @@ fn count_up(runs: u64) -> u64
     ensures { result ≡ counted runs }
 {
     if runs < u64::MAX { runs + 1 } else { runs }
+}
+
+/// Whether a change puts no null.
+fn puts_no_null(change: &Change) -> bool
+    ensures { result ≡ puts_no_null change.now }
+{
+    match &change.value {
+        None => true,
+        Some(value) => !value.is_null(),
+    }
+}
+
+/// Whether no change puts null.
+fn put_no_null(changes: &[Change]) -> bool
+    ensures { result ≡ put_no_null changes.now }
+{
+    changes.iter().all(|change| puts_no_null(change))
 }
 
 impl Library {
@@ -61,6 +80,8 @@ impl Runner for Library {
 
     ghost promises = { PromisesSound };
 
+    ghost log_of = { log_of };
+
     ghost files_of = { λ l. l.picture };
 
     ghost dirs_of = { λ l. l.dirs };
@@ -74,6 +95,16 @@ impl Runner for Library {
 
     fn picture(&self) -> &Picture {
         &self.picture
+    }
+
+    fn log(rest: &Rest) -> Option<Log<'_>> {
+        if !put_no_null(&rest.log) {
+            return None;
+        }
+        Some(Log {
+            header: &rest.header,
+            changes: &rest.log,
+        })
     }
 
     fn run_build<K: Known, L: Ledger>(
@@ -133,6 +164,8 @@ impl Runner for Library {
     ghost by_name = { builds_by_name };
 
     ghost looks = { looks_for_template };
+
+    ghost logged = { logs_its_trees };
 
     ghost kept = { keeps_sound };
 }

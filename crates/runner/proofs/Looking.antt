@@ -1,9 +1,7 @@
 -- A run that goes through files, a step for each, asks for them in order.
-use Rattle.std.proofs.Common.{◌≡◌, ◌≤◌, ◌<◌, ◌-◌, ℕ, Bool, true, false, List, [], ◌∷◌, length, codes, cond, Option, Some, None, refl, ap, ◌∙◌, arith}
+use Rattle.std.proofs.Common.{◌≡◌, ◌≤◌, ◌<◌, ◌-◌, ℕ, Bool, true, false, List, [], ◌∷◌, length, cond, Option, Some, None, refl, ap, ◌∙◌, arith}
 use Rattle.std.specs.Prelude.{bytes_eq}
 use Rattle.load_path.specs.Candidates.{candidates}
-use Rattle.asking.specs.Asked as asked
-use Rattle.asking.specs.Asked.{Answer}
 use Rattle.asking.specs.declared.limits.TheConstants.{MAX_WORK}
 use Rattle.questions.specs.declared.key.Key.{Key}
 use Rattle.questions.specs.declared.key.Key.TheVariants.{File}

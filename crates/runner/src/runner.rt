@@ -1,10 +1,12 @@
-ghost use Rattle.std.specs.Prelude.{◌≡◌, ◌≤◌, ◌+◌, IfOk, OnOk, OnErr};
+ghost use Rattle.std.specs.Prelude.{◌≡◌, ◌≤◌, ◌+◌, IfOk, OnOk, OnErr, option_map};
 ghost use Rattle.runner.specs.Words.{words};
 ghost use Rattle.runner.specs.Ends.{build_ran, check_ran};
+ghost use Rattle.runner.specs.Logged.{seen_log};
 ghost use Rattle.runner.specs.Meaning.{build_run, build_steps, check_run, check_steps, counted};
 
 use crate::ends::{BuildEnd, Built, CheckEnd};
 use crate::known::Known;
+use crate::log::Log;
 use base::{Seq, Steps, Text};
 use load_path::Picture;
 use pan_ast::Limits;
@@ -18,12 +20,13 @@ use std::sync::ledger::Ledger;
 /// limits, the object's name or what was built, and of the answers so far. Whoever uses a runner knows nothing of that
 /// meaning but its laws, and what a check that gives no fault promises.
 pub trait Runner {
-    ghost use Rattle.std.specs.Prelude.{ℕ, List, None};
+    ghost use Rattle.std.specs.Prelude.{ℕ, List, Option, None};
     ghost use Rattle.asking.specs.Asked.{Ends};
     ghost use Rattle.load_path.specs.declared.picture.PictureFile.{PictureFile};
     ghost use Rattle.pan_ast.specs.declared.work.Limits.{Limits};
     ghost use Rattle.questions.specs.Contents.{Content};
     ghost use Rattle.questions.specs.declared.key.Key.{Key};
+    ghost use Rattle.runner.specs.Logged.{Logged, LogItsTrees};
     ghost use Rattle.runner.specs.Looking.{LooksForTemplates};
     ghost use Rattle.runner.specs.Meaning.{Meaning, IsLawful, BuildsByName};
     ghost use Rattle.runner.specs.declared.ends.Built.{Built};
@@ -36,6 +39,9 @@ pub trait Runner {
 
     /// What a check that gives no fault promises of what was built, where files and other objects have these contents.
     ghost promises: { List (List ℕ) → Limits → Built Self.Rest → List (Key × Content) → Type 0 };
+
+    /// What it tells of how a tree was made, if it keeps that.
+    ghost log_of: { Self.Rest → Option Logged };
 
     /// The files of the picture, the directories, and the count of runs.
     ghost files_of: { Self → List PictureFile };
@@ -53,6 +59,10 @@ pub trait Runner {
     /// The picture.
     fn picture(&self) -> &Picture
         ensures { result.now ≡ files_of self.now };
+
+    /// How the tree of a build was made. None of a runner that does not keep it.
+    fn log(rest: &Self::Rest) -> Option<Log<'_>>
+        ensures { option_map seen_log result ≡ log_of rest.now };
 
     /// Runs the build of an object of the picture.
     ///
@@ -115,6 +125,10 @@ pub trait Runner {
     /// The build of an object looks for its own template in the directories.
     ghost looks: { (dirs : List (List ℕ)) (limits : Limits)
         → LooksForTemplates (meaning dirs limits) dirs };
+
+    /// The changes that it tells give the tree.
+    ghost logged: { (dirs : List (List ℕ)) (limits : Limits)
+        → LogItsTrees (meaning dirs limits) log_of };
 
     /// A check that ends without a fault keeps its promise.
     ghost kept: { (dirs : List (List ℕ)) (limits : Limits) (b : Built Self.Rest)

@@ -11,7 +11,7 @@ use base::{Seq, Steps, Text};
 use load_path::Picture;
 use pan_ast::Limits;
 use path_tree::Name;
-use runner::{BuildEnd, Built, CheckEnd, Known, Runner};
+use runner::{BuildEnd, Built, CheckEnd, Known, Log, Runner};
 use std::alloc::{AllocError, Global};
 use std::sync::ledger::Ledger;
 
@@ -87,6 +87,7 @@ fn check_end(ran: Ran) -> CheckEnd
 }
 
 impl Runner for Written {
+    ghost use Rattle.std.specs.Prelude.{None};
     ghost use Rattle.written_runner.specs.Meaning.{meaning, PromisesNothing};
     ghost use Rattle.written_runner.specs.Laws.{lawful};
     ghost use Rattle.written_runner.specs.Promised.{builds_by_name, looks_for_template};
@@ -96,6 +97,8 @@ impl Runner for Written {
     ghost meaning = { λ dirs limits. meaning dirs };
 
     ghost promises = { λ dirs limits. PromisesNothing };
+
+    ghost log_of = { λ rest. None };
 
     ghost files_of = { λ r. r.picture };
 
@@ -110,6 +113,10 @@ impl Runner for Written {
 
     fn picture(&self) -> &Picture {
         &self.picture
+    }
+
+    fn log(_rest: &()) -> Option<Log<'_>> {
+        None
     }
 
     fn run_build<K: Known, L: Ledger>(
@@ -147,6 +154,8 @@ impl Runner for Written {
     ghost by_name = { λ dirs limits. builds_by_name dirs };
 
     ghost looks = { λ dirs limits. looks_for_template dirs };
+
+    ghost logged = { λ dirs limits object asked built is. tt };
 
     ghost kept = { λ dirs limits built asked none. tt };
 }
