@@ -3,8 +3,9 @@
 //! A line `row NAME BYTES` is a row, its bytes in hexadecimal digits. `read` reads the rows so far and
 //! tells what they keep, and whether it is written as the same rows again. `change` reads them with
 //! each byte of each in turn put to each other value, and counts the rows that are refused, that are
-//! read and written as they stand, and that are read and written otherwise. Both begin anew. A line
-//! that begins with `-` is a remark. The expected output is of another reader, written by hand.
+//! read and written as they stand, and that are read and written otherwise. `time` reads and writes
+//! them, counts them, and tells on standard error in how many microseconds. All three begin anew. A
+//! line that begins with `-` is a remark. The expected output is of another reader, written by hand.
 #![tactic(auto)]
 
 use anyhow::{Result, anyhow};
@@ -12,6 +13,7 @@ use base::{Bytes, Text};
 use kept_state::Kept;
 use record_rows::{RowsError, decode, encode};
 use std::alloc::{AllocError, Global};
+use std::time::Instant;
 use stored_rows::StoredRow;
 
 /// What comes of changed rows.
@@ -148,6 +150,20 @@ fn change(rt: &HostRuntime, rows: &mut Vec<StoredRow>) -> Result<()> {
     Ok(())
 }
 
+fn time(rt: &HostRuntime, rows: &[StoredRow]) -> Result<()> {
+    let start = Instant::now(rt)?;
+    let Ok(kept) = decode(rt.alloc(), rows) else {
+        return Err(anyhow!("not read"));
+    };
+    let read = start.elapsed(rt)?.as_micros();
+    let start = Instant::now(rt)?;
+    let again = encode(rt.alloc(), &kept)?;
+    let written = start.elapsed(rt)?.as_micros();
+    println!(rt; "  {} rows, {} objects", again.len(), kept.objects.len())?;
+    eprintln!(rt; "read in {read} microseconds, written in {written}")?;
+    Ok(())
+}
+
 fn row(alloc: Global, name: &str, digits: &str) -> Result<StoredRow> {
     Ok(StoredRow {
         name: Text::new(alloc, name)?,
@@ -164,6 +180,10 @@ fn run(rt: &HostRuntime, rows: &mut Vec<StoredRow>, words: &[&str]) -> Result<()
         }
         ["change"] => {
             change(rt, rows)?;
+            rows.clear();
+        }
+        ["time"] => {
+            time(rt, rows)?;
             rows.clear();
         }
         ["-", ..] => {}

@@ -1,0 +1,5 @@
+pub mod Walk
+pub mod Made
+pub mod Same
+pub mod Listed
+pub mod Worked
