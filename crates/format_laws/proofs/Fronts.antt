@@ -1,12 +1,13 @@
 -- What is written before a text that is read again is read again with it: blanks, signs, words,
 -- texts and numbers.
-use Rattle.std.proofs.Common.{◌≡◌, ◌∙◌, ℕ, zero, suc, ◌+◌, ◌*◌, ◌-◌, ◌^◌, ◌<◌, Bool, true, false, cond, not, eqb, List, [], ◌∷◌, ◌++◌, length, refl, sym, ap, subst, arith, append_assoc}
+use Rattle.std.proofs.Common.{◌≡◌, ◌∙◌, ℕ, zero, suc, ◌+◌, ◌*◌, ◌-◌, ◌^◌, ◌<◌, Bool, true, false, cond, not, eqb, List, [], ◌∷◌, ◌++◌, length, take, drop, refl, sym, ap, subst, arith, append_assoc}
 use Rattle.std.specs.Prelude.{decimal, fold}
 use Rattle.std.specs.Char.{digit_value}
 use Rattle.std.specs.Cmp.Lexicographic.{pointwise}
 use Rattle.std.specs.List.{list_all}
 use Rattle.std.specs.Str.Parse.{AllDigits, digits_value_after}
 use Rattle.std.proofs.lemmas.Bool.Decides.{nat_tests}
+use Rattle.std.proofs.lemmas.List.{length-take, length-drop}
 use Rattle.std.proofs.lemmas.Fmt.{decimal_digit, decimal_is_IsNumeral}
 use Rattle.path_tree.specs.Grammar.{number_of}
 use Rattle.pan_ast.specs.declared.sort.Sort.{Sort}
@@ -14,17 +15,22 @@ use Rattle.pan_ast.specs.declared.sort.Sort.TheVariants as sorts
 use Rattle.pan_ast.specs.declared.token.Token.{Token}
 use Rattle.pan_ast.specs.declared.token.TokenKind.{TokenKind}
 use Rattle.pan_ast.specs.declared.token.TokenKind.TheVariants as kinds
-use Rattle.pan_ast.specs.Sorts.{is_word, look_up, signs, sort, sort_of}
+use Rattle.pan_ast.specs.Sorts.{at, is_word, look_up, signs, sort, sort_of, words}
 use Rattle.pan_lexer.specs.Bytes.{begins, is_blank, is_single_sign, is_word_byte, may_be_doubled, may_have_equals, starts, starts_twice}
 use Rattle.pan_lexer.specs.Lexed.{advance, place_after, token}
 use Rattle.pan_lexer.specs.Skipped.{kept}
-use Rattle.pan_lexer.specs.Spelled.{once, sign, without, writes}
+use Rattle.pan_lexer.specs.Parts.{Written}
+use Rattle.pan_lexer.specs.Spelled.{Cuts, IsFront, Piece as SpelledPiece, counts, documents, name, no_more, once, quotes, sign, skips, without, word, writes}
+use Rattle.pan_lexer.specs.declared.parts.At.{At}
+use Rattle.pan_lexer.specs.declared.parts.Mode.{Mode}
 use Rattle.pan_lexer.specs.declared.pieces.Piece.{Piece}
 use Rattle.pan_lexer.proofs.CleanLines.{and_both}
+use Rattle.pan_lexer.proofs.Spans.{place_start}
 use Rattle.pan_format.specs.Words.{quoted}
 use Rattle.pan_format.proofs.Numbers.{MayFollow, number_read}
 use Rattle.pan_format.proofs.Written.{blank_read, doubled_read, sign_read, text_read, with_equals_read, word_read}
-use Rattle.format_laws.proofs.Reading.{Apart, Behind, Follows, Holding, IsWord, Reads, behind, holding}
+use Rattle.format_laws.proofs.Reading.{Apart, Behind, Follows, Holding, IsWord, Reads, Stop, behind, ended, holding, stop}
+use Rattle.format_laws.proofs.Spelt.{none_in}
 
 -- ---- what stands apart
 
@@ -181,6 +187,52 @@ sign_then {file = file} {k = k} b e q r = record {
         a.1,
         sign_read file p b k a.0 a.1 e a.2,
         behind q a.3,
+      );
+}
+
+-- ---- where the text of tokens ends
+
+written_no_end : {naming : Bool} {bs : List ℕ} {kind : TokenKind} {n : ℕ} (v : List ℕ)
+    → IsFront naming bs (Written kind n) → at sorts.End (sort_of kind v) ≡ false
+written_no_end v (name m h r) = refl
+written_no_end v (word m h r) = none_in (at sorts.End) v sorts.Word words refl refl
+written_no_end v (sign m h) = none_in (at sorts.End) v sorts.NoSign signs refl refl
+
+pub over_token : (t : Token) (ts : List Token) → at sorts.End (sort t) ≡ false
+    → ended (t ∷ ts) ≡ ended ts
+over_token t ts e = ap (λ (b : Bool). cond b t.start (ended ts)) e
+
+passed : (n : ℕ) (bs : List ℕ) (p : At)
+    → (place_after p (take n bs)).start + length (drop n bs) ≡ p.start + length bs
+passed n bs p =
+    omega (arith, place_start (take n bs) p, length-take n bs, length-drop n bs)
+
+pub cuts_ended : {file : List ℕ} {m : Mode} {p : At} {bs : List ℕ} {ts : List Token}
+    {ps : List SpelledPiece} → Cuts file m p bs ts ps → ended ts ≡ p.start + length bs
+cuts_ended {p = p} no_more = plain p.start where
+  plain : (n : ℕ) → n ≡ n + 0
+  plain n = omega arith
+cuts_ended {p = p} {bs = bs} (skips {n = n} h r) = cuts_ended r ∙ passed n bs p
+cuts_ended {file = file} {p = p} {bs = bs} (writes {ts = ts} {n = n} {kind = kind} h r) =
+    over_token (token file kind p n (take n bs)) ts (written_no_end (take n bs) h)
+    ∙ cuts_ended r ∙ passed n bs p
+cuts_ended {p = p} {bs = bs} (counts {n = n} h r) = cuts_ended r ∙ passed n bs p
+cuts_ended {p = p} {bs = bs} (quotes {n = n} h r) = cuts_ended r ∙ passed n bs p
+cuts_ended {p = p} {bs = bs} (documents {n = n} {k = k} h r) =
+    cuts_ended r ∙ passed (n + 1 + k) bs p
+
+-- a semicolon and the end of its line
+pub stop_then : {file k : List ℕ} {P : Follows} → Reads file k P
+    → Reads file (59 ∷ 10 ∷ k) (Stop (suc (length k)) P)
+stop_then {file = file} {k = k} r = record {
+  read = λ p.
+      let a = (blank 10 refl r).read (advance p 59) in
+      let count : (p.start + 1) + suc (length k) ≡ ended a.0 =
+      omega (arith, place_start (59 ∷ []) p, cuts_ended a.2) in (
+        token file kinds.Sign p 1 (59 ∷ []) ∷ a.0,
+        a.1,
+        sign_read file p 59 (10 ∷ k) a.0 a.1 refl a.2,
+        stop refl count a.3,
       );
 }
 

@@ -9,10 +9,12 @@ pub mod Seams
 pub mod ReadBack
 pub mod Ranges
 pub mod TypesBack
+pub mod Balanced
 pub mod StatementsBack
+pub mod Noted
+pub mod Placed
 pub mod TemplatesBack
 pub mod Utf8
 pub mod Settled
 pub mod Formatting
-pub mod Balanced
 pub mod Leaves

@@ -96,7 +96,7 @@ cuts_spelt {m = m} {bs = bs} (documents {v = v} {n = n} {k = k} h r) u =
 
 -- ---- kinds by sorts
 
-none_in : (p : Sort → Bool) (v : List ℕ) (other : Sort) (table : List (List ℕ × Sort))
+pub none_in : (p : Sort → Bool) (v : List ℕ) (other : Sort) (table : List (List ℕ × Sort))
     → p other ≡ false → list_all (λ e. not (p e.1)) table ≡ true → p (look_up other v table) ≡ false
 none_in p v other [] o a = o
 none_in p v other (e ∷ es) o a =

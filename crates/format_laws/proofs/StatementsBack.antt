@@ -1,5 +1,5 @@
 -- What is laid out of a statement is read and parsed back to the same statement but for places.
-use Rattle.std.proofs.Common.{◌≡◌, ◌∙◌, ℕ, Bool, true, false, List, [], ◌∷◌, ◌++◌, refl, ap}
+use Rattle.std.proofs.Common.{◌≡◌, ◌∙◌, ℕ, suc, ◌+◌, Bool, true, false, List, [], ◌∷◌, ◌++◌, length, refl, sym, ap, subst}
 use Rattle.std.specs.Prelude.{codes}
 use Rattle.pan_ast.specs.declared.place.Place.{Place}
 use Rattle.pan_ast.specs.declared.sort.Sort.{Sort}
@@ -13,7 +13,7 @@ use Rattle.pan_ast.specs.Types.{FullType}
 use Rattle.pan_ast.specs.Templates.{StatementForm, Statement}
 use Rattle.pan_ast.specs.Templates as statements
 use Rattle.pan_lexer.specs.declared.pieces.Piece.{Piece}
-use Rattle.pan_grammar.specs.Grammar.{Tokens, IsItem, block, plain}
+use Rattle.pan_grammar.specs.Grammar.{Tokens, IsItem, NotElse, block, plain}
 use Rattle.pan_grammar.specs.Types.{IsFull}
 use Rattle.pan_grammar.specs.Templates.{IsIncluded, IsSetting, IsStatement, a_bind, a_final, a_function, a_prefix, a_setting, a_type, a_valid, an_include, block_included, conditional, is_setting, of_path, of_variable, stated, text_included}
 use Rattle.pan_format.specs.Bare.{nowhere, bare_full, bare_item, bare_node, bare_statement}
@@ -21,12 +21,13 @@ use Rattle.pan_format.specs.Items.{item_text, node_text}
 use Rattle.pan_format.specs.Types.{full_text}
 use Rattle.pan_format.specs.Statements.{setting_text, statement_text}
 use Rattle.pan_format.specs.Words.{quoted}
-use Rattle.format_laws.proofs.Reading.{Apart, Behind, Follows, Holding, IsWord, Reads, Then, behind, holding, so}
+use Rattle.format_laws.proofs.Reading.{Apart, Behind, Follows, Holding, IsWord, Reads, Stop, Then, behind, ended, holding, so, stop}
 use Rattle.format_laws.proofs.Worded.{form_words, full_words, item_words}
-use Rattle.format_laws.proofs.Fronts.{apart_semicolon, apart_space, blank, keyword, mapped, sign_then, text_then, with_equals_then, without_then, word_then}
-use Rattle.format_laws.proofs.Items.{ItemThen, ItemsThen, behind_not_else}
+use Rattle.format_laws.proofs.Fronts.{apart_semicolon, apart_space, blank, keyword, mapped, stop_then, text_then, with_equals_then, without_then, word_then}
+use Rattle.format_laws.proofs.Items.{ItemThen, ItemsThen, not_else}
 use Rattle.format_laws.proofs.ReadBack.{item_again, items_again, word_again}
-use Rattle.format_laws.proofs.TypesBack.{BehindFull, FullThen, full_again, semicolon_ends, starts_behind}
+use Rattle.format_laws.proofs.TypesBack.{BehindFull, FullThen, Starts, full_again, semicolon_ends}
+use Rattle.format_laws.proofs.Balanced.{Ended, bind_ends, ending, found, function_ends, include_ends, path_ends, prefix_ends, type_ends, valid_ends, variable_ends, word_before}
 use Rattle.format_laws.proofs.Seams.{seam3, seam4, seam5}
 
 -- ---- the sign of a setting
@@ -52,6 +53,15 @@ setting_then {t = t} false r = blank 32 refl (without_then {k = 32 ∷ t} 61 ref
 setting_apart : (b : Bool) (t : List ℕ) → Apart (setting_text b ++ t)
 setting_apart true t = apart_space
 setting_apart false t = apart_space
+
+-- ---- what begins with a semicolon
+
+stop_not_else : {n : ℕ} {P : Follows} {X : Type 0} (us : Tokens) (ps : List Piece) → Stop n P us ps
+    → X → NotElse us
+stop_not_else us ps (stop {t = t} {ts = ts} z w r) x = not_else sorts.Semicolon t ts refl z
+
+stop_starts : {n : ℕ} {P : Follows} → Starts BehindFull (Stop n P)
+stop_starts us ps (stop z w r) = subst BehindFull (sym z) semicolon_ends
 
 -- ---- that forms are the same but for places
 
@@ -82,33 +92,59 @@ bind_bare : (v w : List ℕ) (f g : FullType) → v ≡ w → bare_full f ≡ ba
 bind_bare v w f g e1 e2 = cc
 
 module _ (May : ℕ → Tokens → Type 0) where
-  abbrev pub StatementThen : Statement → Follows → Follows
-  StatementThen x P = Then Statement (IsStatement May) (λ y. bare_statement y ≡ bare_statement x) P
+  -- a statement whose semicolon has so many bytes behind it
+  pub record Stands (n : ℕ) (ts : Tokens) (x : Statement) (rest : Tokens) : Type 0 where
+    pub is : IsStatement May ts x rest
+    pub end : Ended n ts rest
+
+  abbrev pub StatementThen : ℕ → Statement → Follows → Follows
+  StatementThen n x P =
+      Then Statement (Stands n) (λ y. bare_statement y ≡ bare_statement x) P
+
+  record Sets (p : Place) (last : Bool) (n : ℕ) (ts : Tokens) (x : Statement) (rest : Tokens)
+      : Type 0 where
+    is : IsSetting May p last ts x rest
+    end : Ended n ts rest
+
+  stands : {n : ℕ} {ts rest : Tokens} {x : Statement} (s : Token) → IsStatement May ts x rest
+      → found 0 ts ≡ ending s rest → s.end + n ≡ ended rest → Stands n ts x rest
+  stands s h f c =
+      record { is = h; end = record { semicolon = s; finds = f; counts = c } }
+
+  sets : {p : Place} {last : Bool} {n : ℕ} {ts rest : Tokens} {x : Statement} (s : Token)
+      → IsSetting May p last ts x rest → found 0 ts ≡ ending s rest → s.end + n ≡ ended rest
+      → Sets p last n ts x rest
+  sets s h f c =
+      record { is = h; end = record { semicolon = s; finds = f; counts = c } }
 
   -- wherever the statement begins
-  abbrev SettingThen : Bool → StatementForm → Follows → Follows
-  SettingThen last f P us ps = (p : Place) → Then Statement (IsSetting May p last)
+  abbrev SettingThen : ℕ → Bool → StatementForm → Follows → Follows
+  SettingThen n last f P us ps = (p : Place) → Then Statement (Sets p last n)
       (λ y. bare_statement y ≡ bare_statement (stated nowhere f)) P us ps
 
   abbrev IncludedThen : Item → Follows → Follows
   IncludedThen i P = Then Item (IsIncluded May) (λ y. bare_item y ≡ bare_item i) P
 
-  path_so : (last : Bool) (v : List ℕ) (b : Bool) (i : Item) {P : Follows} (us : Tokens)
+  path_so : (last : Bool) (v : List ℕ) (b : Bool) (i : Item) {P : Follows} {n : ℕ} (us : Tokens)
       (ps : List Piece) → Holding sorts.Text v
-      (Behind (setting_of b) (ItemThen May 0 i (Behind sorts.Semicolon P))) us ps
-      → SettingThen last (statements.Assign last v b i) P us ps
-  path_so last v b i us ps (holding s q (behind e (so h c (behind z r)))) p =
-      so (of_path s (ap is_setting e ∙ setting_again b) h z)
+      (Behind (setting_of b) (ItemThen May 0 i (Stop n P))) us ps
+      → SettingThen n last (statements.Assign last v b i) P us ps
+  path_so last v b i us ps (holding {t = x} s q (behind {t = a} e (so h c (stop {t = k} z w r)))) p =
+      let m = ap is_setting e ∙ setting_again b in
+      so (sets k (of_path s m h z) (path_ends May x a s m h z) w)
       (ap (stated nowhere) (assign_bare last _ _ _ _ _ _ q
       (ap (at sorts.ConditionalAssign) e ∙ setting_kept b) c)) r
 
-  variable_so : (last : Bool) (v : List ℕ) (b : Bool) (i : Item) {P : Follows}
+  variable_so : (last : Bool) (v : List ℕ) (b : Bool) (i : Item) {P : Follows} {n : ℕ}
       → is_word (sort_of kinds.Word v) ≡ true → (us : Tokens) (ps : List Piece)
       → Behind sorts.Variable (Holding (sort_of kinds.Word v) v
-      (Behind (setting_of b) (ItemThen May 0 i (Behind sorts.Semicolon P)))) us ps
-      → SettingThen last (statements.Variable last v b i) P us ps
-  variable_so last v b i n us ps (behind o (holding s q (behind e (so h c (behind z r))))) p =
-      so (of_variable o (ap is_word s ∙ n) (ap is_setting e ∙ setting_again b) h z)
+      (Behind (setting_of b) (ItemThen May 0 i (Stop n P)))) us ps
+      → SettingThen n last (statements.Variable last v b i) P us ps
+  variable_so last v b i g us ps (behind {t = l} o (holding {t = x} s q
+      (behind {t = a} e (so h c (stop {t = k} z w r))))) p =
+      let m = ap is_setting e ∙ setting_again b in
+      let u = ap is_word s ∙ g in
+      so (sets k (of_variable o u m h z) (variable_ends May l x a o u m h z) w)
       (ap (stated nowhere) (variable_bare last _ _ _ _ _ _ q
       (ap (at sorts.ConditionalAssign) e ∙ setting_kept b) c)) r
 
@@ -117,73 +153,86 @@ module _ (May : ℕ → Tokens → Type 0) where
   setting_some (of_path s e h z) q = cc
   setting_some (of_variable o s e h z) q = cc
 
-  no_setting : {p : Place} {last : Bool} {ps : List Piece} {P : Follows} {X : Type 0}
-      (f : StatementForm) → Then Statement (IsSetting May p last)
+  no_setting : {p : Place} {last : Bool} {n : ℕ} {ps : List Piece} {P : Follows} {X : Type 0}
+      (f : StatementForm) → Then Statement (Sets p last n)
       (λ y. bare_statement y ≡ bare_statement (stated nowhere f)) P [] ps → X
-  no_setting f (so h b r) = absurd (setting_some h refl)
+  no_setting f (so h b r) = absurd (setting_some h.is refl)
 
   setting_from : {t : Token} {us : Tokens} {ps : List Piece} (q : Place) (f : StatementForm)
-      {P : Follows} → Then Statement (IsSetting May t.place false)
+      {P : Follows} {n : ℕ} → Then Statement (Sets t.place false n)
       (λ y. bare_statement y ≡ bare_statement (stated nowhere f)) P (t ∷ us) ps
-      → StatementThen (stated q f) P (t ∷ us) ps
-  setting_from q f (so h b r) = so (a_setting h) b r
+      → StatementThen n (stated q f) P (t ∷ us) ps
+  setting_from q f (so h b r) = so (record { is = a_setting h.is; end = h.end }) b r
 
-  setting_so : (q : Place) (f : StatementForm) {P : Follows} (us : Tokens) (ps : List Piece)
-      → SettingThen false f P us ps → StatementThen (stated q f) P us ps
+  setting_so : (q : Place) (f : StatementForm) {P : Follows} {n : ℕ} (us : Tokens) (ps : List Piece)
+      → SettingThen n false f P us ps → StatementThen n (stated q f) P us ps
   setting_so q f {P = P} [] ps h = no_setting {P = P} f (h nowhere)
   setting_so q f (u ∷ us) ps h = setting_from q f (h u.place)
 
   final_from : {t : Token} {us : Tokens} {ps : List Piece} (q : Place) (f : StatementForm)
-      {P : Follows} → sort t ≡ sorts.Final → Then Statement (IsSetting May t.place true)
+      {P : Follows} {n : ℕ} → sort t ≡ sorts.Final → Then Statement (Sets t.place true n)
       (λ y. bare_statement y ≡ bare_statement (stated nowhere f)) P us ps
-      → StatementThen (stated q f) P (t ∷ us) ps
-  final_from q f e (so h b r) = so (a_final e h) b r
+      → StatementThen n (stated q f) P (t ∷ us) ps
+  final_from q f e (so h b r) =
+      so (record { is = a_final e h.is; end = word_before sorts.Final refl e h.end }) b r
 
-  final_so : (q : Place) (f : StatementForm) {P : Follows} (us : Tokens) (ps : List Piece)
-      → Behind sorts.Final (SettingThen true f P) us ps → StatementThen (stated q f) P us ps
+  final_so : (q : Place) (f : StatementForm) {P : Follows} {n : ℕ} (us : Tokens) (ps : List Piece)
+      → Behind sorts.Final (SettingThen n true f P) us ps → StatementThen n (stated q f) P us ps
   final_so q f us ps (behind {t = t} e h) = final_from q f e (h t.place)
 
-  function_so : (q : Place) (v : List ℕ) (i : Item) {P : Follows}
+  function_so : (q : Place) (v : List ℕ) (i : Item) {P : Follows} {n : ℕ}
       → is_word (sort_of kinds.Word v) ≡ true → (us : Tokens) (ps : List Piece)
       → Behind sorts.Function (Holding (sort_of kinds.Word v) v
-      (Behind sorts.Assign (ItemThen May 0 i (Behind sorts.Semicolon P)))) us ps
-      → StatementThen (stated q (statements.Function v i)) P us ps
-  function_so p0 v i n us ps (behind o (holding s q (behind e (so h c (behind z r))))) =
-      so (a_function o (ap is_word s ∙ n) e h z) (ap (stated nowhere) (function_bare _ _ _ _ q c)) r
+      (Behind sorts.Assign (ItemThen May 0 i (Stop n P)))) us ps
+      → StatementThen n (stated q (statements.Function v i)) P us ps
+  function_so p0 v i g us ps (behind {t = l} o (holding {t = x} s q
+      (behind {t = a} e (so h c (stop {t = k} z w r))))) =
+      let u = ap is_word s ∙ g in
+      so (stands k (a_function o u e h z) (function_ends May l x a o u e h z) w)
+      (ap (stated nowhere) (function_bare _ _ _ _ q c)) r
 
-  type_so : (q : Place) (v : List ℕ) (f : FullType) {P : Follows}
+  type_so : (q : Place) (v : List ℕ) (f : FullType) {P : Follows} {n : ℕ}
       → is_word (sort_of kinds.Word v) ≡ true → (us : Tokens) (ps : List Piece)
       → Behind sorts.«Type» (Holding (sort_of kinds.Word v) v
-      (Behind sorts.Assign (FullThen May 0 f (Behind sorts.Semicolon P)))) us ps
-      → StatementThen (stated q (statements.Define v f)) P us ps
-  type_so p0 v f n us ps (behind o (holding s q (behind e (so h c (behind z r))))) =
-      so (a_type o (ap is_word s ∙ n) e h z) (ap (stated nowhere) (define_bare _ _ _ _ q c)) r
+      (Behind sorts.Assign (FullThen May 0 f (Stop n P)))) us ps
+      → StatementThen n (stated q (statements.Define v f)) P us ps
+  type_so p0 v f g us ps (behind {t = l} o (holding {t = x} s q
+      (behind {t = a} e (so h c (stop {t = k} z w r))))) =
+      let u = ap is_word s ∙ g in
+      so (stands k (a_type o u e h z) (type_ends May l x a o u e h z) w)
+      (ap (stated nowhere) (define_bare _ _ _ _ q c)) r
 
-  bind_so : (q : Place) (v : List ℕ) (f : FullType) {P : Follows} (us : Tokens) (ps : List Piece)
+  bind_so : (q : Place) (v : List ℕ) (f : FullType) {P : Follows} {n : ℕ} (us : Tokens) (ps : List Piece)
       → Behind sorts.Bind (Holding sorts.Text v
-      (Behind sorts.Assign (FullThen May 0 f (Behind sorts.Semicolon P)))) us ps
-      → StatementThen (stated q (statements.Bind v f)) P us ps
-  bind_so p0 v f us ps (behind o (holding s q (behind e (so h c (behind z r))))) =
-      so (a_bind o s e h z) (ap (stated nowhere) (bind_bare _ _ _ _ q c)) r
+      (Behind sorts.Assign (FullThen May 0 f (Stop n P)))) us ps
+      → StatementThen n (stated q (statements.Bind v f)) P us ps
+  bind_so p0 v f us ps (behind {t = l} o (holding {t = x} s q
+      (behind {t = a} e (so h c (stop {t = k} z w r))))) =
+      so (stands k (a_bind o s e h z) (bind_ends May l x a o s e h z) w)
+      (ap (stated nowhere) (bind_bare _ _ _ _ q c)) r
 
-  valid_so : (q : Place) (v : List ℕ) (i : Item) {P : Follows} (us : Tokens) (ps : List Piece)
+  valid_so : (q : Place) (v : List ℕ) (i : Item) {P : Follows} {n : ℕ} (us : Tokens) (ps : List Piece)
       → Behind sorts.Valid (Holding sorts.Text v
-      (Behind sorts.Assign (ItemThen May 0 i (Behind sorts.Semicolon P)))) us ps
-      → StatementThen (stated q (statements.Valid v i)) P us ps
-  valid_so p0 v i us ps (behind o (holding s q (behind e (so h c (behind z r))))) =
-      so (a_valid o s e h z) (ap (stated nowhere) (valid_bare _ _ _ _ q c)) r
+      (Behind sorts.Assign (ItemThen May 0 i (Stop n P)))) us ps
+      → StatementThen n (stated q (statements.Valid v i)) P us ps
+  valid_so p0 v i us ps (behind {t = l} o (holding {t = x} s q
+      (behind {t = a} e (so h c (stop {t = k} z w r))))) =
+      so (stands k (a_valid o s e h z) (valid_ends May l x a o s e h z) w)
+      (ap (stated nowhere) (valid_bare _ _ _ _ q c)) r
 
-  prefix_so : (q : Place) (v : List ℕ) {P : Follows} (us : Tokens) (ps : List Piece)
-      → Behind sorts.Prefix (Holding sorts.Text v (Behind sorts.Semicolon P)) us ps
-      → StatementThen (stated q (statements.Prefix v)) P us ps
-  prefix_so p0 v us ps (behind o (holding s q (behind z r))) =
-      so (a_prefix o s z) (ap (stated nowhere) (ap statements.Prefix q)) r
+  prefix_so : (q : Place) (v : List ℕ) {P : Follows} {n : ℕ} (us : Tokens) (ps : List Piece)
+      → Behind sorts.Prefix (Holding sorts.Text v (Stop n P)) us ps
+      → StatementThen n (stated q (statements.Prefix v)) P us ps
+  prefix_so p0 v us ps (behind {t = l} o (holding {t = x} s q (stop {t = k} {ts = ts} z w r))) =
+      so (stands k (a_prefix o s z) (prefix_ends l x k ts o s z) w)
+      (ap (stated nowhere) (ap statements.Prefix q)) r
 
-  include_so : (q : Place) (i : Item) {P : Follows} (us : Tokens) (ps : List Piece)
-      → Behind sorts.Include (IncludedThen i (Behind sorts.Semicolon P)) us ps
-      → StatementThen (stated q (statements.Include i)) P us ps
-  include_so p0 i us ps (behind o (so h c (behind z r))) =
-      so (an_include o h z) (ap (stated nowhere) (ap statements.Include c)) r
+  include_so : (q : Place) (i : Item) {P : Follows} {n : ℕ} (us : Tokens) (ps : List Piece)
+      → Behind sorts.Include (IncludedThen i (Stop n P)) us ps
+      → StatementThen n (stated q (statements.Include i)) P us ps
+  include_so p0 i us ps (behind {t = l} o (so h c (stop {t = k} z w r))) =
+      so (stands k (an_include o h z) (include_ends May l o h z) w)
+      (ap (stated nowhere) (ap statements.Include c)) r
 
   text_included_so : (p : Place) (v : List ℕ) {P : Follows} → ((us : Tokens) → May 1 us)
       → (us : Tokens) (ps : List Piece) → Holding sorts.Text v P us ps
@@ -204,21 +253,20 @@ module _ (file : List ℕ) (May : ℕ → Tokens → Type 0)
     (alike : (d : ℕ) (t : Token) (ts us : Tokens) → May d (t ∷ ts) → May d us) where
   item_ended : {ts rest : Tokens} {i : Item} {t : List ℕ} {P : Follows} → IsItem May 0 ts i rest
       → item_words i → Reads file t P → Reads file (item_text 0 i ++ 59 ∷ 10 ∷ t)
-      (ItemThen May 0 i (Behind sorts.Semicolon P))
+      (ItemThen May 0 i (Stop (suc (length t)) P))
   item_ended h w r = item_again file May alike h 0 w apart_semicolon
-      (behind_not_else sorts.Semicolon refl) (sign_then 59 refl refl (blank 10 refl r))
+      stop_not_else (stop_then r)
 
   full_ended : {ts rest : Tokens} {f : FullType} {t : List ℕ} {P : Follows} → IsFull May 0 ts f rest
       → full_words f → Reads file t P → Reads file (full_text 0 f ++ 59 ∷ 10 ∷ t)
-      (FullThen May 0 f (Behind sorts.Semicolon P))
+      (FullThen May 0 f (Stop (suc (length t)) P))
   full_ended h w r = full_again file May alike h 0 w apart_semicolon
-      (starts_behind BehindFull sorts.Semicolon semicolon_ends)
-      (sign_then 59 refl refl (blank 10 refl r))
+      stop_starts (stop_then r)
 
   path_again : {ts rest : Tokens} {i : Item} {t : List ℕ} {P : Follows} (v : List ℕ) (b : Bool)
       → IsItem May 0 ts i rest → item_words i → Reads file t P
       → Reads file (quoted v ++ setting_text b ++ item_text 0 i ++ codes ";\n" ++ t)
-      (Holding sorts.Text v (Behind (setting_of b) (ItemThen May 0 i (Behind sorts.Semicolon P))))
+      (Holding sorts.Text v (Behind (setting_of b) (ItemThen May 0 i (Stop (suc (length t)) P))))
   path_again {i = i} {t = t} v b h w r = seam4 (quoted v) (setting_text b) (item_text 0 i)
       (codes ";\n") t (text_then v (setting_apart b _) (setting_then b (item_ended h w r)))
 
@@ -226,7 +274,7 @@ module _ (file : List ℕ) (May : ℕ → Tokens → Type 0)
       → IsWord v → IsItem May 0 ts i rest → item_words i → Reads file t P
       → Reads file (codes "variable " ++ v ++ setting_text b ++ item_text 0 i ++ codes ";\n" ++ t)
       (Behind sorts.Variable (Holding (sort_of kinds.Word v) v
-      (Behind (setting_of b) (ItemThen May 0 i (Behind sorts.Semicolon P)))))
+      (Behind (setting_of b) (ItemThen May 0 i (Stop (suc (length t)) P)))))
   variable_again {i = i} {t = t} v b wv h w r =
       seam5 (codes "variable ") v (setting_text b) (item_text 0 i) (codes ";\n") t
       (keyword (codes "variable") (refl, refl) refl
@@ -235,18 +283,18 @@ module _ (file : List ℕ) (May : ℕ → Tokens → Type 0)
 
   included_again : {ts rest : Tokens} {i : Item} {t : List ℕ} {P : Follows}
       → IsIncluded May ts i rest → item_words i → Reads file t P
-      → Reads file (item_text 0 i ++ 59 ∷ 10 ∷ t) (IncludedThen May i (Behind sorts.Semicolon P))
+      → Reads file (item_text 0 i ++ 59 ∷ 10 ∷ t) (IncludedThen May i (Stop (suc (length t)) P))
   unfolding item_text node_text
   included_again (text_included {t = v} {rest = rest} m e) w r =
       mapped (text_included_so May v.place v.value (λ us. alike 1 v rest us m))
-      (text_then v.value apart_semicolon (sign_then 59 refl refl (blank 10 refl r)))
+      (text_then v.value apart_semicolon (stop_then r))
   included_again (block_included {t = o} {ts = ts} {is = is} m e h) w r =
       mapped (block_included_so May o.place is (λ us. alike 1 o ts us m))
-      (items_again file May alike h 0 w (sign_then 59 refl refl (blank 10 refl r)))
+      (items_again file May alike h 0 w (stop_then r))
 
   pub statement_again : {ts rest : Tokens} {x : Statement} {t : List ℕ} {P : Follows}
       → IsStatement May ts x rest → form_words x.form → Reads file t P
-      → Reads file (statement_text x ++ t) (StatementThen May x P)
+      → Reads file (statement_text x ++ t) (StatementThen May (suc (length t)) x P)
   statement_again (a_setting {t = o} (of_path {t = v} {a = a} {i = i} s e h z)) w r =
       let f = statements.Assign false v.value (conditional a) i in
       mapped (setting_so May o.place f) (mapped (path_so May false v.value (conditional a) i)
@@ -295,4 +343,4 @@ module _ (file : List ℕ) (May : ℕ → Tokens → Type 0)
       mapped (prefix_so May o.place v.value) (seam3 (codes "prefix ") (quoted v.value)
       (codes ";\n") t
       (keyword (codes "prefix") (refl, refl) refl
-      (text_then v.value apart_semicolon (sign_then 59 refl refl (blank 10 refl r)))))
+      (text_then v.value apart_semicolon (stop_then r))))

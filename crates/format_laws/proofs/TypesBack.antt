@@ -73,9 +73,6 @@ BehindTest s = Other sorts.Else s × Other sorts.With s
 abbrev pub BehindFull : Sort → Type 0
 BehindFull s = BehindType s × BehindDefault s × BehindTest s
 
-pub starts_behind : (F : Sort → Type 0) (s : Sort) {P : Follows} → F s → Starts F (Behind s P)
-starts_behind F s f us ps (behind e r) = subst F (sym e) f
-
 pub semicolon_ends : BehindFull sorts.Semicolon
 semicolon_ends = ((refl, λ h. cc), (λ h. cc, λ h. cc), (λ h. cc, λ h. cc))
 

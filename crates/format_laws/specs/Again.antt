@@ -19,3 +19,13 @@ pub record IsReadBack (file text : List ℕ) (z : Template) (noted : List (List 
   pub same : bare template ≡ bare z
   pub notes_kept : map (λ n. n.text) (notes text (kept pieces)) ≡ noted
   pub settled : layout template (ends tokens) (notes text (kept pieces)) ≡ text
+
+-- A text that keeps what a file says: its template, and its comments and annotations as the layout
+-- leaves them.
+pub record Keeps (file bytes text : List ℕ) : Type 0 where
+  pub tokens : List Token
+  pub pieces : List Piece
+  pub template : Template
+  pub spelled : SpelledWith file bytes tokens pieces
+  pub parses : ParsesWhere (DeepInLast 0) tokens template
+  pub read_back : IsReadBack file text template (map (λ n. n.text) (notes bytes (kept pieces)))

@@ -1,5 +1,5 @@
-use Rattle.format_laws.proofs.Formatting.{plain_settled}
+use Rattle.format_laws.proofs.Formatting.{settled_again}
 use Rattle.format_laws.proofs.laws.formatting_settles.Goals as goal
 
 pub returns : goal.returns
-returns c = plain_settled
+returns c = settled_again
