@@ -26,8 +26,14 @@ These are the script's own:
 
   pan format FILE..                 brings files to their layout; `-` is standard input, to standard output
   pan format --check PLACE..        names the files and templates of folders that have another layout, and changes nothing
+  pan check SOURCE [options]        the faults of a build that publishes nothing
+      --only NAME                   those of one object
+  pan show SOURCE NAME [PATH] [options]
+                                    the profile of an object, or what stands at a path of it; nothing is published
   pan impact SOURCE FILE [options]  the objects that an edit of the file FILE below SOURCE can change
   pan unused SOURCE [options]       the templates below SOURCE that no object looks at
+  pan --format FORM build|check ..  the faults for other programs in place of the text: `gcc` as compilers print them,
+                                    `json` as an object of JSON on each line
   pan --quiet WORDS                 leaves out the notes on standard error
   pan --version                     the version, the kit that proved it, and its checksum
   pan --help                        this text
@@ -69,14 +75,14 @@ version() {
 has_mode() {
   local word
   for word in "$@"; do
-    case $word in build | watch | demo | format | impact | unused) return 0 ;; esac
+    case $word in build | watch | demo | format | check | show | impact | unused) return 0 ;; esac
   done
   return 1
 }
 
 # What the words name, as the program reads them where they are a command: `mode`, `source`, `out`, `include`, and the
 # options but for --most-removed.
-mode='' source='' out='' include='' options=()
+mode='' source='' out='' path='' include='' options=()
 read_words() {
   local word option='' places=()
   for word in "$@"; do
@@ -97,7 +103,7 @@ read_words() {
     esac
     case $word in --include=*) include=${word#--include=} ;; esac
   done
-  mode=${places[0]:-} source=${places[1]:-} out=${places[2]:-}
+  mode=${places[0]:-} source=${places[1]:-} out=${places[2]:-} path=${places[3]:-}
 }
 
 # Makes the folder of the profiles, so that it can be locked; gives the first part of its path that was not there.
@@ -263,7 +269,7 @@ format() {
   for word in "$@"; do
     case $word in --check) is_check=1 ;; *) places+=("$word") ;; esac
   done
-  if [ "${#places[@]}" -eq 0 ]; then echo "usage fault"; help >&2; exit 2; fi
+  if [ "${#places[@]}" -eq 0 ]; then usage; fi
   if [ -z "$is_check" ] && [ "${#places[@]}" -eq 2 ] && [ ! -f "${places[0]}" ] && [ "${places[0]}" != - ]; then
     out=${places[1]}
     make_out >/dev/null
@@ -273,24 +279,130 @@ format() {
   format_places "$program" "${places[@]}"
 }
 
-# What a watcher answers to one line about a site that is compiled and not published: the words behind this one.
+# What a watcher answers to one line about a site that is compiled and not published, as the text of the room.
 ask() {
-  local program=$1 line=$2 word=$3 status=0
+  local program=$1 line=$2 status=0
   room=$(mktemp -d)
   trap 'rm -rf "$room"' EXIT
   printf 'scan\nturn 1000000\n%s\nquit\n' "$line" >"$room/lines"
   "$program" watch ${options[@]+"${options[@]}"} -- "$source" "$room/out" <"$room/lines" >"$room/text" || status=$?
   if grep -qx 'source fault' "$room/text"; then status=3; fi
-  if grep -qx 'bad line' "$room/text"; then say "$line: no file name below SOURCE"; status=2; fi
   [ "$status" -eq 0 ] || exit "$status"
-  sed -n "s/^$word //p" "$room/text"
 }
 
-# --quiet stands anywhere before `--`.
-words=() is_quiet=''
+# The names behind a word in what is answered to a line.
+ask_names() {
+  ask "$1" "$2"
+  if grep -qx 'bad line' "$room/text"; then say "$2: no file name below SOURCE"; exit 2; fi
+  sed -n "s/^$3 //p" "$room/text"
+}
+
+# What stands at a path, as `/hardware/cpus` or `/disks/0`, in a line of compact JSON; nothing where nothing does.
+value_at() {
+  LC_ALL=C awk -v path="$1" '
+    function char(i) { return substr(text, i, 1) }
+    function behind_text(i) { for (i++; char(i) != "\""; i++) if (char(i) == "\\") i++; return i + 1 }
+    # the place behind the value at a place
+    function behind_value(i,   open) {
+      if (char(i) == "\"") return behind_text(i)
+      if (char(i) !~ /[[{]/) { while (i <= length(text) && char(i) !~ /[],}]/) i++; return i }
+      for (open = 0; ; i++) {
+        if (char(i) == "\"") i = behind_text(i)
+        if (char(i) ~ /[[{]/) open++
+        if (char(i) ~ /[]}]/ && --open == 0) return i + 1
+      }
+    }
+    # the place of a child of the value at a place; 0 where there is none
+    function child_at(i, name,   close_sign, is_dict, number, key) {
+      is_dict = char(i) == "{"
+      if (!is_dict && char(i) != "[") return 0
+      for (i++; char(i) !~ /[]}]/; i = behind_value(i) + (char(behind_value(i)) == ",")) {
+        key = number++
+        if (is_dict) { close_sign = behind_text(i); key = substr(text, i + 1, close_sign - i - 2); i = close_sign + 1 }
+        if (key == name) return i
+      }
+      return 0
+    }
+    {
+      text = $0
+      place = 1
+      count = split(path, names, "/")
+      for (n = 1; n <= count && place; n++) if (names[n] != "") place = child_at(place, names[n])
+      if (place) print substr(text, place, behind_value(place) - place)
+    }'
+}
+
+# The profile of an object, or what stands at a path of it.
+show() {
+  local program=$1 object=$2 at=$3
+  ask "$program" "show $object"
+  if grep -qx 'bad line' "$room/text" || grep -qx 'no object' "$room/text"; then say "$object: no object"; exit 2; fi
+  if grep '^fault ' "$room/text" >&2; then exit 1; fi
+  sed -n 's/^profile //p' "$room/text" | value_at "$at" >"$room/value"
+  if [ ! -s "$room/value" ]; then say "$object: nothing at $at"; exit 1; fi
+  cat "$room/value"
+}
+
+# Lines on faults with the names of files as they are from here.
+placed() {
+  local line
+  if [ "$form" != gcc ]; then cat; return; fi
+  while IFS= read -r line; do printf '%s/%s\n' "${source%/}" "$line"; done
+}
+
+# The faults of a build for other programs, in place of its text.
+build_for_programs() {
+  local program=$1 status=0
+  shift
+  room=$(mktemp -d)
+  trap 'rm -rf "$room"' EXIT
+  make_out >/dev/null
+  lock_out
+  PAN_NOTES=$form "$program" "$@" >"$room/text" 2>"$room/faults" || status=$?
+  if [ "$status" -gt 1 ]; then cat "$room/text"; cat "$room/faults" >&2; exit "$status"; fi
+  placed <"$room/faults"
+  exit "$status"
+}
+
+# Of the text of a build and of its notes what is told of the faults of one object.
+of_object() { awk -v name="$1" '$1 == "fault" && $2 == name' "$room/text"; }
+notes_on() {
+  local place
+  place=$(awk 'NR == 1 { print $4 }' "$1")
+  [ -z "$place" ] || awk -v place="--> $place " 'BEGIN { RS = ""; ORS = "\n\n" } index($0, place)' "$room/notes"
+}
+
+# The faults of a build that is not published: all of them, or those of one object.
+check() {
+  local program=$1 status=0
+  room=$(mktemp -d)
+  trap 'rm -rf "$room"' EXIT
+  PAN_NOTES=${form:-${PAN_NOTES:-}} "$program" build ${options[@]+"${options[@]}"} -- "$source" "$room/out" \
+    >"$room/text" 2>"$room/notes" || status=$?
+  if [ "$status" -gt 1 ]; then cat "$room/text"; cat "$room/notes" >&2; exit "$status"; fi
+  if [ -z "$only" ] && [ -n "$form" ]; then placed <"$room/notes"; exit "$status"; fi
+  if [ -z "$only" ]; then grep -v '^run ' "$room/text"; cat "$room/notes" >&2; exit "$status"; fi
+  if ! grep -qxF "run $only" "$room/text"; then say "$only: no object"; exit 2; fi
+  of_object "$only" >"$room/own"
+  [ -s "$room/own" ] || exit 0
+  case $form in
+    gcc) grep -F "(object $only)" "$room/notes" | placed ;;
+    json) grep -F "{\"object\":\"$only\"," "$room/notes" ;;
+    *) cat "$room/own"; notes_on "$room/own" >&2 ;;
+  esac
+  exit 1
+}
+
+usage() { echo "usage fault"; help >&2; exit 2; }
+
+# --quiet, --format and --only stand anywhere before `--`.
+words=() is_quiet='' form='' only=''
 while [ $# -gt 0 ]; do
   case $1 in
     --quiet) is_quiet=1 ;;
+    --format | --only) [ $# -gt 1 ] || usage; if [ "$1" = --only ]; then only=$2; else form=$2; fi; shift ;;
+    --format=*) form=${1#--format=} ;;
+    --only=*) only=${1#--only=} ;;
     --) words+=("$@"); break ;;
     *) words+=("$1") ;;
   esac
@@ -298,22 +410,25 @@ while [ $# -gt 0 ]; do
 done
 set -- ${words[@]+"${words[@]}"}
 if [ -n "$is_quiet" ]; then export PAN_NOTES=off; fi
+case $form in '' | gcc | json) ;; *) usage ;; esac
 
 case ${1:-} in
   --help) help; exit 0 ;;
   --version) version; exit 0 ;;
   --prove | --release | --try) exec "$tools/pan-prove" "$@" ;;
 esac
-if ! has_mode "$@"; then echo "usage fault"; help >&2; exit 2; fi
+if ! has_mode "$@"; then usage; fi
 program=$("$tools/pan-program")
 case ${1:-} in format) format "$program" "$@" ;; esac
 read_words "$@"
+case $mode in build) [ -z "$only" ] || usage ;; check) ;; *) [ -z "$form$only" ] || usage ;; esac
 [ "${PAN_NOTES:-}" = off ] || tell_include
 case $mode in
-  impact) [ -n "$out" ] || { echo "usage fault"; help >&2; exit 2; }
-    ask "$program" "impact $out" touches; exit ;;
-  unused) [ -n "$source" ] || { echo "usage fault"; help >&2; exit 2; }
-    ask "$program" unused unused; exit ;;
+  check) [ -n "$source" ] || usage; check "$program" ;;
+  show) [ -n "$out" ] || usage; show "$program" "$out" "$path"; exit ;;
+  impact) [ -n "$out" ] || usage; ask_names "$program" "impact $out" touches; exit ;;
+  unused) [ -n "$source" ] || usage; ask_names "$program" unused unused; exit ;;
+  build) if [ -n "$form" ] && [ -n "$out" ]; then build_for_programs "$program" "$@"; fi ;;
 esac
 if [ "${PAN_NOTES:-}" = off ] || [ -z "$out" ]; then
   case $mode in build | watch) [ -z "$out" ] || { make_out >/dev/null; lock_out; } ;; esac

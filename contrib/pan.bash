@@ -2,10 +2,11 @@
 
 _pan() {
   local word=${COMP_WORDS[COMP_CWORD]} before=${COMP_WORDS[COMP_CWORD - 1]}
-  local options='--include --max-iteration --max-recursion --most-removed --quiet'
+  local options='--include --max-iteration --max-recursion --most-removed --quiet --format'
   COMPREPLY=()
   case $before in
     --max-iteration | --max-recursion | --most-removed) return ;;
+    --format) mapfile -t COMPREPLY < <(compgen -W 'gcc json' -- "$word"); return ;;
     --include) mapfile -t COMPREPLY < <(compgen -d -- "$word"); return ;;
   esac
   if [[ ${COMP_WORDS[1]} == format ]]; then
@@ -15,7 +16,7 @@ _pan() {
     if [ "$COMP_CWORD" -eq 1 ]; then options+=' --help --version --prove --release --try'; fi
     mapfile -t COMPREPLY < <(compgen -W "$options" -- "$word")
   elif [[ $COMP_CWORD -eq 1 || ( $COMP_CWORD -eq 2 && $before == -* ) ]]; then
-    mapfile -t COMPREPLY < <(compgen -W 'build watch demo format impact unused' -- "$word")
+    mapfile -t COMPREPLY < <(compgen -W 'build watch check show format impact unused demo' -- "$word")
   else
     mapfile -t COMPREPLY < <(compgen -d -- "$word")
     compopt -o filenames 2>/dev/null

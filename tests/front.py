@@ -8,11 +8,13 @@
 - Accidents that would take every profile away: with --most-removed the files are still there, and a note says why.
 - One program at a time works on a folder of profiles.
 - The layout of folders, files and standard input, and what only looks at it; what an edit touches, and what is unused.
+- Faults without a publication, faults for other programs, and what stands in a profile.
 - What contrib/install puts below a folder runs there, with nothing of the repository.
 
 The program is the one that the variable PAN names, else the one that contrib/pan-program finds.
 """
 import fcntl
+import json
 import os
 import re
 import shutil
@@ -285,6 +287,70 @@ def touched(folder):
     yield "no folder", pan(folder, "unused", "nowhere").status == 3
 
 
+def checked(folder):
+    machines(folder, 2)
+    write(folder, "site/web2.pan", "object template web2;\nbind '/port' = long(1..9);\n'/port' = 80;\n")
+    write(folder, "site/web3.pan", "object template web3;\n'/port' = 80\n")
+    ended = pan(folder, "check", "site")
+    told = ["fault web2 F36 web2.pan:2:1 /port", "fault web3 F06 web3.pan:3:1", "objects 3 ok 1 faults 2 run 3"]
+    yield "a check tells faults", (ended.status, ended.text.splitlines()) == (1, told)
+    yield "with their notes", "error F36: out of range: /port" in ended.notes and "error F06" in ended.notes
+    yield "and publishes nothing", not (folder / "out").exists()
+    ended = pan(folder, "check", "site", "--only", "web2")
+    yield "of one object", (ended.status, ended.text) == (1, "fault web2 F36 web2.pan:2:1 /port\n")
+    yield "with its note", "error F36" in ended.notes and "error F06" not in ended.notes
+    yield "without a fault", (lambda e: (e.status, e.text))(pan(folder, "check", "site", "--only=web1")) == (0, "")
+    yield "of no object", pan(folder, "check", "site", "--only", "web4").status == 2
+    yield "of no folder", pan(folder, "check", "nowhere").status == 3
+    yield "no word", [pan(folder, "check").status, pan(folder, "build", "site", "out", "--only", "web1").status] == [2, 2]
+
+
+def objects_in(text):
+    """The objects of JSON on its lines; none where a line is something else."""
+    try:
+        return [json.loads(line) for line in text.splitlines()]
+    except ValueError:
+        return []
+
+
+def for_programs(folder):
+    machines(folder, 1)
+    write(folder, "site/web2.pan", "object template web2;\nbind '/port' = long(1..9);\n'/port' = 80;\n")
+    line = "site/web2.pan:2:1: error: F36 out of range: /port (object web2)\n"
+    of_json = {"object": "web2", "code": "F36", "name": "out of range", "file": "web2.pan", "line": 2, "column": 1}
+    of_json = {**of_json, "detail": "/port"}
+    ended = pan(folder, "build", "site", "out", "--format", "gcc")
+    yield "as compilers print faults", (ended.status, ended.text) == (1, line)
+    yield "the profiles are published", profiles(folder) == ["web1.json"]
+    ended = pan(folder, "--format=json", "build", "site", "out")
+    yield "as JSON", ended.status == 1 and objects_in(ended.text) == [of_json]
+    ended = pan(folder, "check", "site", "--format", "gcc")
+    yield "of a check", (ended.status, ended.text) == (1, line)
+    ended = pan(folder, "check", "site", "--format", "json", "--only", "web2")
+    yield "of one object", ended.status == 1 and objects_in(ended.text) == [of_json]
+    ended = pan(folder, "check", "nowhere", "--format", "gcc")
+    yield "a call that fails", ended.status == 3 and ended.text == "source fault\n" and "nowhere" in ended.notes
+    yield "no such form", pan(folder, "build", "site", "out", "--format", "xml").status == 2
+
+
+def shown(folder):
+    write(folder, "site/web1.pan", "object template web1;\n'/a/b' = list('x, }', 2);\n'/a/c' = '\"';\n")
+    write(folder, "site/web2.pan", "object template web2;\n'/a' = 1 + 'x';\n")
+    profile = '{"a":{"b":["x, }",2],"c":"\\""}}'
+    asked = {"": profile, "/": profile, "/a": profile[5:-1], "/a/b": '["x, }",2]', "/a/b/0": '"x, }"', "/a/b/1": "2"}
+    asked["/a/c"] = '"\\""'
+    for path, value in asked.items():
+        ended = pan(folder, "show", "site", "web1", *([path] if path else []))
+        yield f"what stands at {path}", (ended.status, ended.text) == (0, value + "\n")
+    for path in ("/a/d", "/a/b/2", "/a/b/x", "/a/c/x"):
+        ended = pan(folder, "show", "site", "web1", path)
+        yield f"nothing at {path}", (ended.status, ended.text) == (1, "") and "nothing at" in ended.notes
+    ended = pan(folder, "show", "site", "web2")
+    yield "a fault", (ended.status, ended.text) == (1, "") and "fault F10 web2.pan:2:8" in ended.notes
+    yield "no object", pan(folder, "show", "site", "web3").status == 2
+    yield "and nothing is published", not (folder / "out").exists()
+
+
 def installed(folder):
     ended = pan(folder, folder / "there", script=TOP / "contrib/install")
     yield "contrib/install", ended.status == 0
@@ -308,7 +374,7 @@ def installed(folder):
 def vim(folder):
     if not shutil.which("vim"):
         return
-    write(folder, "report", "run web1\nfault web1 F36 web1.pan:3:1 /port\nobjects 1 ok 0 faults 1 run 1\n")
+    write(folder, "report", "web1.pan:3:1: error: F36 out of range: /port (object web1)\n")
     asked = "echo getqflist()[0].lnum . ':' . getqflist()[0].col . ':' . bufname(getqflist()[0].bufnr) . ':' . len(getqflist())"
     script = f"set rtp^={TOP}/editors/vim | compiler pan | cgetfile report | redir! > said | {asked} | redir END | q"
     subprocess.run(["vim", "-u", "NONE", "-es", "-N", "-c", script], cwd=folder, capture_output=True, timeout=SECONDS)
@@ -317,7 +383,8 @@ def vim(folder):
 
 def main():
     passed = failed = 0
-    for part in (words, found, notes, accidents, lock, layout, touched, installed, vim):
+    parts = (words, found, notes, accidents, lock, layout, touched, checked, for_programs, shown, installed, vim)
+    for part in parts:
         with tempfile.TemporaryDirectory() as room:
             for name, is_well in part(Path(room).resolve()):
                 passed, failed = passed + bool(is_well), failed + (not is_well)

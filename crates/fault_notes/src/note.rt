@@ -72,7 +72,7 @@ fn push_meaning(into: &mut Vec<u8>, code: Option<Code>) -> Result<(), AllocError
     into.extend_from_slice(meaning(code).as_bytes())
 }
 
-fn push_detail(into: &mut Vec<u8>, detail: &[u8]) -> Result<(), AllocError>
+pub(crate) fn push_detail(into: &mut Vec<u8>, detail: &[u8]) -> Result<(), AllocError>
     ensures { OnOk result (into.new.items ≡ into.old.items ++ detail_part detail.now) }
 {
     if detail.is_empty() {
@@ -140,7 +140,7 @@ fn push_arrow(into: &mut Vec<u8>, colours: Colours) -> Result<(), AllocError>
     into.extend_from_slice(plain(colours))
 }
 
-fn push_place(into: &mut Vec<u8>, fault: &[u8]) -> Result<(), AllocError>
+pub(crate) fn push_place(into: &mut Vec<u8>, fault: &[u8]) -> Result<(), AllocError>
     ensures { OnOk result (into.new.items ≡ into.old.items ++ place fault.now) }
 {
     into.extend_from_slice(file_in(fault))?;

@@ -2,7 +2,9 @@ use base::limits::MAX_FILE_BYTES;
 use base::{Bytes, Text};
 use command_words::{Command, read_command};
 use end_notes::{Wrong, removals_note, trouble_note, usage_note, wrong_of};
-use fault_notes::{Colours, Repeated, file_in, note_of, report_of, rest_of};
+use fault_notes::{
+    Colours, Repeated, compiler_lines, file_in, json_lines, note_of, report_of, rest_of,
+};
 use outside::Trouble;
 use pan_top::Status;
 use std::alloc::AllocError;
@@ -22,6 +24,17 @@ pub struct Told<'a> {
     pub shelf: Option<&'a Trouble>,
     /// The lines of the report that tell a fault.
     pub faults: &'a [Bytes],
+}
+
+/// How the faults of a build are told.
+#[derive(Clone, Copy, PartialEq, Eq)]
+enum Form {
+    /// For a reader, each different fault with its line.
+    Notes,
+    /// A line each, as compilers print one.
+    CompilerLines,
+    /// A line each, as an object of JSON.
+    Json,
 }
 
 /// The value of a variable of the environment; nothing where it is not set.
@@ -66,8 +79,8 @@ fn fault_note(
     }
 }
 
-/// The notes on the faults of a build of this folder.
-fn fault_notes(rt: &HostRuntime, folder: &str, lines: &[Bytes]) -> Result<Vec<u8>, AllocError> {
+/// For a reader, the faults of a build of this folder.
+fn reader_notes(rt: &HostRuntime, folder: &str, lines: &[Bytes]) -> Result<Vec<u8>, AllocError> {
     let colours = colours(rt)?;
     let report = report_of(rt.alloc(), lines)?;
     let mut notes = Vec::new(rt.alloc());
@@ -78,6 +91,20 @@ fn fault_notes(rt: &HostRuntime, folder: &str, lines: &[Bytes]) -> Result<Vec<u8
     Ok(notes)
 }
 
+/// The notes on the faults of a build of this folder.
+fn fault_notes(
+    rt: &HostRuntime,
+    form: Form,
+    folder: &str,
+    lines: &[Bytes],
+) -> Result<Vec<u8>, AllocError> {
+    match form {
+        Form::Notes => reader_notes(rt, folder, lines),
+        Form::CompilerLines => compiler_lines(rt.alloc(), lines),
+        Form::Json => json_lines(rt.alloc(), lines),
+    }
+}
+
 fn trouble_notes(rt: &HostRuntime, trouble: Option<&Trouble>) -> Result<Vec<u8>, AllocError> {
     let Some(trouble) = trouble else {
         return Ok(Vec::new(rt.alloc()));
@@ -86,10 +113,15 @@ fn trouble_notes(rt: &HostRuntime, trouble: Option<&Trouble>) -> Result<Vec<u8>,
 }
 
 /// The notes on the faults of a build, or of a layout; nothing where the words are another command.
-fn report_notes(rt: &HostRuntime, words: &[Text], faults: &[Bytes]) -> Result<Vec<u8>, AllocError> {
+fn report_notes(
+    rt: &HostRuntime,
+    form: Form,
+    words: &[Text],
+    faults: &[Bytes],
+) -> Result<Vec<u8>, AllocError> {
     match read_command(rt.alloc(), words)? {
-        Some(Command::Build(work)) => fault_notes(rt, work.source.as_str(), faults),
-        Some(Command::Format(pair)) => fault_notes(rt, pair.source.as_str(), faults),
+        Some(Command::Build(work)) => fault_notes(rt, form, work.source.as_str(), faults),
+        Some(Command::Format(pair)) => fault_notes(rt, form, pair.source.as_str(), faults),
         _ => Ok(Vec::new(rt.alloc())),
     }
 }
@@ -119,27 +151,44 @@ fn wrong_in(rt: &HostRuntime, words: Option<&Vec<Text>>) -> Result<Wrong, AllocE
     }
 }
 
-fn notes_on(rt: &HostRuntime, status: Status, told: &Told<'_>) -> Result<Vec<u8>, AllocError> {
+fn notes_on(
+    rt: &HostRuntime,
+    form: Form,
+    status: Status,
+    told: &Told<'_>,
+) -> Result<Vec<u8>, AllocError> {
     match (status, told.words) {
         (Status::Usage, words) => usage_note(rt.alloc(), &wrong_in(rt, words)?),
         (Status::SourceFault, _) => trouble_notes(rt, told.source),
         (Status::ShelfFault, _) => trouble_notes(rt, told.shelf),
-        (Status::SomeFaults, Some(words)) => report_notes(rt, words, told.faults),
+        (Status::SomeFaults, Some(words)) => report_notes(rt, form, words, told.faults),
         (Status::TooManyRemovals(removals), Some(words)) => removals_notes(rt, words, removals),
         _ => Ok(Vec::new(rt.alloc())),
+    }
+}
+
+/// What the variable PAN_NOTES asks for; none where it is `off`, or where memory is wanting.
+fn form_in(rt: &HostRuntime) -> Option<Form> {
+    let Ok(value) = variable(rt, "PAN_NOTES") else {
+        return None;
+    };
+    match value.as_str() {
+        "off" => None,
+        "gcc" => Some(Form::CompilerLines),
+        "json" => Some(Form::Json),
+        _ => Some(Form::Notes),
     }
 }
 
 /// Writes to standard error what a reader wants to know of a call that ended: of a build the meaning and the place of
 /// each fault, of a failed device the path and the reason, of wrong words the word and the usage, of one that was to take
 /// away too many files how many. Nothing where the variable PAN_NOTES is `off`, and where memory is wanting; the status
-/// stays as it is.
+/// stays as it is. With `gcc` or `json` in that variable the faults are told for other programs, all of them.
 pub fn write_notes(rt: &HostRuntime, status: Status, told: &Told<'_>) {
-    match variable(rt, "PAN_NOTES") {
-        Ok(value) if value.as_str() != "off" => {}
-        _ => return,
-    }
-    if let Ok(notes) = notes_on(rt, status, told) {
+    let Some(form) = form_in(rt) else {
+        return;
+    };
+    if let Ok(notes) = notes_on(rt, form, status, told) {
         let _ = rt.stderr().write_all(&notes);
     }
 }

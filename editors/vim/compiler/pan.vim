@@ -1,5 +1,4 @@
-" `:make SOURCE OUT` builds a site, and `:cwindow` lists its faults at their places, which are paths from SOURCE: edit
-" with SOURCE as the current folder, as `:cd site`, then `:make . ../profiles`.
+" `:make SOURCE OUT` builds a site, and `:cwindow` lists its faults at their places.
 let current_compiler = 'pan'
-CompilerSet makeprg=pan\ --quiet\ build\ $*
-CompilerSet errorformat=fault\ %*[^\ ]\ %m\ %f:%l:%c,fault\ %*[^\ ]\ %t%n\ %f:%l:%c\ %m,%-Grun\ %.%#,%-Gobjects\ %.%#
+CompilerSet makeprg=pan\ --quiet\ --format\ gcc\ build\ $*
+CompilerSet errorformat=%f:%l:%c:\ %trror:\ %m

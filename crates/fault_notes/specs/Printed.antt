@@ -1,0 +1,68 @@
+-- A fault of a report for other programs: as a compiler prints it, and as JSON.
+use Rattle.std.specs.Prelude.{ℕ, List, [], ◌∷◌, ◌++◌, Option, Some, None, bytes_eq, codes, decimal}
+use Rattle.std.specs.List.{find}
+use Rattle.std.specs.Str.Lossy.{utf8_lossy}
+use Rattle.json.specs.Json.{Json, null, number, string, object, Members, no_members, member}
+use Rattle.json.specs.Print.{print}
+use Rattle.json.specs.Tree.{json_tokens}
+use Rattle.base.specs.Characters.{line_feed}
+use Rattle.pan_ast.specs.Codes.{code_text}
+use Rattle.pan_ast.specs.declared.fault.Code.{Code}
+use Rattle.fault_notes.specs.Lines.{object_in, fault_in, code_in, file_in, line_in, column_in, detail_in}
+use Rattle.fault_notes.specs.Meanings.{meaning_of}
+use Rattle.fault_notes.specs.Excerpts.{place_number}
+use Rattle.fault_notes.specs.Notes.{place, detail_part}
+use Rattle.fault_notes.specs.declared.meanings.TheConstants.{CODES}
+
+-- the code that is printed so
+abbrev pub code_named : List ℕ → Option Code
+code_named text = find (λ code. bytes_eq (code_text code) text) CODES
+
+abbrev pub meant : Option Code → List ℕ
+meant None = []
+meant (Some code) = codes " " ++ meaning_of code
+
+-- `CODE MEANING: DETAIL`
+abbrev pub told_fault : List ℕ → List ℕ
+told_fault fault =
+    code_in fault ++ meant (code_named (code_in fault)) ++ detail_part (detail_in fault)
+
+abbrev pub owner : List ℕ → List ℕ
+owner name = codes " (object " ++ name ++ codes ")\n"
+
+-- of a line of a report `FILE:LINE:COLUMN: error: CODE MEANING: DETAIL (object NAME)`
+abbrev pub compiler_line : List ℕ → List ℕ
+compiler_line line =
+    place (fault_in line) ++ codes ": error: " ++ told_fault (fault_in line)
+    ++ owner (object_in line)
+
+-- what is not UTF-8 is U+FFFD
+abbrev pub text_json : List ℕ → Json
+text_json bytes = string (utf8_lossy bytes)
+
+abbrev pub number_json : Option ℕ → Json
+number_json None = null
+number_json (Some n) = number (decimal n)
+
+abbrev pub name_json : Option Code → Json
+name_json None = null
+name_json (Some code) = string (meaning_of code)
+
+-- where a fault is, and its detail
+abbrev pub place_members : List ℕ → Members
+place_members fault =
+    member (codes "file") (text_json (file_in fault))
+    (member (codes "line") (number_json (place_number (line_in fault)))
+    (member (codes "column") (number_json (place_number (column_in fault)))
+    (member (codes "detail") (text_json (detail_in fault)) no_members)))
+
+-- one object of JSON for a line of a report
+abbrev pub fault_json : List ℕ → Json
+fault_json line = object
+    (member (codes "object") (text_json (object_in line))
+    (member (codes "code") (text_json (code_in (fault_in line)))
+    (member (codes "name") (name_json (code_named (code_in (fault_in line))))
+    (place_members (fault_in line)))))
+
+abbrev pub json_line : List ℕ → List ℕ
+json_line line = print (json_tokens (fault_json line)) ++ line_feed ∷ []
