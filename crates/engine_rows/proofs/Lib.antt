@@ -1,3 +1,4 @@
 pub mod Restores
 pub mod Stored
 pub mod Copies
+pub mod Worked
