@@ -352,13 +352,14 @@ placed() {
 
 # The faults of a build for other programs, in place of its text.
 build_for_programs() {
-  local program=$1 status=0
+  local program=$1 status=0 made
   shift
   room=$(mktemp -d)
   trap 'rm -rf "$room"' EXIT
-  make_out >/dev/null
+  made=$(make_out)
   lock_out
   PAN_NOTES=$form "$program" "$@" >"$room/text" 2>"$room/faults" || status=$?
+  case $status in 2 | 3) [ -z "$made" ] || unmake_out "$made" ;; esac
   if [ "$status" -gt 1 ]; then cat "$room/text"; cat "$room/faults" >&2; exit "$status"; fi
   placed <"$room/faults"
   exit "$status"
@@ -419,7 +420,7 @@ case ${1:-} in
 esac
 if ! has_mode "$@"; then usage; fi
 program=$("$tools/pan-program")
-case ${1:-} in format) format "$program" "$@" ;; esac
+case ${1:-} in format) [ -z "$form$only" ] || usage; format "$program" "$@" ;; esac
 read_words "$@"
 case $mode in build) [ -z "$only" ] || usage ;; check) ;; *) [ -z "$form$only" ] || usage ;; esac
 [ "${PAN_NOTES:-}" = off ] || tell_include

@@ -2,10 +2,10 @@
 
 _pan() {
   local word=${COMP_WORDS[COMP_CWORD]} before=${COMP_WORDS[COMP_CWORD - 1]}
-  local options='--include --max-iteration --max-recursion --most-removed --quiet --format'
+  local options='--include --max-iteration --max-recursion --most-removed --quiet --format --only'
   COMPREPLY=()
   case $before in
-    --max-iteration | --max-recursion | --most-removed) return ;;
+    --max-iteration | --max-recursion | --most-removed | --only) return ;;
     --format) mapfile -t COMPREPLY < <(compgen -W 'gcc json' -- "$word"); return ;;
     --include) mapfile -t COMPREPLY < <(compgen -d -- "$word"); return ;;
   esac

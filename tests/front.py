@@ -330,6 +330,9 @@ def for_programs(folder):
     yield "of one object", ended.status == 1 and objects_in(ended.text) == [of_json]
     ended = pan(folder, "check", "nowhere", "--format", "gcc")
     yield "a call that fails", ended.status == 3 and ended.text == "source fault\n" and "nowhere" in ended.notes
+    ended = pan(folder, "build", "nowhere", "new/out", "--format", "json")
+    yield "which makes no folder", ended.status == 3 and not (folder / "new").exists()
+    yield "a layout has no form", pan(folder, "format", "site", "site", "--format", "gcc").status == 2
     yield "no such form", pan(folder, "build", "site", "out", "--format", "xml").status == 2
 
 
