@@ -95,6 +95,8 @@ pub record IsRestored {T : Type 0} (s : Stored) (c : Core T) : Type 0 where
   pub low : c.counter ≤ END_OF_NUMBERS
   pub few : length c.rows.items ≤ MAX_OBJECTS
 
+-- ---- the items that enter the tables of paths: inner contracts use it
+
 -- the last result is a tree
 abbrev pub is_tree_last : Option Last → Bool
 is_tree_last None = false

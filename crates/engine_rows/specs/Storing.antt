@@ -60,7 +60,7 @@ kept_of e = record {
   objects = kept_objects e.situation.state e.situation.picture.objects;
 }
 
--- by the rows of the code
+-- ---- by the rows of the code: inner contracts use it
 
 abbrev pub kept_parts : Name → Last → List Item → CheckRecord → KeptObject
 kept_parts o l build c = record {

@@ -18,6 +18,7 @@ use engine_turns::{
     Cause, CheckRecord, Core, Entry, FileRow, Last, Row, enter_all, entry_of, fault_number, row_in,
 };
 use foreign_values::Chain;
+use kept_state::limits::FIRST_NUMBER;
 use kept_state::{Kept, KeptFile, KeptObject};
 use pan_ast::Fault;
 use path_numbers::PathTable;
@@ -56,7 +57,7 @@ fn has_grade(number: u64, built: &Result<Tree, Fault>) -> bool
     ensures { result ≡ has_grade number built.now }
 {
     match built {
-        Ok(_tree) => number >= 3,
+        Ok(_tree) => number >= FIRST_NUMBER,
         Err(fault) => number == fault_number(fault.code),
     }
 }
@@ -74,7 +75,7 @@ fn are_graded(objects: &[KeptObject]) -> bool
 fn is_fit(kept: &Kept) -> bool
     ensures { result ≡ is_fit (stored kept.now) }
 {
-    3 <= kept.counter
+    FIRST_NUMBER <= kept.counter
         && kept.counter <= END_OF_NUMBERS
         && are_rising(&kept.files)
         && are_rising(&kept.objects)
@@ -185,7 +186,7 @@ fn add_entry<T>(
     let Key::Under { object, terms } = &item.key else {
         return Ok(());
     };
-    if !has_tree(rows, object) || item.number < 3 {
+    if !has_tree(rows, object) || item.number < FIRST_NUMBER {
         return Ok(());
     }
     let entry = entry_of(alloc, object, terms.as_slice(), item.number)?;
