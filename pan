@@ -18,6 +18,7 @@ pan compiles templates of the Pan language into one JSON profile for each machin
       --max-iteration N             turns of one loop, 1 to 1,000,000 (10,000)
       --max-recursion N             calls of functions that are open at once, 1 to 200 (50)
       --most-removed N              changes nothing where more than N files of OUT would go, 0 to 20,000
+      --state FILE                  (build) goes on from what an earlier build kept in FILE, and keeps its own there
 
 pan manages every .json and .dep file below OUT: give it a folder of its own. Its status is 0 where each object
 has a profile, 1 where one has a fault, and more where something failed.
@@ -32,6 +33,7 @@ These are the script's own:
                                     the profile of an object, or what stands at a path of it; nothing is published
   pan impact SOURCE FILE [options]  the objects that an edit of the file FILE below SOURCE can change
   pan unused SOURCE [options]       the templates below SOURCE that no object looks at
+  pan state FILE                    what a file of --state keeps (wants `sqlite3`)
   pan --format FORM build|check ..  the faults for other programs in place of the text: `gcc` as compilers print them,
                                     `json` as an object of JSON on each line
   pan --quiet WORDS                 leaves out the notes on standard error
@@ -75,33 +77,37 @@ version() {
 has_mode() {
   local word
   for word in "$@"; do
-    case $word in build | watch | demo | format | check | show | impact | unused) return 0 ;; esac
+    case $word in build | watch | demo | format | check | show | impact | unused | state) return 0 ;; esac
   done
   return 1
 }
 
-# What the words name, as the program reads them where they are a command: `mode`, `source`, `out`, `include`, and the
-# options but for --most-removed.
-mode='' source='' out='' path='' include='' options=()
+# What the words name, as the program reads them where they are a command: `mode`, `source`, `out`, `include`, `state`, and
+# the options but for --most-removed and --state.
+mode='' source='' out='' path='' include='' state='' has_state='' options=()
 read_words() {
   local word option='' places=()
   for word in "$@"; do
     case $option in
       --) places+=("$word"); continue ;;
       --include) include=$word ;;
+      --state) state=$word ;;
     esac
     if [ -n "$option" ]; then
-      [ "$option" = --most-removed ] || options+=("$option=$word")
+      case $option in --most-removed | --state) ;; *) options+=("$option=$word") ;; esac
       option=''
       continue
     fi
     case $word in
       --include=* | --max-iteration=* | --max-recursion=*) options+=("$word") ;;
-      --most-removed=*) ;;
-      --include | --max-iteration | --max-recursion | --most-removed | --) option=$word ;;
+      --most-removed=* | --state=*) ;;
+      --include | --max-iteration | --max-recursion | --most-removed | --state | --) option=$word ;;
       *) places+=("$word") ;;
     esac
-    case $word in --include=*) include=${word#--include=} ;; esac
+    case $word in
+      --include=*) include=${word#--include=} ;;
+      --state | --state=*) has_state=1 state=${word#--state} state=${state#=} ;;
+    esac
   done
   mode=${places[0]:-} source=${places[1]:-} out=${places[2]:-} path=${places[3]:-}
 }
@@ -111,7 +117,7 @@ make_out() {
   local missing=$out above
   [ -d "$out" ] && return
   while above=$(dirname -- "$missing") && [ ! -e "$above" ] && [ "$above" != "$missing" ]; do missing=$above; done
-  mkdir -p -- "$out" 2>/dev/null && echo "$missing"
+  if mkdir -p -- "$out" 2>/dev/null; then echo "$missing"; fi
 }
 
 # A folder that was made for nothing goes again, up to this part of its path.
@@ -124,12 +130,31 @@ unmake_out() {
 lock_out() {
   command -v flock >/dev/null && [ -d "$out" ] && [ -r "$out" ] || return 0
   exec 9<"$out"
-  flock --nonblock 9 && return
-  say "another pan works on $out$(holder_of "$out"): waiting for it"
-  flock 9
+  lock 9 "$out"
 }
 
-# The process that holds the lock of a folder, where the system tells.
+# .. and on a file of rows, behind the folder: the program itself would not wait for the file, and end.
+lock_state() {
+  command -v flock >/dev/null && [ -f "$1" ] && [ -r "$1" ] || return 0
+  exec 8<"$1"
+  lock 8 "$1"
+}
+
+# Makes the file of rows, empty, so that it can be locked; gives it where it was not there.
+make_state() {
+  if [ -n "$state" ] && [ ! -e "$state" ] && { : >>"$state"; } 2>/dev/null; then echo "$state"; fi
+}
+
+# A file that was made for nothing goes again.
+unmake_state() { if [ -n "$1" ] && [ ! -s "$1" ]; then rm -f -- "$1"; fi; }
+
+lock() {
+  flock --nonblock "$1" && return
+  say "another pan works on $2$(holder_of "$2"): waiting for it"
+  flock "$1"
+}
+
+# The process that holds the lock of a folder or a file, where the system tells.
 holder_of() {
   local node
   node=$(stat -c '%i' -- "$1" 2>/dev/null) || return 0
@@ -141,17 +166,21 @@ profiles() { find "$out" -type f -name '*.json' -printf '%P\t%i %T@\n' 2>/dev/nu
 
 # A build as a child: its text is written when it has ended, and then the notes.
 build() {
-  local program=$1 status=0 made start
+  local program=$1 status=0 made made_state start
   shift
   room=$(mktemp -d)
   trap 'rm -rf "$room"' EXIT
   made=$(make_out)
   lock_out
+  made_state=$(make_state)
+  lock_state "$state"
   profiles >"$room/before"
   "$tools/pan-notes" out "$out"
-  "$tools/pan-notes" source "$source" "${include:-.}" >"$room/notes" 2>&1 9<&- &
+  [ -z "$state" ] || "$tools/pan-notes" state "$source" "$out" "$state"
+  "$tools/pan-notes" source "$source" "${include:-.}" >"$room/notes" 2>&1 8<&- 9<&- &
   start=${EPOCHREALTIME/./}
   "$program" "$@" >"$room/text" || status=$?
+  unmake_state "$made_state"
   [ -s "$room/text" ] && { cat "$room/text" || [ "$status" -gt 1 ] || status=7; }
   if [ "$status" -eq 2 ] || [ "$status" -eq 3 ]; then
     [ -z "$made" ] || unmake_out "$made"
@@ -160,10 +189,11 @@ build() {
   fi
   wait
   cat "$room/notes" >&2
-  if [ "$status" -eq 13 ]; then
-    tell_faults "$program"
-    exit 13
-  fi
+  case $status in
+    5) say "$state could not be opened, read or written" ;;
+    12) say "$state holds rows that no build has kept: without it a build begins anew" ;;
+    13) tell_faults "$program"; exit 13 ;;
+  esac
   "$tools/pan-notes" unused "$source" "$out" "$room/text"
   profiles >"$room/after"
   "$tools/pan-notes" summary "$room/text" "$room/before" "$room/after" $((${EPOCHREALTIME/./} - start))
@@ -267,7 +297,7 @@ format() {
   local program=$1 word places=()
   shift 2
   for word in "$@"; do
-    case $word in --check) is_check=1 ;; *) places+=("$word") ;; esac
+    case $word in --check) is_check=1 ;; --?*) usage ;; *) places+=("$word") ;; esac
   done
   if [ "${#places[@]}" -eq 0 ]; then usage; fi
   if [ -z "$is_check" ] && [ "${#places[@]}" -eq 2 ] && [ ! -f "${places[0]}" ] && [ "${places[0]}" != - ]; then
@@ -352,13 +382,16 @@ placed() {
 
 # The faults of a build for other programs, in place of its text.
 build_for_programs() {
-  local program=$1 status=0 made
+  local program=$1 status=0 made made_state
   shift
   room=$(mktemp -d)
   trap 'rm -rf "$room"' EXIT
   made=$(make_out)
   lock_out
+  made_state=$(make_state)
+  lock_state "$state"
   PAN_NOTES=$form "$program" "$@" >"$room/text" 2>"$room/faults" || status=$?
+  unmake_state "$made_state"
   case $status in 2 | 3) [ -z "$made" ] || unmake_out "$made" ;; esac
   if [ "$status" -gt 1 ]; then cat "$room/text"; cat "$room/faults" >&2; exit "$status"; fi
   placed <"$room/faults"
@@ -394,6 +427,46 @@ check() {
   exit 1
 }
 
+# A number of a header's row, so many digits behind others.
+number_in() { echo $((16#${1:$2:16})); }
+
+# The include directories of a header's row, as --include has them: a count, and of each its length and its bytes.
+directories_in() {
+  local row=$1 at=58 count length name list=''
+  for ((count = 16#${row:50:8}; count > 0; count--)); do
+    length=$((2 * 16#${row:at:8}))
+    name=$(sed 's/../\\x&/g' <<<"${row:at + 8:length}")
+    name=$(printf '%b' "$name")
+    list+=:${name:-.}
+    at=$((at + 8 + length))
+  done
+  echo "${list#:}"
+}
+
+# What a file of rows keeps. A copy is read, so that neither the file nor its log is touched.
+tell_state() {
+  local file=$1 rows='' all objects files header
+  if ! command -v sqlite3 >/dev/null; then say "pan state wants sqlite3, which is not on the path"; exit 127; fi
+  if [ ! -f "$file" ]; then say "$file: no such file"; exit 5; fi
+  room=$(mktemp -d)
+  trap 'rm -rf "$room"' EXIT
+  lock_state "$file"
+  cp -- "$file" "$room/rows"
+  [ ! -f "$file-wal" ] || cp -- "$file-wal" "$room/rows-wal"
+  if [ -s "$room/rows" ] || [ -s "$room/rows-wal" ]; then
+    rows=$(sqlite3 -separator ' ' "$room/rows" "select count(*), count(nullif(name like 'o/%', 0)),
+      count(nullif(name like 'f/%', 0)), max(iif(name = 'h', hex(bytes), '')) from rows" 2>/dev/null) ||
+      { say "$file: no file of rows"; exit 12; }
+  fi
+  read -r all objects files header <<<"$rows"
+  if [ "${all:-0}" -eq 0 ]; then echo 'objects 0 files 0'; return; fi
+  if [ "${#header}" -lt 58 ]; then say "$file: rows without a header"; exit 12; fi
+  echo "objects $objects files $files"
+  printf -- '--include %q\n' "$(directories_in "$header")"
+  echo "--max-iteration $(number_in "$header" 18) --max-recursion $(number_in "$header" 34)"
+  echo "format $((16#${header:0:2})), next number $(number_in "$header" 2), $(stat -Lc %s -- "$file") bytes"
+}
+
 usage() { echo "usage fault"; help >&2; exit 2; }
 
 # --quiet, --format and --only stand anywhere before `--`.
@@ -417,12 +490,18 @@ case ${1:-} in
   --help) help; exit 0 ;;
   --version) version; exit 0 ;;
   --prove | --release | --try) exec "$tools/pan-prove" "$@" ;;
+  state)
+    if [ $# -ne 2 ] || [ -z "$2" ] || [ -n "$form$only" ]; then usage; fi
+    tell_state "$2"
+    exit
+    ;;
 esac
 if ! has_mode "$@"; then usage; fi
 program=$("$tools/pan-program")
 case ${1:-} in format) [ -z "$form$only" ] || usage; format "$program" "$@" ;; esac
 read_words "$@"
 case $mode in build) [ -z "$only" ] || usage ;; check) ;; *) [ -z "$form$only" ] || usage ;; esac
+case $mode in check | show | impact | unused) [ -z "$has_state" ] || usage ;; esac
 [ "${PAN_NOTES:-}" = off ] || tell_include
 case $mode in
   check) [ -n "$source" ] || usage; check "$program" ;;
@@ -433,6 +512,7 @@ case $mode in
 esac
 if [ "${PAN_NOTES:-}" = off ] || [ -z "$out" ]; then
   case $mode in build | watch) [ -z "$out" ] || { make_out >/dev/null; lock_out; } ;; esac
+  case $mode in build) make_state >/dev/null; lock_state "$state" ;; esac
   exec "$program" "$@"
 fi
 case $mode in

@@ -6,7 +6,7 @@
 - Words, `--help` and `--version`; how the program is found, where sources are others or none comes with them.
 - The notes on standard error: slips in SOURCE, files of others in OUT, and the line behind a build.
 - Accidents that would take every profile away: with --most-removed the files are still there, and a note says why.
-- One program at a time works on a folder of profiles.
+- One program at a time works on a folder of profiles, and on a file of --state; what such a file keeps.
 - The layout of folders, files and standard input, and what only looks at it; what an edit touches, and what is unused.
 - Faults without a publication, faults for other programs, and what stands in a profile.
 - What contrib/install puts below a folder runs there, with nothing of the repository.
@@ -100,6 +100,10 @@ def words(folder):
     yield "a source that is missing makes no folder", (ended.status, ended.text) == (3, "source fault\n") and not (
         folder / "new"
     ).exists()
+    machines(folder, 1)
+    write(folder, "a.file", "")
+    ended = [pan(folder, "build", "site", "a.file/out", *more) for more in ([], ["--quiet"])]
+    yield "a folder that cannot be made", [(e.status, e.text) for e in ended] == [(4, "shelf fault\n")] * 2
     ended = pan(folder, "demo", "3", "1")
     yield "a demo", ended.status == 0 and ended.text.count("objects 3 ") == 4
 
@@ -205,6 +209,17 @@ def accidents(folder):
         yield f"{name}: its note", "--most-removed" in ended.notes
 
 
+def at_once(count, call):
+    """What so many calls give that run side by side."""
+    ended = []
+    rounds = [threading.Thread(target=lambda number=number: ended.append(call(number))) for number in range(count)]
+    for each in rounds:
+        each.start()
+    for each in rounds:
+        each.join(SECONDS)
+    return ended
+
+
 def lock(folder):
     machines(folder, 2)
     (folder / "out").mkdir()
@@ -219,12 +234,71 @@ def lock(folder):
     waits.join(SECONDS)
     yield "and then builds", ended[0].status == 0 and profiles(folder) == ["web1.json", "web2.json"]
     yield "it says so", f"another pan works on out (process {os.getpid()})" in ended[0].notes
-    rounds = [threading.Thread(target=lambda: ended.append(pan(folder, "build", "site", "new"))) for _ in range(4)]
-    for each in rounds:
-        each.start()
-    for each in rounds:
-        each.join(SECONDS)
-    yield "four builds at once", [each.status for each in ended[1:]] == [0, 0, 0, 0]
+    ended = at_once(4, lambda number: pan(folder, "build", "site", "new"))
+    yield "four builds at once", [each.status for each in ended] == [0, 0, 0, 0]
+
+
+def state(folder):
+    machines(folder, 2)
+    words = ["build", "site", "out", "--state", "s.db"]
+    ended = pan(folder, *words)
+    yield "a build that keeps rows", ended.status == 0 and ended.summary() == [2, 2, 0, 0, 2, 0] and not ended.warns("")
+    ended = pan(folder, *words)
+    yield "the next one", ended.text == "objects 2 ok 2 faults 0 run 0\n" and ended.summary() == [2, 2, 0, 0, 0, 0]
+    held = os.open(folder / "s.db", os.O_RDONLY)
+    fcntl.flock(held, fcntl.LOCK_EX)
+    ended = []
+    waits = threading.Thread(target=lambda: ended.append(pan(folder, "build", "site", "new", "--state=s.db")))
+    waits.start()
+    waits.join(2)
+    yield "a build waits for the file", not ended
+    os.close(held)
+    waits.join(SECONDS)
+    yield "and then builds", ended[0].status == 0 and ended[0].text.endswith("run 0\n")
+    yield "it says so", f"another pan works on s.db (process {os.getpid()})" in ended[0].notes
+    ended = pan(folder, "build", "site", "out", "--state", "site/s.db")
+    yield "a file among the templates", ended.status == 0 and ended.warns("site/s.db stands below site")
+    yield "a hidden one", not pan(folder, "build", "site", "out", "--state", "site/.s.db").warns("")
+    yield "one that is removed", pan(folder, "build", "site", "out", "--state", "out/s.json").warns("out/s.json")
+    ended = at_once(3, lambda number: pan(folder, "build", "site", f"out{number}", "--state", "first.db"))
+    runs = sorted(each.text.split()[-1] for each in ended)
+    yield "three first builds at once", runs == ["0", "0", "2"]
+    ended = pan(folder, "build", "site", "out", "--state", "none.db", "--max-iteration", "0")
+    yield "words that are wrong make no file", ended.status == 2 and not (folder / "none.db").exists()
+    write(folder, "text.db", "no database, but a text\n")
+    ended = pan(folder, "build", "site", "out", "--state", "text.db")
+    yield "a file that is none", (ended.status, ended.text) == (5, "keeper fault\n")
+    yield "it says so", "text.db could not be opened" in ended.notes
+    taken = [["check", "site"], ["show", "site", "web1"], ["unused", "site"], ["impact", "site", "web1.pan"]]
+    taken += [["watch", "site", "out"], ["format", "site", "site"]]
+    yield "no other command takes it", {pan(folder, *each, "--state", "s.db").status for each in taken} == {2}
+
+
+def kept(folder):
+    if not shutil.which("sqlite3"):
+        return
+    machines(folder, 2)
+    pan(folder, "build", "site", "out", "--state", "s.db", "--include", ".:common", "--max-recursion", "7")
+    before = {path.name: path.read_bytes() for path in folder.glob("s.db*")}
+    ended = pan(folder, "state", "s.db")
+    yield "what is kept", ended.text.splitlines()[:3] == [
+        "objects 2 files 3",
+        "--include .:common",
+        "--max-iteration 10000 --max-recursion 7",
+    ]
+    yield "the files stay", before == {path.name: path.read_bytes() for path in folder.glob("s.db*")}
+    write(folder, "empty.db", "")
+    write(folder, "text.db", "no database, but a text\n")
+    told = {name: pan(folder, "state", name) for name in ("empty.db", "text.db", "none.db")}
+    yield "nothing is", (told["empty.db"].status, told["empty.db"].text) == (0, "objects 0 files 0\n")
+    yield "no file of rows", told["text.db"].status == 12 and "no file of rows" in told["text.db"].notes
+    yield "no file", told["none.db"].status == 5 and "no such file" in told["none.db"].notes
+    yield "no word", pan(folder, "state").status == 2
+    (folder / "few").mkdir()
+    for tool in ("bash", "dirname", "readlink"):
+        (folder / "few" / tool).symlink_to(shutil.which(tool))
+    ended = pan(folder, "state", "s.db", PATH=str(folder / "few"))
+    yield "no sqlite3", ended.status == 127 and "sqlite3" in ended.notes
 
 
 LOOSE = "object template a ; # its first line\n'/x'={y=0x10;\ny+1};"
@@ -386,7 +460,7 @@ def vim(folder):
 
 def main():
     passed = failed = 0
-    parts = (words, found, notes, accidents, lock, layout, touched, checked, for_programs, shown, installed, vim)
+    parts = (words, found, notes, accidents, lock, state, kept, layout, touched, checked, for_programs, shown, installed, vim)
     for part in parts:
         with tempfile.TemporaryDirectory() as room:
             for name, is_well in part(Path(room).resolve()):

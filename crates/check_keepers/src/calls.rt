@@ -58,7 +58,8 @@ pub(crate) fn letters<K: Keeper>(alloc: Global, keeper: &mut K) -> Result<String
     Ok(text)
 }
 
-fn word(done: Result<(), StoreError>) -> &'static str {
+/// What a call answered.
+pub(crate) fn word(done: Result<(), StoreError>) -> &'static str {
     match done {
         Ok(()) => "done",
         Err(StoreError::Failed) => "failed",

@@ -1,4 +1,4 @@
-use crate::calls::{letters, print_calls};
+use crate::calls::{letters, print_calls, replace, word};
 use anyhow::{Result, anyhow};
 use host_keeper::HostKeeper;
 use keepers::Keeper;
@@ -30,21 +30,55 @@ fn content(rt: &HostRuntime, file: &str) -> Vec<u8> {
     }
 }
 
-/// Opens a file that is no store.
+/// Opens a file that is no store, and calls on: each call is refused and counted, and the file stays.
 fn print_bad(rt: &HostRuntime, what: &str, file: &str) -> Result<()> {
     let before = content(rt, file);
     let mut keeper = HostKeeper::new(rt.clone()?);
-    let end = if keeper.open_store(file).is_ok() {
-        "opened"
-    } else {
-        "refused"
-    };
+    let opened = word(keeper.open_store(file));
+    let loaded = word(keeper.load(&mut Vec::new(rt.alloc())));
+    let replaced = word(replace(rt.alloc(), &mut keeper, "a", "b")?);
     let same = if before.as_slice() == content(rt, file).as_slice() {
         "as it was"
     } else {
         "changed"
     };
-    println!(rt; "{what}: {end}, {} faults, {same}", keeper.faults())?;
+    println!(rt;
+        "{what}: open {opened}, load {loaded}, replace {replaced}, {} faults, {same}",
+        keeper.faults()
+    )?;
+    Ok(())
+}
+
+/// Makes a file that holds the rows a and b, and gives the keeper that has it open.
+fn made(rt: &HostRuntime, file: &str) -> Result<HostKeeper> {
+    let mut keeper = HostKeeper::new(rt.clone()?);
+    if keeper.open_store(file).is_err() || replace(rt.alloc(), &mut keeper, "", "ab")?.is_err() {
+        return Err(anyhow!("not made"));
+    }
+    Ok(keeper)
+}
+
+/// Opens a store that may not be written.
+fn print_read_only(rt: &HostRuntime) -> Result<()> {
+    if made(rt, "shut.db")?.close().is_err() {
+        return Err(anyhow!("not closed"));
+    }
+    let mut permissions = fs::metadata(rt, "shut.db")?.permissions();
+    permissions.set_readonly(true);
+    fs::set_permissions(rt, "shut.db", permissions)?;
+    print_bad(rt, "a store that may not be written", "shut.db")
+}
+
+/// Opens a store that is open elsewhere, of which the one who has it goes on.
+fn print_held(rt: &HostRuntime) -> Result<()> {
+    let mut keeper = made(rt, "held.db")?;
+    print_bad(rt, "a store that is open elsewhere", "held.db")?;
+    let done = word(replace(rt.alloc(), &mut keeper, "a", "c")?);
+    println!(rt;
+        "  there a out, set c {done}: {}, {} faults",
+        letters(rt.alloc(), &mut keeper)?.as_str(),
+        keeper.faults()
+    )?;
     Ok(())
 }
 
@@ -56,5 +90,7 @@ pub(crate) fn print_files(rt: &HostRuntime) -> Result<()> {
     print_bad(rt, "the store and a table more", "more.db")?;
     print_bad(rt, "a folder", ".")?;
     print_bad(rt, "a file in a folder that is missing", "none/rows.db")?;
-    print_bad(rt, "no name", "")
+    print_bad(rt, "no name", "")?;
+    print_read_only(rt)?;
+    print_held(rt)
 }

@@ -3,10 +3,12 @@
 //!
 //! Each line says something of the next run. `file NAME TEXT` is a file of the source, TEXT being all behind NAME, and
 //! a line feed; `many COUNT NAME TEXT` are the files `0NAME`, `1NAME` and so on. `kept NAME TEXT` stands on the shelf
-//! before the run. `line TEXT` is a line of a watcher. `fail DEVICE CALL` has a call of the `source`, the `shelf`, the
-//! `lines` or the `sink` fail, the first being 0. The source gives the files once, and then an empty picture.
+//! before the run. `line TEXT` is a line of a watcher. The keeper holds the rows that the run before left; `forget` takes
+//! them away, and `row NAME HEX` adds one. `fail DEVICE CALL` has a call of the `source`, the `shelf`, the `keeper`, the `lines` or the
+//! `sink` fail, the first being 0. The source gives the files once, and then an empty picture.
 //! `run WORD ..` calls the compiler with these words, and forgets what was said. Behind `status` stand the faults that
-//! the source, the shelf and the sink counted, and the runs that were made. Any other line is a remark. An object's text
+//! the source, the shelf, the keeper and the sink counted, and the runs that were made. Behind the shelf stand the names
+//! of the rows that are kept. Any other line is a remark. An object's text
 //! is the word `object` and lines of three bytes, as `written_runner` says. The expected output is written by hand.
 #![tactic(auto)]
 
@@ -14,6 +16,7 @@ ghost use Rattle.std.specs.Prelude.{◌≡◌, ◌<◌};
 
 use anyhow::{Result, anyhow};
 use base::{Bytes, Seq, Steps, Text};
+use keepers::{Keeper, MemKeeper};
 use outside::{
     Held, MemFile, MemLines, MemShelf, MemSink, MemSource, Shelf, Sink, Source, are_distinct,
 };
@@ -22,6 +25,7 @@ use std::alloc::{AllocError, Global};
 use std::marker::Brand;
 use std::mem;
 use std::sync::ledger::{Blank, Ledger};
+use stored_rows::{StoredRow, are_rising};
 use written_runner::Written;
 
 /// What is said of a run.
@@ -30,8 +34,10 @@ struct Case {
     files: Vec<MemFile>,
     held: Vec<Held>,
     lines: Vec<Bytes>,
+    rows: Vec<StoredRow>,
     source_fails: Vec<u64>,
     shelf_fails: Vec<u64>,
+    keeper_fails: Vec<u64>,
     lines_fails: Vec<u64>,
     sink_fails: Vec<u64>,
 }
@@ -41,8 +47,10 @@ fn new_case(alloc: Global) -> Case {
         files: Vec::new(alloc),
         held: Vec::new(alloc),
         lines: Vec::new(alloc),
+        rows: Vec::new(alloc),
         source_fails: Vec::new(alloc),
         shelf_fails: Vec::new(alloc),
+        keeper_fails: Vec::new(alloc),
         lines_fails: Vec::new(alloc),
         sink_fails: Vec::new(alloc),
     }
@@ -79,6 +87,15 @@ fn kept(alloc: Global, case: &mut Case, name: &str, text: &str) -> Result<()> {
     Ok(())
 }
 
+/// A row of the keeper, behind those that it has.
+fn row(alloc: Global, case: &mut Case, name: &str, bytes: &str) -> Result<()> {
+    case.rows.push(StoredRow {
+        name: Text::new(alloc, name)?,
+        bytes: Bytes::from_vec(hex::decode(alloc, bytes)?)?,
+    })?;
+    Ok(())
+}
+
 fn watched_line(alloc: Global, case: &mut Case, text: &str) -> Result<()> {
     case.lines.push(Bytes::from_slice(alloc, text.as_bytes())?)?;
     Ok(())
@@ -89,6 +106,7 @@ fn fail(case: &mut Case, device: &str, call: &str) -> Result<()> {
     match device {
         "source" => case.source_fails.push(call)?,
         "shelf" => case.shelf_fails.push(call)?,
+        "keeper" => case.keeper_fails.push(call)?,
         "lines" => case.lines_fails.push(call)?,
         "sink" => case.sink_fails.push(call)?,
         _ => return Err(anyhow!("no device")),
@@ -112,41 +130,58 @@ fn print_shelf(rt: &HostRuntime, held: &[Held]) -> Result<()> {
     Ok(())
 }
 
-fn run<L: Ledger>(rt: &HostRuntime, case: Case, words: &str, steps: &mut Steps<L>) -> Result<()> {
+fn print_rows(rt: &HostRuntime, rows: &[StoredRow]) -> Result<()> {
+    for row in rows {
+        println!(rt; "== {}", row.name.as_str())?;
+    }
+    Ok(())
+}
+
+/// Calls the compiler, and gives the rows that are kept then.
+fn run<L: Ledger>(
+    rt: &HostRuntime,
+    case: Case,
+    words: &str,
+    steps: &mut Steps<L>,
+) -> Result<Vec<StoredRow>> {
     let alloc = rt.alloc();
-    let Case {
-        files,
-        held,
-        lines,
-        source_fails,
-        shelf_fails,
-        lines_fails,
-        sink_fails,
-    } = case;
-    if !are_distinct(alloc, &files)? {
-        return Err(anyhow!("two files of one name"));
+    let words = words_of(alloc, words)?;
+    if !are_distinct(alloc, &case.files)? || !are_rising(&case.rows) {
+        return Err(anyhow!("two files of one name, or rows that do not rise"));
     }
     let mut pictures = Vec::new(alloc);
-    pictures.push(Seq::from_vec(files))?;
+    pictures.push(Seq::from_vec(case.files))?;
     let devices = Devices {
-        source: MemSource::new(alloc, pictures, source_fails),
-        shelf: MemShelf::new(alloc, held, shelf_fails),
-        lines: MemLines::new(lines, lines_fails),
-        out: MemSink::new(alloc, sink_fails),
+        source: MemSource::new(alloc, pictures, case.source_fails),
+        shelf: MemShelf::new(alloc, case.held, case.shelf_fails),
+        lines: MemLines::new(case.lines, case.lines_fails),
+        out: MemSink::new(alloc, case.sink_fails),
     };
-    let words = words_of(alloc, words)?;
-    let ended = pan(alloc, &words, Written::new(alloc), devices, steps);
+    let keeper = MemKeeper::new(alloc, case.rows, case.keeper_fails);
+    let ended = pan(alloc, &words, Written::new(alloc), devices, keeper, steps);
     let devices = &ended.devices;
     print!(rt;
-        "status {} faults {} {} {} runs {}\n{}",
+        "status {} faults {} {} {} {} runs {}\n{}",
         ended.status.exit_code(),
         devices.source.faults(),
         devices.shelf.faults(),
+        ended.keeper.faults(),
         devices.out.faults(),
         ended.runner.runs(),
         str::from_utf8(devices.out.written())?
     )?;
-    print_shelf(rt, devices.shelf.held())
+    print_shelf(rt, devices.shelf.held())?;
+    print_rows(rt, ended.keeper.rows())?;
+    copies(alloc, ended.keeper.rows())
+}
+
+/// The same rows, shared.
+fn copies(alloc: Global, rows: &[StoredRow]) -> Result<Vec<StoredRow>> {
+    let mut same = Vec::with_capacity(alloc, rows.len())?;
+    for row in rows {
+        same.push(row.share()?)?;
+    }
+    Ok(same)
 }
 
 /// A line's first word, and what stands behind the blank that follows it.
@@ -168,8 +203,16 @@ fn say<L: Ledger>(
         "many" => many(alloc, case, name, text),
         "kept" => kept(alloc, case, name, text),
         "line" => watched_line(alloc, case, rest),
+        "row" => row(alloc, case, name, text),
+        "forget" => {
+            case.rows.clear();
+            Ok(())
+        }
         "fail" => fail(case, name, text),
-        "run" => run(rt, mem::replace(case, new_case(alloc)), rest, steps),
+        "run" => {
+            case.rows = run(rt, mem::replace(case, new_case(alloc)), rest, steps)?;
+            Ok(())
+        }
         _ => Ok(()),
     }
 }

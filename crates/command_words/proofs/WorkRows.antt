@@ -1,6 +1,8 @@
 -- Written values of options.
 use Rattle.std.proofs.Common.{◌≡◌, ℕ, List, [], ◌∷◌, Option, Some, None, refl, codes}
-use Rattle.command_words.specs.Commands.{limit_of, bound_of, directories_of, number_given}
+use Rattle.command_words.specs.Commands.{limit_of, bound_of, directories_of, number_given, state_given, command_by}
+use Rattle.command_words.specs.declared.commands.Command.TheVariants.{Build}
+use Rattle.command_words.specs.declared.words.Words.{Words}
 use Rattle.command_words.specs.declared.limits.TheConstants.{MAX_ITERATIONS, DEFAULT_ITERATIONS, MAX_RECURSION, DEFAULT_RECURSION, MAX_MOST_REMOVED, MAX_MACHINES, MAX_START}
 
 abbrev recursion : List ℕ → Option ℕ
@@ -95,3 +97,46 @@ too_large_bound = refl
 
 no_bound : bound_of MAX_MOST_REMOVED (Some []) ≡ None
 no_bound = refl
+
+-- the file that keeps rows
+no_file : state_given None ≡ Some None
+no_file = refl
+
+file : state_given (Some (codes "f")) ≡ Some (Some (codes "f"))
+file = refl
+
+empty_file : state_given (Some []) ≡ None
+empty_file = refl
+
+-- the words of a command whose rows a file is to keep: `build` alone is one
+abbrev kept : List ℕ → Words
+kept mode = record {
+  mode = Some mode;
+  source = Some (codes "1");
+  out = Some (codes "2");
+  include = None;
+  iteration = None;
+  recursion = None;
+  most_removed = None;
+  state = Some (codes "f");
+}
+
+kept_build : command_by (kept (codes "build")) ≡ Some (Build (record {
+  source = codes "1";
+  out = codes "2";
+  directories = [] ∷ [];
+  iterations = 10000;
+  recursion = 50;
+  most_removed = None;
+  state = Some (codes "f");
+}))
+kept_build = refl
+
+kept_watch : command_by (kept (codes "watch")) ≡ None
+kept_watch = refl
+
+kept_demo : command_by (kept (codes "demo")) ≡ None
+kept_demo = refl
+
+kept_format : command_by (kept (codes "format")) ≡ None
+kept_format = refl

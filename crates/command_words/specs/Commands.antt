@@ -7,6 +7,7 @@ use Rattle.command_words.specs.TheCommand.{given_of}
 use Rattle.command_words.specs.declared.commands.Command.{Command}
 use Rattle.command_words.specs.declared.commands.Command.TheVariants.{Build, Watch, Demo, Format}
 use Rattle.command_words.specs.declared.commands.Demonstration.{Demonstration}
+use Rattle.command_words.specs.declared.commands.Limits.{Limits}
 use Rattle.command_words.specs.declared.commands.Pair.{Pair}
 use Rattle.command_words.specs.declared.commands.Work.{Work}
 use Rattle.command_words.specs.declared.limits.TheConstants.{MAX_PARTS, MAX_ITERATIONS, DEFAULT_ITERATIONS, MAX_RECURSION, DEFAULT_RECURSION, MAX_MOST_REMOVED, MAX_MACHINES, MAX_START}
@@ -64,36 +65,58 @@ abbrev pub bound_of : ℕ → Option (List ℕ) → Option (Option ℕ)
 bound_of high None = Some None
 bound_of high (Some text) = bound_given (number_within 0 high text)
 
-abbrev pub work_with : Option (List ℕ) → Option (List ℕ) → Option (List (List ℕ)) → Option ℕ
-    → Option ℕ → Option (Option ℕ) → Option Work
-work_with None out directories iterations recursion most = None
-work_with (Some source) None directories iterations recursion most = None
-work_with (Some source) (Some out) None iterations recursion most = None
-work_with (Some source) (Some out) (Some directories) None recursion most = None
-work_with (Some source) (Some out) (Some directories) (Some iterations) None most = None
-work_with (Some source) (Some out) (Some directories) (Some iterations) (Some recursion) None =
-    None
-work_with (Some source) (Some out) (Some directories) (Some iterations) (Some recursion)
-    (Some most) = Some (record {
-      source = source;
-      out = out;
-      directories = directories;
-      iterations = iterations;
-      recursion = recursion;
-      most_removed = most;
-    })
-
 abbrev pub iterations_of : Words → Option ℕ
 iterations_of w = limit_of MAX_ITERATIONS DEFAULT_ITERATIONS w.iteration
 
 abbrev pub recursion_of : Words → Option ℕ
 recursion_of w = limit_of MAX_RECURSION DEFAULT_RECURSION w.recursion
 
--- what `build` and `watch` work on
+abbrev pub limits_with : Option ℕ → Option ℕ → Option (Option ℕ) → Option Limits
+limits_with None recursion most = None
+limits_with (Some iterations) None most = None
+limits_with (Some iterations) (Some recursion) None = None
+limits_with (Some iterations) (Some recursion) (Some most) = Some (record {
+  iterations = iterations;
+  recursion = recursion;
+  most_removed = most;
+})
+
+-- how far a build may go
+abbrev pub limits_given : Words → Option Limits
+limits_given w =
+    limits_with (iterations_of w) (recursion_of w) (bound_of MAX_MOST_REMOVED w.most_removed)
+
+-- FILE is not empty, and there is none without its option
+abbrev pub state_given : Option (List ℕ) → Option (Option (List ℕ))
+state_given None = Some None
+state_given (Some file) = if nat_lt 0 (length file) then Some (Some file) else None
+
+abbrev pub work_with : Option (List ℕ) → Option (List ℕ) → Option (List (List ℕ)) → Option Limits
+    → Option (Option (List ℕ)) → Option Work
+work_with None out directories limits state = None
+work_with (Some source) None directories limits state = None
+work_with (Some source) (Some out) None limits state = None
+work_with (Some source) (Some out) (Some directories) None state = None
+work_with (Some source) (Some out) (Some directories) (Some limits) None = None
+work_with (Some source) (Some out) (Some directories) (Some limits) (Some state) = Some (record {
+  source = source;
+  out = out;
+  directories = directories;
+  iterations = limits.iterations;
+  recursion = limits.recursion;
+  most_removed = limits.most_removed;
+  state = state;
+})
+
+-- what `build` works on
 abbrev pub work_of : Words → Option Work
 work_of w =
-    work_with (filled w.source) (filled w.out) (directories_of w.include) (iterations_of w)
-    (recursion_of w) (bound_of MAX_MOST_REMOVED w.most_removed)
+    work_with (filled w.source) (filled w.out) (directories_of w.include) (limits_given w)
+    (state_given w.state)
+
+-- what `watch` works on: the same, and no file keeps its rows
+abbrev pub watch_of : Words → Option Work
+watch_of w = if is_some w.state then None else work_of w
 
 -- a word that is a number, from low to high
 abbrev pub number_given : ℕ → ℕ → Option (List ℕ) → Option ℕ
@@ -114,16 +137,17 @@ demonstration_with (Some count) (Some start) (Some iterations) (Some recursion) 
     })
 
 -- what `demo` works on: SOURCE is the count of its machines, OUT its start number, and it has no
--- directories and no shelf
+-- directories, no shelf and no file that keeps rows
 abbrev pub demonstration_of : Words → Option Demonstration
-demonstration_of w = if is_some w.include || is_some w.most_removed then None
+demonstration_of w =
+    if is_some w.include || is_some w.most_removed || is_some w.state then None
     else demonstration_with (number_given 1 MAX_MACHINES w.source)
     (number_given 0 MAX_START w.out) (iterations_of w) (recursion_of w)
 
 -- an option is given
 abbrev pub has_option : Words → Bool
 has_option w = is_some w.include || is_some w.iteration || is_some w.recursion
-    || is_some w.most_removed
+    || is_some w.most_removed || is_some w.state
 
 abbrev pub pair_with : Option (List ℕ) → Option (List ℕ) → Option Pair
 pair_with None out = None
@@ -142,7 +166,7 @@ is_word word (Some given) = bytes_eq given word
 abbrev pub command_by : Words → Option Command
 command_by w =
     if is_word (codes "build") w.mode then option_map Build (work_of w)
-    else if is_word (codes "watch") w.mode then option_map Watch (work_of w)
+    else if is_word (codes "watch") w.mode then option_map Watch (watch_of w)
     else if is_word (codes "demo") w.mode then option_map Demo (demonstration_of w)
     else if is_word (codes "format") w.mode then option_map Format (pair_of w)
     else None

@@ -2,7 +2,7 @@ ghost use Rattle.std.specs.Prelude.{◌≡◌, ◌<◌, ◌≤◌, ◌+◌, ◌-
 ghost use Rattle.std.specs.Char.{digit_value};
 ghost use Rattle.std.specs.List.{list_all};
 ghost use Rattle.base.specs.Integers.{digits_value};
-ghost use Rattle.command_words.specs.Commands.{number_within, number_given, limit_of, bound_of, is_part, directory_of, parts_of, are_parts, directories_among, directories_of, filled, within, work_of, demonstration_of, pair_with, has_option, pair_of, is_word, command_by, command_of};
+ghost use Rattle.command_words.specs.Commands.{number_within, number_given, limit_of, bound_of, is_part, directory_of, parts_of, are_parts, directories_among, directories_of, filled, within, limits_given, state_given, work_of, watch_of, demonstration_of, pair_with, has_option, pair_of, is_word, command_by, command_of};
 
 use crate::limits::{
     DEFAULT_ITERATIONS, DEFAULT_RECURSION, MAX_ITERATIONS, MAX_MACHINES, MAX_MOST_REMOVED,
@@ -28,6 +28,16 @@ pub struct Work {
     pub recursion: u64,
     /// Names that a publication may remove; any number where there is none.
     pub most_removed: Option<u64>,
+    /// The file that keeps rows from run to run; none without `--state`.
+    pub state: Option<Text>,
+}
+
+/// How far a build may go.
+#[derive(Clone, Copy)]
+struct Limits {
+    iterations: u64,
+    recursion: u64,
+    most_removed: Option<u64>,
 }
 
 /// What `demo` works on.
@@ -176,41 +186,75 @@ fn filled(text: Option<Text>) -> Option<Text>
     Some(text)
 }
 
-/// What `build` and `watch` work on, by the values of their words, or None where one is not of its form. LIST is 1 to
-/// `MAX_PARTS` parts joined by `:`, each `.`, which means the empty directory, or a file name; a number is decimal
-/// digits without a leading zero, from 1 to its limit, `--most-removed` from 0.
+/// How far a build may go, or None where a number is not of its form.
+fn limits_given(words: &Words) -> Option<Limits>
+    ensures { result ≡ limits_given words.now }
+{
+    match (
+        limit_of(MAX_ITERATIONS, DEFAULT_ITERATIONS, &words.iteration),
+        limit_of(MAX_RECURSION, DEFAULT_RECURSION, &words.recursion),
+        bound_of(MAX_MOST_REMOVED, &words.most_removed),
+    ) {
+        (Some(iterations), Some(recursion), Some(most_removed)) => Some(Limits {
+            iterations,
+            recursion,
+            most_removed,
+        }),
+        _ => None,
+    }
+}
+
+/// The file that keeps rows, which may be left out, or None where it is given and empty.
+fn state_given(given: Option<Text>) -> Option<Option<Text>>
+    ensures { result ≡ state_given given }
+{
+    let Some(file) = given else {
+        return Some(None);
+    };
+    if file.as_str().is_empty() {
+        return None;
+    }
+    Some(Some(file))
+}
+
+/// What `build` works on, by the values of its words, or None where one is not of its form. LIST is 1 to `MAX_PARTS`
+/// parts joined by `:`, each `.`, which means the empty directory, or a file name; a number is decimal digits without a
+/// leading zero, from 1 to its limit, `--most-removed` from 0; FILE is not empty.
 fn read_work(alloc: Global, words: Words) -> Result<Option<Work>, AllocError>
     ensures { IfOk result (λ work. work ≡ work_of words) }
 {
-    let iterations = limit_of(MAX_ITERATIONS, DEFAULT_ITERATIONS, &words.iteration);
-    let recursion = limit_of(MAX_RECURSION, DEFAULT_RECURSION, &words.recursion);
-    let most_removed = bound_of(MAX_MOST_REMOVED, &words.most_removed);
+    let limits = limits_given(&words);
     let directories = directories_of(alloc, &words.include)?;
     match (
         filled(words.source),
         filled(words.out),
         directories,
-        iterations,
-        recursion,
-        most_removed,
+        limits,
+        state_given(words.state),
     ) {
-        (
-            Some(source),
-            Some(out),
-            Some(directories),
-            Some(iterations),
-            Some(recursion),
-            Some(most_removed),
-        ) => Ok(Some(Work {
-            source,
-            out,
-            directories,
-            iterations,
-            recursion,
-            most_removed,
-        })),
+        (Some(source), Some(out), Some(directories), Some(limits), Some(state)) => {
+            Ok(Some(Work {
+                source,
+                out,
+                directories,
+                iterations: limits.iterations,
+                recursion: limits.recursion,
+                most_removed: limits.most_removed,
+                state,
+            }))
+        }
         _ => Ok(None),
     }
+}
+
+/// What `watch` works on: as `build`, and no file keeps its rows.
+fn read_watch(alloc: Global, words: Words) -> Result<Option<Work>, AllocError>
+    ensures { IfOk result (λ work. work ≡ watch_of words) }
+{
+    if words.state.is_some() {
+        return Ok(None);
+    }
+    read_work(alloc, words)
 }
 
 /// A number and one more decimal digit, where 64 bits hold it.
@@ -276,7 +320,7 @@ fn count_of(given: &Option<Text>) -> Option<u32>
 fn read_demonstration(words: &Words) -> Option<Demonstration>
     ensures { result ≡ demonstration_of words.now }
 {
-    if words.include.is_some() || words.most_removed.is_some() {
+    if words.include.is_some() || words.most_removed.is_some() || words.state.is_some() {
         return None;
     }
     match (
@@ -303,6 +347,7 @@ fn has_option(words: &Words) -> bool
         || words.iteration.is_some()
         || words.recursion.is_some()
         || words.most_removed.is_some()
+        || words.state.is_some()
 }
 
 fn pair_with(source: Option<Text>, out: Option<Text>) -> Option<Pair>
@@ -347,7 +392,7 @@ fn command_by(alloc: Global, words: Words) -> Result<Option<Command>, AllocError
         };
     }
     if is_word("watch", &words.mode) {
-        return match read_work(alloc, words)? {
+        return match read_watch(alloc, words)? {
             Some(work) => Ok(Some(Command::Watch(work))),
             None => Ok(None),
         };
@@ -367,10 +412,11 @@ fn command_by(alloc: Global, words: Words) -> Result<Option<Command>, AllocError
     Ok(None)
 }
 
-/// The command that the words are: `build SOURCE OUT` and `watch SOURCE OUT` with the options `--include`,
-/// `--max-iteration`, `--max-recursion` and `--most-removed`, `demo COUNT START` with the second and the third, or
-/// `format SOURCE OUT` with none; None where they are none. The words are read by `clap`. SOURCE and OUT are not empty.
-/// COUNT is a number from 1 to `MAX_MACHINES`, START one from 0 to `MAX_START`.
+/// The command that the words are: `build SOURCE OUT` with the options `--include`, `--max-iteration`,
+/// `--max-recursion`, `--most-removed` and `--state`, `watch SOURCE OUT` with the first four, `demo COUNT START` with
+/// the second and the third, or `format SOURCE OUT` with none; None where they are none. The words are read by `clap`.
+/// SOURCE, OUT and the FILE of `--state` are not empty. COUNT is a number from 1 to `MAX_MACHINES`, START one from 0 to
+/// `MAX_START`.
 #[tactic(auto, unfolding(crate::specs::Commands::command_of))]
 pub fn read_command(alloc: Global, words: &[Text]) -> Result<Option<Command>, AllocError>
     ensures { IfOk result (λ command. command ≡ command_of words.now) }

@@ -46,7 +46,8 @@ fn with_options<'a>(alloc: Global, command: Command<'a>) -> Result<Command<'a>, 
         .arg(option(alloc, "include"))?
         .arg(option(alloc, "max-iteration"))?
         .arg(option(alloc, "max-recursion"))?
-        .arg(option(alloc, "most-removed"))
+        .arg(option(alloc, "most-removed"))?
+        .arg(option(alloc, "state"))
 }
 
 /// The one command of the program.
@@ -67,6 +68,7 @@ pub struct Words {
     pub iteration: Option<Text>,
     pub recursion: Option<Text>,
     pub most_removed: Option<Text>,
+    pub state: Option<Text>,
 }
 
 /// The value of an argument.
@@ -91,6 +93,7 @@ fn values(alloc: Global, matches: &ArgMatches<'_>) -> Result<Words, AllocError>
         iteration: value(alloc, matches, "max-iteration")?,
         recursion: value(alloc, matches, "max-recursion")?,
         most_removed: value(alloc, matches, "most-removed")?,
+        state: value(alloc, matches, "state")?,
     })
 }
 

@@ -19,18 +19,16 @@ use Rattle.engine_machine.specs.Pictures.{picture_in}
 use Rattle.engine_machine.proofs.Costs.{ends_soon}
 use Rattle.engine_turns.proofs.Once.{rising_once}
 use Rattle.rebuild.proofs.Fewer.{once_is}
-use Rattle.pan_impact.specs.declared.register.Entry.{Entry}
-use Rattle.pan_impact.specs.Touched.{stands_in, templates_of, touched_in}
+use Rattle.pan_impact.specs.Touched.{touched_in}
 use Rattle.pan_impact.proofs.Listed.{are_touched}
 use Rattle.session.specs.Texts.{answer_in}
-use Rattle.session.specs.declared.Answer.{Answer}
 use Rattle.impact_laws.specs.Alike.{IsAsked}
 use Rattle.touched_laws.specs.Edits.{IsEdit, Has, IsRegister}
 use Rattle.touched_laws.specs.Untouched.{IsAsBefore}
 use Rattle.touched_laws.proofs.Kept.{leaves_untouched}
 use Rattle.touched_laws.proofs.Objects.{new_objects}
 use Rattle.compiler.specs.Compiler.{compiler, outcome_by, answer_of, answers_of}
-use Rattle.compiler.specs.Looking.{presence, asked_in, contents, build_asks, check_asks, deps_in, item_of, entry_of, register_in}
+use Rattle.compiler.specs.Looking.{presence, asked_in, contents, build_asks, check_asks, item_of, entry_of, register_in}
 use Rattle.compiler.specs.Names.{objects_in}
 use Rattle.compiler.specs.Untouched.{KeepsAnswers, ComesByFile, LeavesRest}
 use Rattle.compiler.proofs.Asked.{asked_has}

@@ -5,7 +5,7 @@ ghost use Rattle.rebuild.specs.Engines.{objects_of, turns_left_of};
 ghost use Rattle.session.specs.Sessions.{touched_of, unused_of};
 ghost use Rattle.compiler.specs.Looking.{entry_of, register_in};
 ghost use Rattle.compiler.specs.Registers.{seen_entry, seen_in};
-ghost use Rattle.compiler.specs.Standing.{compiled_in, machine_in};
+ghost use Rattle.compiler.specs.Standing.{IsFaithful, compiled_in, machine_in};
 
 use crate::works::Works;
 use base::Text;
@@ -22,12 +22,14 @@ fn add_object<R: Runner>(
 ) -> Result<(), AllocError>
     requires settled { turns_left_of works.now.engine.core ≡ 0 }
     requires object { is_among name.now (objects_of works.now.engine.core) ≡ true }
-    ensures { OnOk result (seen_in register.new ≡ seen_in register.old ++ seen_entry (entry_of
-        (R.meaning works.now.engine.core.dirs works.now.engine.core.limits) (pictured
-        works.now.engine.core.files.items) (objects_of works.now.engine.core) name.now) ∷ []) }
+    ensures { IsFaithful R.meaning works.now → OnOk result (seen_in register.new
+        ≡ seen_in register.old ++ seen_entry (entry_of (R.meaning works.now.engine.core.dirs
+        works.now.engine.core.limits) (pictured works.now.engine.core.files.items)
+        (objects_of works.now.engine.core) name.now) ∷ []) }
 {
+    // Of an engine that is not faithful an object may have no record.
     let Some(reads) = works.engine.reads(name.as_str()) else {
-        unreachable!();
+        return Ok(());
     };
     register.add(name, reads.build, reads.check)
 }
@@ -35,8 +37,8 @@ fn add_object<R: Runner>(
 /// All objects with what their builds and their checks read.
 fn register_of<R: Runner>(alloc: Global, works: &Works<R>) -> Result<Register, AllocError>
     requires settled { turns_left_of works.now.engine.core ≡ 0 }
-    ensures { IfOk result (λ register. seen_in register ≡ seen_in (register_in (R.meaning
-        works.now.engine.core.dirs works.now.engine.core.limits) (pictured
+    ensures { IsFaithful R.meaning works.now → IfOk result (λ register. seen_in register ≡ seen_in
+        (register_in (R.meaning works.now.engine.core.dirs works.now.engine.core.limits) (pictured
         works.now.engine.core.files.items) (objects_of works.now.engine.core))) }
 {
     let names = works.engine.objects(alloc)?;
@@ -53,8 +55,9 @@ pub fn touched<R: Runner>(
     works: &Works<R>,
     file: &str,
 ) -> Result<Option<Vec<Name>>, AllocError>
-    ensures { IfOk result (λ found. option_map vec_items found ≡ touched_of (machine_in R.meaning
-        works.now.engine.core) file.now (compiled_in works.now.engine.core)) }
+    ensures { IsFaithful R.meaning works.now → IfOk result (λ found. option_map vec_items found
+        ≡ touched_of (machine_in R.meaning works.now.engine.core) file.now
+        (compiled_in works.now.engine.core)) }
 {
     let left = works.engine.turns_left();
     if left > 0 {
@@ -67,8 +70,9 @@ pub fn touched<R: Runner>(
 
 /// The templates of the picture that no object reads or looks for, in byte order. None while turns are left.
 pub fn unused<R: Runner>(alloc: Global, works: &Works<R>) -> Result<Option<Vec<Text>>, AllocError>
-    ensures { IfOk result (λ found. option_map vec_items found ≡ unused_of (machine_in R.meaning
-        works.now.engine.core) (compiled_in works.now.engine.core)) }
+    ensures { IsFaithful R.meaning works.now → IfOk result (λ found. option_map vec_items found
+        ≡ unused_of (machine_in R.meaning works.now.engine.core)
+        (compiled_in works.now.engine.core)) }
 {
     let left = works.engine.turns_left();
     if left > 0 {

@@ -22,5 +22,5 @@ pub use impact::{touched, unused};
 pub use laws::{object_lists, untouched_answers};
 pub use starting::{new_works, start};
 pub use taking::{Took, take_next};
-pub use turning::make_turns;
+pub use turning::{make_all_turns, make_turns};
 pub use works::Works;

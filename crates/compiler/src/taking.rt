@@ -4,7 +4,7 @@ ghost use Rattle.pan_ast.specs.declared.work.Limits.{Limits};
 ghost use Rattle.scans.specs.Outcomes.{IsPassed, IsPerhapsPassed};
 ghost use Rattle.session.specs.Sessions.{Next, Done, state_in, scanned};
 ghost use Rattle.compiler.specs.Compiler.{Compiled, compiler};
-ghost use Rattle.compiler.specs.Standing.{Here, Counts, counts, IsAt, HasSpentAtMost, IsRising, Takes, TakesNext};
+ghost use Rattle.compiler.specs.Standing.{IsBegun, IsFaithful, Here, Counts, counts, IsAt, HasSpentAtMost, IsRising, Takes, TakesNext};
 
 use crate::works::Works;
 use base::Steps;
@@ -33,11 +33,14 @@ fn take<R: Runner, L: Ledger>(
     picture: Picture,
     steps: &mut Steps<L>,
 ) -> Result<Took, AllocError>
-    ensures took { IfOk result (λ how. (dirs : List (List ℕ)) (limits : Limits) (s : Here R.Rest)
-        (start : Counts) → IsAt dirs limits s works.old.engine.core start
-        (counts (R.runs_of works.old.runner) steps.old) → Takes (compiler (R.meaning dirs limits)
+    ensures took { IsBegun R.meaning works.old → IfOk result (λ how. (dirs : List (List ℕ))
+        (limits : Limits) (s : Here R.Rest) (start : Counts) → IsAt dirs limits s
+        works.old.engine.core start (counts (R.runs_of works.old.runner) steps.old) → Takes (compiler (R.meaning dirs limits)
         dirs) dirs limits picture s how works.new.engine.core start (counts (R.runs_of
         works.new.runner) steps.new)) }
+    ensures begun { IsBegun R.meaning works.old
+        → IfOk result (λ how. how ≡ Took.Taken → IsFaithful R.meaning works.new) }
+    ensures faithful { IsFaithful R.meaning works.old → IsFaithful R.meaning works.new }
     ensures source { IfOk result (λ how. how ≡ Took.Failed → ⊥) }
     ensures runs { R.runs_of works.new.runner ≡ R.runs_of works.old.runner }
     ensures steps { steps.new ≤ steps.old + length picture }
@@ -57,9 +60,9 @@ pub fn take_next<R: Runner, S: Source, L: Ledger>(
     source: &mut S,
     steps: &mut Steps<L>,
 ) -> Result<Took, AllocError>
-    ensures took { IfOk result (λ how. (dirs : List (List ℕ)) (limits : Limits) (s : Here R.Rest)
-        (start : Counts) → IsAt dirs limits s works.old.engine.core start
-        (counts (R.runs_of works.old.runner) steps.old) → S.coming source.old ≡ Some s.coming
+    ensures took { IsBegun R.meaning works.old → IfOk result (λ how. (dirs : List (List ℕ))
+        (limits : Limits) (s : Here R.Rest) (start : Counts) → IsAt dirs limits s
+        works.old.engine.core start (counts (R.runs_of works.old.runner) steps.old) → S.coming source.old ≡ Some s.coming
         → TakesNext (compiler (R.meaning dirs limits) dirs) dirs limits s how works.new.engine.core
         start (counts (R.runs_of works.new.runner) steps.new) (S.coming source.new)
         (S.fault_count source.old) (S.fault_count source.new)) }
@@ -69,6 +72,9 @@ pub fn take_next<R: Runner, S: Source, L: Ledger>(
         → (next : Here R.Rest → Next (Compiled R.Rest)) → IsRising next → HasSpentAtMost
         (state_in (scanned (compiler (R.meaning dirs limits) dirs) Done s next)) start
         (counts (R.runs_of works.new.runner) steps.new)) }
+    ensures begun { IsBegun R.meaning works.old
+        → IfOk result (λ how. how ≡ Took.Taken → IsFaithful R.meaning works.new) }
+    ensures faithful { IsFaithful R.meaning works.old → IsFaithful R.meaning works.new }
     ensures runs { R.runs_of works.new.runner ≡ R.runs_of works.old.runner }
     ensures taken { IfOk result (λ how. (how ≡ Took.Failed → ⊥)
         → IsPassed (S.coming source.old) (S.coming source.new)) }

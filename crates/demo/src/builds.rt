@@ -1,6 +1,6 @@
 ghost use Rattle.std.specs.Prelude.{◌≡◌, ◌≤◌, [], List, ℕ, IfOk, OnOk, OnErr, Some};
 ghost use Rattle.compiler.specs.Compiler.{Compiled, compiler, nothing};
-ghost use Rattle.compiler.specs.Standing.{Here, Counts, counts, HasSpentAtMost, IsAt, IsIn, compiled_in, machine_in};
+ghost use Rattle.compiler.specs.Standing.{IsFaithful, Here, Counts, counts, HasSpentAtMost, IsAt, IsIn, compiled_in, machine_in};
 ghost use Rattle.outside.specs.Causes.{Caused};
 ghost use Rattle.outside.specs.Contents.{Appends, AppendsPart};
 ghost use Rattle.outside.specs.declared.source.MemFile.{MemFile};
@@ -15,7 +15,7 @@ use crate::pictures::pictures;
 use crate::plan::Plan;
 use crate::report::last_line;
 use base::{Seq, Steps, Text};
-use compiler::{Took, Works, build, make_turns, start, take_next};
+use compiler::{Took, Works, build, make_all_turns, start, take_next};
 use outside::{Sink, StoreError, SureSource};
 use pan_ast::Limits;
 use runner::Runner;
@@ -41,8 +41,9 @@ fn push_line<R: Runner>(
 ) -> Result<bool, AllocError>
     requires line { line.old.items ≡ [] }
     requires settled { turns_left_of works.now.engine.core ≡ 0 }
-    ensures { IfOk result (λ faults. Says (machine_in R.meaning works.now.engine.core)
-        (compiled_in works.now.engine.core) faults line.new.items) }
+    ensures { IsFaithful R.meaning works.now → IfOk result (λ faults. Says
+        (machine_in R.meaning works.now.engine.core) (compiled_in works.now.engine.core) faults
+        line.new.items) }
 {
     let built = build(alloc, works)?;
     line.extend_from_slice(last_line(&built.report))?;
@@ -59,17 +60,19 @@ fn build_next<R: Runner, L: Ledger>(
     steps: &mut Steps<L>,
 ) -> Result<Step, AllocError>
     requires line { line.old.items ≡ [] }
-    ensures went { IfOk result (λ step. (dirs : List (List ℕ)) (limits : Limits) (s : Here R.Rest)
-        (start : Counts) → IsAt dirs limits s works.old.engine.core start
-        (counts (R.runs_of works.old.runner) steps.old) → source.old.coming ≡ s.coming → s.text ≡ []
-        → Goes (compiler (R.meaning dirs limits) dirs) dirs limits s step line.new.items
+    ensures went { IsFaithful R.meaning works.old → IfOk result (λ step. (dirs : List (List ℕ))
+        (limits : Limits) (s : Here R.Rest) (start : Counts) → IsAt dirs limits s
+        works.old.engine.core start (counts (R.runs_of works.old.runner) steps.old)
+        → source.old.coming ≡ s.coming → s.text ≡ [] → Goes (compiler (R.meaning dirs limits) dirs) dirs limits s step line.new.items
         has_faults.new works.new.engine.core source.new.coming start
         (counts (R.runs_of works.new.runner) steps.new)) }
-    ensures cut { OnErr result ((dirs : List (List ℕ)) (limits : Limits) (s : Here R.Rest)
-        (start : Counts) → IsAt dirs limits s works.old.engine.core start
-        (counts (R.runs_of works.old.runner) steps.old) → source.old.coming ≡ s.coming →
-        HasSpentAtMost (state_in (next (compiler (R.meaning dirs limits) dirs) build_round s)) start
-        (counts (R.runs_of works.new.runner) steps.new)) }
+    ensures cut { IsFaithful R.meaning works.old → OnErr result ((dirs : List (List ℕ))
+        (limits : Limits) (s : Here R.Rest) (start : Counts) → IsAt dirs limits s
+        works.old.engine.core start (counts (R.runs_of works.old.runner) steps.old)
+        → source.old.coming ≡ s.coming → HasSpentAtMost (state_in (next (compiler (R.meaning dirs
+        limits) dirs) build_round s)) start (counts (R.runs_of works.new.runner) steps.new)) }
+    ensures faithful { IsFaithful R.meaning works.old
+        → OnOk result (IsFaithful R.meaning works.new) }
 {
     match take_next(alloc, works, source, steps)? {
         Took::Failed => unreachable!(),
@@ -77,8 +80,7 @@ fn build_next<R: Runner, L: Ledger>(
         Took::SpendsNumbers => return Ok(Step::SpendsNumbers),
         Took::IsTooMuch => return Ok(Step::IsTooMuch),
     }
-    let left = works.engine.turns_left();
-    if !make_turns(alloc, works, left, steps)? {
+    if !make_all_turns(alloc, works, steps)? {
         return Ok(Step::SpendsNumbers);
     }
     *has_faults = push_line(alloc, works, line)?;
@@ -107,14 +109,14 @@ fn play<R: Runner, O: Sink, L: Ledger>(
     out: &mut O,
     steps: &mut Steps<L>,
 ) -> Result<Ended, End>
-    ensures ok { IfOk result (λ how. (dirs : List (List ℕ)) (limits : Limits)
-        (e : Compiled R.Rest) (ps : List (List MemFile)) → IsIn dirs limits works.old.engine.core e
+    ensures ok { IsFaithful R.meaning works.old → IfOk result (λ how. (dirs : List (List ℕ))
+        (limits : Limits) (e : Compiled R.Rest) (ps : List (List MemFile)) → IsIn dirs limits works.old.engine.core e
         → source.old.coming ≡ ps
         → Ends (builds (compiler (R.meaning dirs limits) dirs) 4 (started e ps [])) how
         (counts (R.runs_of works.old.runner) steps.old) (counts (R.runs_of works.new.runner)
         steps.new) (O.held out.old) (O.held out.new)) }
-    ensures err { OnErr result ((dirs : List (List ℕ)) (limits : Limits)
-        (e : Compiled R.Rest) (ps : List (List MemFile)) → IsIn dirs limits works.old.engine.core e
+    ensures err { IsFaithful R.meaning works.old → OnErr result ((dirs : List (List ℕ))
+        (limits : Limits) (e : Compiled R.Rest) (ps : List (List MemFile)) → IsIn dirs limits works.old.engine.core e
         → source.old.coming ≡ ps
         → Breaks (builds (compiler (R.meaning dirs limits) dirs) 4 (started e ps []))
         (counts (R.runs_of works.old.runner) steps.old) (counts (R.runs_of works.new.runner)
@@ -156,6 +158,7 @@ fn start_at_root<R: Runner>(
     limits: Limits,
 ) -> Result<(), AllocError>
     ensures at { OnOk result (IsIn demo_dirs limits works.new.engine.core nothing) }
+    ensures faithful { OnOk result (IsFaithful R.meaning works.new) }
     ensures runs { R.runs_of works.new.runner ≡ R.runs_of works.old.runner }
 {
     let dirs = root(alloc)?;

@@ -4,7 +4,7 @@ use Rattle.end_notes.specs.declared.notes.TheConstants.{USAGE}
 use Rattle.end_notes.specs.declared.wrong.Place.{Place}
 use Rattle.end_notes.specs.declared.wrong.Place.TheVariants.{Mode, Source, Out}
 use Rattle.end_notes.specs.declared.wrong.Wrong.{Wrong}
-use Rattle.end_notes.specs.declared.wrong.Wrong.TheVariants.{BadOption, Missing, Extra, BadMode, Empty, TakesNoOption, NotUtf8, Otherwise}
+use Rattle.end_notes.specs.declared.wrong.Wrong.TheVariants.{BadOption, StateWithoutFile, Missing, Extra, BadMode, Empty, TakesNoOption, TakesNoState, NotUtf8, Otherwise}
 
 abbrev pub place_name : Place → List ℕ
 place_name Mode = codes "MODE"
@@ -13,11 +13,13 @@ place_name Out = codes "OUT"
 
 abbrev pub wrong_text : Wrong → List ℕ
 wrong_text (BadOption word) = codes "no such option, or not with this value: " ++ word
+wrong_text StateWithoutFile = codes "FILE of --state is missing or empty"
 wrong_text (Missing place) = place_name place ++ codes " is missing"
 wrong_text (Extra word) = codes "one word too many: " ++ word
 wrong_text (BadMode word) = codes "no such MODE: " ++ word
 wrong_text (Empty place) = place_name place ++ codes " is empty"
 wrong_text TakesNoOption = codes "format takes no option"
+wrong_text TakesNoState = codes "only build takes --state"
 wrong_text NotUtf8 = codes "a word is not UTF-8"
 wrong_text Otherwise = codes "the words are no command"
 

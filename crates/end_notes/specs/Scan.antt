@@ -1,5 +1,6 @@
 -- The words of a command, one by one. Behind the word `--` each word is a place.
-use Rattle.std.specs.Prelude.{ℕ, ◌==◌, Bool, false, ◌&&◌, not, is_some, List, [], ◌∷◌, take, Option, Some, None, if◌then◌else◌, bytes_eq, codes}
+use Rattle.std.specs.Prelude.{ℕ, ◌==◌, Bool, false, ◌&&◌, ◌||◌, not, eqb, is_some, List, [], ◌∷◌, take, Option, Some, None, if◌then◌else◌, bytes_eq, codes}
+use Rattle.std.specs.List.{starts_with}
 use Rattle.command_words.specs.Commands.{command_of}
 use Rattle.end_notes.specs.declared.scan.Next.{Next}
 use Rattle.end_notes.specs.declared.scan.Next.TheVariants.{Free, Value}
@@ -32,6 +33,16 @@ wrong_option (word ∷ words) =
     else (if is_dashed word && not (stands_alone (word ∷ words))
     && not (takes_next (word ∷ words)) then Some word
     else wrong_option words)
+
+-- a word that is `--state`, by itself or with its FILE
+abbrev pub names_state : List ℕ → Bool
+names_state word = bytes_eq word (codes "--state") || starts_with eqb word (codes "--state=")
+
+-- `--state` is among the options
+abbrev pub has_state : List (List ℕ) → Bool
+has_state [] = false
+has_state (word ∷ words) =
+    if is_end word then false else (names_state word || has_state words)
 
 -- behind an option: its value, or a word of its own
 abbrev pub behind_option : List (List ℕ) → Next

@@ -7,7 +7,7 @@ use std::alloc::{AllocError, Global};
 
 /// How the program is called.
 pub const USAGE: &str =
-    "\nusage: pan build SOURCE OUT [OPTION..]    compiles the templates below SOURCE into OUT\n       pan watch SOURCE OUT [OPTION..]    the same, asked by lines on standard input\n       pan demo COUNT START [OPTION..]    four builds of a made-up site\n       pan format SOURCE OUT              each template of SOURCE in its one layout\n\noptions: --include LIST       include directories below SOURCE, joined by `:`\n         --max-iteration N    turns of a loop, 1 to 1000000\n         --max-recursion N    open calls of functions, 1 to 200\n         --most-removed N     files of OUT that a build may take away, 0 to 20000\n";
+    "\nusage: pan build SOURCE OUT [OPTION..]    compiles the templates below SOURCE into OUT\n       pan watch SOURCE OUT [OPTION..]    the same, asked by lines on standard input\n       pan demo COUNT START [OPTION..]    four builds of a made-up site\n       pan format SOURCE OUT              each template of SOURCE in its one layout\n\noptions: --include LIST       include directories below SOURCE, joined by `:`\n         --max-iteration N    turns of a loop, 1 to 1000000\n         --max-recursion N    open calls of functions, 1 to 200\n         --most-removed N     files of OUT that a build may take away, 0 to 20000\n         --state FILE         a file that keeps rows from run to run, for build alone\n";
 
 fn place_name(place: Place) -> &'static str
     ensures { result.now ≡ place_name place }
@@ -35,11 +35,15 @@ fn push_wrong(into: &mut Vec<u8>, wrong: &Wrong) -> Result<(), AllocError>
             "no such option, or not with this value: ",
             word.as_str(),
         ),
+        Wrong::StateWithoutFile => {
+            into.extend_from_slice(b"FILE of --state is missing or empty")
+        }
         Wrong::Missing(place) => push_parts(into, place_name(*place), " is missing"),
         Wrong::Extra(word) => push_parts(into, "one word too many: ", word.as_str()),
         Wrong::BadMode(word) => push_parts(into, "no such MODE: ", word.as_str()),
         Wrong::Empty(place) => push_parts(into, place_name(*place), " is empty"),
         Wrong::TakesNoOption => into.extend_from_slice(b"format takes no option"),
+        Wrong::TakesNoState => into.extend_from_slice(b"only build takes --state"),
         Wrong::NotUtf8 => into.extend_from_slice(b"a word is not UTF-8"),
         Wrong::Otherwise => into.extend_from_slice(b"the words are no command"),
     }

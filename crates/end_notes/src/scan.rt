@@ -1,5 +1,5 @@
 ghost use Rattle.std.specs.Prelude.{◌≡◌, ◌++◌, IfOk, OnOk};
-ghost use Rattle.end_notes.specs.Scan.{is_end, is_dashed, fits, stands_alone, takes_next, wrong_option, behind_option, places_in};
+ghost use Rattle.end_notes.specs.Scan.{is_end, is_dashed, fits, stands_alone, takes_next, wrong_option, names_state, has_state, behind_option, places_in};
 
 use base::Text;
 use command_words::read_command;
@@ -63,6 +63,28 @@ pub(crate) fn wrong_option(alloc: Global, words: &[Text]) -> Result<Option<Text>
         }
     }
     Ok(None)
+}
+
+/// Whether a word is `--state`, by itself or with its FILE.
+pub(crate) fn names_state(word: &str) -> bool
+    ensures { result ≡ names_state word.now }
+{
+    word == "--state" || word.starts_with("--state=")
+}
+
+/// Whether `--state` is among the options.
+pub(crate) fn has_state(words: &[Text]) -> bool
+    ensures { result ≡ has_state words.now }
+{
+    for word in words {
+        if is_end(word.as_str()) {
+            return false;
+        }
+        if names_state(word.as_str()) {
+            return true;
+        }
+    }
+    false
 }
 
 /// What the next word is.

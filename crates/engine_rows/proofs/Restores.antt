@@ -38,7 +38,7 @@ use Rattle.engine_turns.proofs.Entered.{all_noted, same_names, same_graded, same
 use Rattle.engine_turns.proofs.Once.{are_once, rising_once}
 use Rattle.rebuild.specs.Engines.{EngineSituation}
 use Rattle.rebuild.specs.Keeping.{build_items, check_items}
-use Rattle.engine_rows.specs.Restoring.{file_row, restored_row, without_paths, has_own_grade, is_fit, IsRestored, is_tree_last, has_tree, asks_tree, is_tree_item, tree_items, record_items, all_items}
+use Rattle.engine_rows.specs.Restoring.{file_row, restored_row, without_paths, has_own_grade, has_number, is_short, is_fit, IsRestored, is_tree_last, has_tree, asks_tree, is_tree_item, tree_items, record_items, all_items}
 use Rattle.rebuild.proofs.Appends.{no_more}
 use Rattle.rebuild.proofs.Moves.{not_true}
 
@@ -222,22 +222,26 @@ same_rising (n ∷ []) = refl
 same_rising (n ∷ m ∷ ns) = ap (λ b. is_below n m && b) (same_rising (m ∷ ns))
 
 -- what fits
-record Fits (s : Stored) : Type 0 where
-  three : 3 ≤ s.counter
-  low : s.counter ≤ END_OF_NUMBERS
-  files : are_rising (map file_name s.files) ≡ true
-  objects : are_rising (map object_name s.objects) ≡ true
-  graded : list_all has_own_grade s.objects ≡ true
-  few : length s.objects ≤ MAX_OBJECTS
+pub record Fits (s : Stored) : Type 0 where
+  pub three : 3 ≤ s.counter
+  pub low : s.counter ≤ END_OF_NUMBERS
+  pub files : are_rising (map file_name s.files) ≡ true
+  pub numbered : list_all has_number s.files ≡ true
+  pub short : list_all is_short s.files ≡ true
+  pub objects : are_rising (map object_name s.objects) ≡ true
+  pub graded : list_all has_own_grade s.objects ≡ true
+  pub few : length s.objects ≤ MAX_OBJECTS
 
-fits_is : (s : Stored) → is_fit s ≡ true → Fits s
+pub fits_is : (s : Stored) → is_fit s ≡ true → Fits s
 fits_is s e =
     let a = both (nat_le 3 s.counter) _ e in
     let b = both (nat_le s.counter END_OF_NUMBERS) _ a.1 in
     let d = both (stored_rising (map file_name s.files)) _ b.1 in
-    let f = both (stored_rising (map object_name s.objects)) _ d.1 in
+    let n = both (list_all has_number s.files) _ d.1 in
+    let h = both (list_all is_short s.files) _ n.1 in
+    let f = both (stored_rising (map object_name s.objects)) _ h.1 in
     let g = both (list_all has_own_grade s.objects) _ f.1 in
-    record { three = leb-true 3 s.counter a.0; low = leb-true s.counter END_OF_NUMBERS b.0; files = sym (same_rising (map file_name s.files)) ∙ d.0; objects = sym (same_rising (map object_name s.objects)) ∙ f.0; graded = g.0; few = leb-true (length s.objects) MAX_OBJECTS g.1 }
+    record { three = leb-true 3 s.counter a.0; low = leb-true s.counter END_OF_NUMBERS b.0; files = sym (same_rising (map file_name s.files)) ∙ d.0; numbered = n.0; short = h.0; objects = sym (same_rising (map object_name s.objects)) ∙ f.0; graded = g.0; few = leb-true (length s.objects) MAX_OBJECTS g.1 }
 
 pub rows_rise : {T : Type 0} (s : Stored) (rows : List (Row T)) → is_fit s ≡ true → rows ≡ map restored_row s.objects → are_rising (names rows) ≡ true
 rows_rise {T} s rows fit made = ap are_rising (ap names made ∙ row_names T s.objects) ∙ (fits_is s fit).objects

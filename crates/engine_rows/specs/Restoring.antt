@@ -1,8 +1,9 @@
 -- The engine that is restored from what was kept.
-use Rattle.std.specs.Prelude.{◌≡◌, ◌≤◌, ℕ, List, [], ◌∷◌, ◌++◌, Bool, true, false, ◌&&◌, cond, nat_le, Option, Some, None, map, length}
+use Rattle.std.specs.Prelude.{◌≡◌, ◌≤◌, ℕ, List, [], ◌∷◌, ◌++◌, Bool, true, false, ◌&&◌, cond, nat_le, nat_lt, Option, Some, None, map, length}
 use Rattle.std.specs.List.{list_all}
 use Rattle.asking.specs.declared.limits.TheConstants.{END_OF_NUMBERS}
 use Rattle.base.specs.declared.limits.TheConstants.{MAX_OBJECTS}
+use Rattle.load_path.specs.Pictures.{has_short_content}
 use Rattle.questions.specs.declared.key.Key.{Key}
 use Rattle.questions.specs.declared.key.Key.TheVariants.{File, Under}
 use Rattle.stored_rows.specs.Rows.{are_rising}
@@ -76,12 +77,22 @@ IsSoundKept m s = AreSoundRows (runner_of (m s.dirs s.limits).build) keeping
 abbrev pub has_own_grade : KeptObject → Bool
 has_own_grade o = has_grade o.number o.built
 
--- An engine can hold it: its counter is from 3 to the end of numbers, names rise, each result has a
--- number of its kind, and the objects are not too many.
+-- each file has a number
+abbrev pub has_number : KeptFile → Bool
+has_number f = nat_lt 0 f.number
+
+-- the file has no more bytes than a picture's file may have
+abbrev pub is_short : KeptFile → Bool
+is_short f = has_short_content f.content
+
+-- An engine can hold it: its counter is from 3 to the end of numbers, names rise, each file has a
+-- number and is one of a picture, each result has a number of its kind, and the objects are not too
+-- many.
 abbrev pub is_fit : Stored → Bool
 is_fit s = nat_le 3 s.counter && (nat_le s.counter END_OF_NUMBERS
-    && (are_rising (map file_name s.files) && (are_rising (map object_name s.objects)
-    && (list_all has_own_grade s.objects && nat_le (length s.objects) MAX_OBJECTS))))
+    && (are_rising (map file_name s.files) && (list_all has_number s.files
+    && (list_all is_short s.files && (are_rising (map object_name s.objects)
+    && (list_all has_own_grade s.objects && nat_le (length s.objects) MAX_OBJECTS))))))
 
 -- why it is not restored
 abbrev pub IsUnfit : RestoreError → Stored → Type 0

@@ -1,7 +1,7 @@
-//! What is kept of an engine from run to run, and an engine's data from what was kept.
+//! What is kept of an engine from run to run, and an engine from what was kept.
 //!
-//! In reading order: `storing` (what is kept), `restoring` (an engine's data from it), `laws` (what is kept is sound, and
-//! goes on).
+//! In reading order: `storing` (what is kept), `restoring` (an engine from it), `laws` (what is kept is sound, and goes
+//! on).
 #![tactic(auto)]
 
 mod laws;
@@ -9,5 +9,5 @@ mod restoring;
 mod storing;
 
 pub use laws::goes_on;
-pub use restoring::{RestoreError, restored};
+pub use restoring::{RestoreError, restore};
 pub use storing::kept;

@@ -1,29 +1,35 @@
-//! An engine's data from what was kept of an earlier one.
+//! An engine from what was kept of an earlier one.
 
 ghost use Rattle.std.specs.Prelude.{◌≡◌, ◌++◌, ◌∷◌, [], IfOk, IfErr, OnOk, true, map};
 ghost use Rattle.std.specs.List.{list_all};
 ghost use Rattle.object_names.specs.Objects.{are_rising};
 ghost use Rattle.read_sets.specs.Items.{pair_of, pairs_of};
+ghost use Rattle.load_path.specs.Pictures.{has_short_content};
 ghost use Rattle.kept_state.specs.Stored.{stored};
 ghost use Rattle.engine_turns.specs.Entering.{entry_pair};
 ghost use Rattle.engine_turns.specs.Places.{names};
 ghost use Rattle.engine_turns.specs.States.{has_grade};
-ghost use Rattle.engine_rows.specs.Restoring.{file_row, restored_row, has_own_grade, is_fit, IsUnfit, is_tree_last, has_tree, tree_items, record_items, all_items, IsRestored};
+ghost use Rattle.read_index.specs.Readers.{asks};
+ghost use Rattle.rebuild.specs.Sound.{IsSound};
+ghost use Rattle.engine_rows.specs.Restoring.{file_row, restored_row, has_own_grade, has_number, is_short, is_fit, IsUnfit, is_tree_last, has_tree, tree_items, record_items, all_items, IsRestored, IsSoundKept};
 ghost use Rattle.engine_rows.specs.declared.restoring.RestoreError.TheVariants.{Memory};
 
 use asking::limits::END_OF_NUMBERS;
 use base::Seq;
-use base::limits::MAX_OBJECTS;
+use base::limits::{MAX_FILE_BYTES, MAX_OBJECTS};
 use engine_turns::{
     Cause, CheckRecord, Core, Entry, FileRow, Last, Row, enter_all, entry_of, fault_number, row_in,
 };
 use foreign_values::Chain;
 use kept_state::limits::FIRST_NUMBER;
 use kept_state::{Kept, KeptFile, KeptObject};
+use load_path::Content;
 use pan_ast::Fault;
 use path_numbers::PathTable;
 use path_tree::{Name, Tree};
 use read_sets::{Item, Key};
+use rebuild::Engine;
+use runner::Runner;
 use std::alloc::{AllocError, AllocFailed, Global};
 use stored_rows::are_rising;
 
@@ -31,7 +37,8 @@ use stored_rows::are_rising;
 #[derive(Clone, Copy, Debug, PartialEq, Eq)]
 pub enum RestoreError {
     /// An engine cannot hold what was kept: its counter is below 3 or past the end of numbers, names of files or of
-    /// objects do not rise, a result has no number of its kind, or there are too many objects.
+    /// objects do not rise, a file has no number or over [MAX_FILE_BYTES], a result has no number of its kind, or there
+    /// are over [MAX_OBJECTS].
     Unfit,
     Memory,
 }
@@ -71,6 +78,30 @@ fn are_graded(objects: &[KeptObject]) -> bool
         .all(|object| has_grade(object.number, &object.built))
 }
 
+/// Whether each file has a number.
+fn are_numbered(files: &[KeptFile]) -> bool
+    ensures { result ≡ list_all has_number files.now }
+{
+    files.iter().all(|file| file.number > 0)
+}
+
+/// Whether a content has no more bytes than that of a picture's file.
+fn has_short_content(content: &Content) -> bool
+    ensures { result ≡ has_short_content content.now }
+{
+    match content {
+        Content::Bytes(bytes) => bytes.as_slice().len() <= MAX_FILE_BYTES,
+        Content::TooLong => true,
+    }
+}
+
+/// Whether no file has more bytes than that of a picture.
+fn are_short(files: &[KeptFile]) -> bool
+    ensures { result ≡ list_all is_short files.now }
+{
+    files.iter().all(|file| has_short_content(&file.content))
+}
+
 /// Whether an engine can hold what was kept.
 fn is_fit(kept: &Kept) -> bool
     ensures { result ≡ is_fit (stored kept.now) }
@@ -78,6 +109,8 @@ fn is_fit(kept: &Kept) -> bool
     FIRST_NUMBER <= kept.counter
         && kept.counter <= END_OF_NUMBERS
         && are_rising(&kept.files)
+        && are_numbered(&kept.files)
+        && are_short(&kept.files)
         && are_rising(&kept.objects)
         && are_graded(&kept.objects)
         && kept.objects.len() <= MAX_OBJECTS
@@ -245,7 +278,7 @@ fn record_entries<T>(alloc: Global, rows: &[Row<T>]) -> Result<Vec<Entry>, Alloc
 
 /// An engine's data from what was kept: its files, and its objects with their last results and records, nothing of them
 /// unsettled, all of them touched, and none of them run. `Unfit` exactly where an engine cannot hold it.
-pub fn restored<T: Drop>(alloc: Global, kept: Kept) -> Result<Core<T>, RestoreError>
+fn restored<T: Drop>(alloc: Global, kept: Kept) -> Result<Core<T>, RestoreError>
     ensures restored { IfOk result (λ core. IsRestored (stored kept) core) }
     ensures fit { OnOk result (is_fit (stored kept) ≡ true) }
     ensures refused { IfErr result (λ e. IsUnfit e (stored kept)) }
@@ -274,4 +307,18 @@ pub fn restored<T: Drop>(alloc: Global, kept: Kept) -> Result<Core<T>, RestoreEr
         first_build: 0,
         first_check: 0,
     })
+}
+
+/// An engine from what was kept of an earlier one: with its limits and directories, its counter, its files, and its
+/// objects with their last results and records, nothing of them unsettled, all of them touched, and none of them run.
+/// It is sound where what was kept is. `Unfit` exactly where an engine cannot hold it.
+pub fn restore<R: Runner>(alloc: Global, kept: Kept) -> Result<Engine<R>, RestoreError>
+    ensures restored { IfOk result (λ e. IsRestored (stored kept) e.core) }
+    ensures sound { IfOk result (λ e. ∥ IsSoundKept R.meaning (stored kept) ∥₁
+        → IsSound R.meaning e.core (asks e.index)) }
+    ensures fit { OnOk result (is_fit (stored kept) ≡ true) }
+    ensures refused { IfErr result (λ e. IsUnfit e (stored kept)) }
+{
+    let core = restored(alloc, kept)?;
+    Ok(Engine::with_core(alloc, core))
 }

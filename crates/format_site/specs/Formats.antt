@@ -1,19 +1,14 @@
 -- What formatting a site writes, puts and leaves, by the pictures that the source has to give.
 use Rattle.std.specs.Prelude.{◌≡◌, ℕ, is_some, true, List, [], Option, Some, None, IfSome, bytes_eq, flat_map, nat_lt}
 use Rattle.command_words.specs.declared.commands.Pair.{Pair}
-use Rattle.compiler.specs.Standing.{Counts}
 use Rattle.format_files.specs.Layouts.{fault_count, layouts, report}
 use Rattle.load_path.specs.declared.picture.PictureFile.{PictureFile}
 use Rattle.outside.specs.Causes.{Counted}
 use Rattle.outside.specs.Cells.{Cell, AreSame}
 use Rattle.outside.specs.Contents.{Appends}
 use Rattle.outside.specs.Pictures.{next_picture}
-use Rattle.outside.specs.declared.lines.Lines as lines
 use Rattle.outside.specs.declared.shelf.Change.{Change}
-use Rattle.outside.specs.declared.shelf.Shelf as shelf
-use Rattle.outside.specs.declared.sink.Sink as sink
 use Rattle.outside.specs.declared.source.MemFile.{MemFile}
-use Rattle.outside.specs.declared.source.Source as source
 use Rattle.publication.specs.Changing.{putting, Made, Begun, Tells}
 use Rattle.publication.specs.Puts.{placed, PutsLeave}
 use Rattle.publication.specs.Wants.{wanted}
@@ -28,7 +23,6 @@ use Rattle.site_build.specs.Session.{IsPassed, IsPerhapsOpened, TakesEarly, Writ
 use Rattle.site_build.specs.declared.ends.Device.TheVariants as D
 use Rattle.site_build.specs.declared.ends.End.{End}
 use Rattle.site_build.specs.declared.ends.End.TheVariants as E
-use Rattle.site_build.specs.declared.handed.Devices.{Devices}
 
 -- what is written, how it ends, and what is wanted on the shelf
 pub record Formatting : Type 0 where
@@ -74,24 +68,6 @@ Stopped (E.Publishing m) ws old new =
     (is_some (wanted ws m) ≡ true) × PutsLeave (bytes_eq m) ws old new
 Stopped E.Out ws old new = Places ws old new
 Stopped E.Memory ws old new = (m : List ℕ) × PutsLeave (bytes_eq m) ws old new
-
--- what the devices tell, beside the runs and steps that were made
-abbrev pub seen : {S H N O : Type 0} → source.Ghosts S → shelf.Ghosts H → lines.Ghosts N
-    → sink.Ghosts O → Devices S H N O → Counts → Scene
-seen S H N O devices spent = record {
-  coming = S.coming devices.source;
-  source_opened = S.opened devices.source;
-  source_count = S.fault_count devices.source;
-  cell = H.cell devices.shelf;
-  changes = H.changes devices.shelf;
-  shelf_opened = H.opened devices.shelf;
-  shelf_count = H.fault_count devices.shelf;
-  lines = N.left devices.lines;
-  lines_count = N.fault_count devices.lines;
-  held = O.held devices.out;
-  out_count = O.fault_count devices.out;
-  spent = spent;
-}
 
 -- It came to its end: its text is written, and each wanted name has its bytes. Exactly the puts that
 -- were needed were made. The roots are those that the words name, one picture was taken, no line was

@@ -1,6 +1,7 @@
 ghost use Rattle.std.specs.Prelude.{◌≡◌, IfErr, IfOk};
 ghost use Rattle.compiler.specs.Standing.{Counts};
-ghost use Rattle.format_site.specs.Formats.{Breaks, Finishes, seen};
+ghost use Rattle.format_site.specs.Formats.{Breaks, Finishes};
+ghost use Rattle.site_build.specs.Scenes.{seen};
 
 use crate::formatting::format_next;
 use command_words::Pair;

@@ -9,9 +9,10 @@ mod notes;
 use crate::notes::{Told, write_notes};
 use base::{Steps, Text};
 use end_notes::asked_of;
+use host_keeper::HostKeeper;
 use object_run::Library;
 use outside::{HostLines, HostShelf, HostSink, HostSource, KeepingSink};
-use pan_top::{Devices, Status, pan};
+use pan_top::{Devices, HandedBack, Status, pan};
 use std::alloc::AllocError;
 use std::marker::Brand;
 use std::process::ExitCode;
@@ -48,15 +49,23 @@ fn run<L: Ledger>(rt: &HostRuntime, blank: Blank) -> Result<Status, AllocError>
         out: KeepingSink::new(rt.alloc(), HostSink::new(rt.stdout())),
     };
     let mut steps = Steps::<L>::new(blank);
-    let ended = pan(rt.alloc(), words, runner, devices, &mut steps);
+    let keeper = HostKeeper::new(rt.clone()?);
+    let HandedBack {
+        status,
+        runner: _,
+        devices,
+        keeper,
+    } = pan(rt.alloc(), words, runner, devices, keeper, &mut steps);
     let told = Told {
         words: read.as_ref(),
-        source: ended.devices.source.trouble(),
-        shelf: ended.devices.shelf.trouble(),
-        faults: ended.devices.out.fault_lines(),
+        source: devices.source.trouble(),
+        shelf: devices.shelf.trouble(),
+        faults: devices.out.fault_lines(),
     };
-    write_notes(rt, ended.status, &told);
-    Ok(ended.status)
+    write_notes(rt, status, &told);
+    // What is not copied back stays in the log beside the file, which the next opening reads.
+    let _ = keeper.close();
+    Ok(status)
 }
 
 fn main(rt: HostRuntime) -> ExitCode {

@@ -1,6 +1,6 @@
 -- The call of a command, and want of memory before the words were read.
 use Rattle.std.proofs.Common.{◌≡◌, ℕ, List, [], Option, Some, None, inl, inr, refl, subst, codes}
-use Rattle.std.specs.Prelude.{flat_map}
+use Rattle.std.specs.Prelude.{flat_map, option_map}
 use Rattle.command_words.specs.declared.commands.Command.{Command}
 use Rattle.command_words.specs.declared.commands.Command.TheVariants.{Build, Watch, Demo, Format}
 use Rattle.compiler.specs.Standing.{Counts}
@@ -22,7 +22,13 @@ use Rattle.outside.specs.Causes.{Counted}
 use Rattle.outside.specs.Cells.{Cell}
 use Rattle.pan_top.specs.Builds.{Wrote}
 use Rattle.command_words.specs.Commands.{command_of}
-use Rattle.pan_top.specs.Calls.{CallOf}
+use Rattle.command_words.specs.declared.commands.Work.{Work}
+use Rattle.keepers.specs.Keeping.{Follows, unchanged}
+use Rattle.kept_build.specs.Ends.{IsFailure, IsKeeperFailure}
+use Rattle.kept_build.specs.Stores.{Store}
+use Rattle.kept_build.specs.declared.ends.End.TheVariants as K
+use Rattle.pan_top.specs.Calls.{CallBy, CallOf, PlainCall}
+use Rattle.pan_top.specs.KeptBuilds.{KeptCall}
 use Rattle.pan_top.specs.Demos.{shown_by, text_after}
 use Rattle.site_build.specs.Scenes.{Scene}
 use Rattle.pan_top.specs.declared.status.Status.{Status}
@@ -36,7 +42,7 @@ uncounted n = counted_same (S.Memory ≡ S.OutFault) n n refl (λ is. cc)
 still : (shelf : List ℕ → Stand) (cell : List ℕ → Cell) → Stopped E.Memory shelf cell cell
 still shelf cell = ([], record { others = λ n other. refl; own = λ n closed. inl refl })
 
-pub nothing_done : {T : Type 0} (M : Meanings T) (command : Option Command) (s : Scene) → CallOf M command S.Memory s s
+pub nothing_done : {T : Type 0} (M : Meanings T) (command : Option Command) (s : Scene) → PlainCall M command S.Memory s s
 nothing_done M None s = record { only = refl; spent = refl; line = inr (inr refl, none_of (codes "usage fault\n") s.held); out_count = uncounted s.out_count }
 nothing_done M (Some (Build w)) s = record {
   session = inr (record {
@@ -92,6 +98,68 @@ nothing_done M (Some (Format p)) s = inr (record {
   lines_count = refl;
 })
 
+-- what a keeper tells is as it was
+unchanged_cell : (cell : List ℕ → Cell) → Follows unchanged cell cell
+unchanged_cell cell n = inr (same (cell n))
+  where
+    same : (c : Cell) → c ≡ option_map (unchanged n) c
+    same None = refl
+    same (Some content) = refl
+
+-- .. nor anything by a build with a keeper
+nothing_kept : {T : Type 0} (M : Meanings T) (w : Work) (file : List ℕ) (s : Scene) (store : Store)
+    → KeptCall M w file S.Memory s s store store
+nothing_kept M w file s store = inr (record {
+  end = K.Build E.Memory;
+  is = inl refl;
+  mid = s;
+  broke = inl (record {
+    opening = tt;
+    bad = λ is. cc;
+    held = refl;
+    coming = refl;
+    shelf = λ n. refl;
+    changes = refl;
+    spent = refl;
+    rows = unchanged_cell store.cell;
+    source_opened = inl refl;
+    shelf_opened = inl refl;
+    store_opened = inl refl;
+    source_count = counted_same (IsFailure D.Source (K.Build E.Memory)) s.source_count
+        s.source_count refl (λ is. cc);
+    shelf_count = counted_same (IsFailure D.Shelf (K.Build E.Memory)) s.shelf_count s.shelf_count
+        refl (λ is. cc);
+    out_count = refl;
+    store_count = counted_same (IsKeeperFailure (K.Build E.Memory)) store.count store.count refl
+        (λ is. is);
+    lines = refl;
+    lines_count = refl;
+  });
+  closes = (refl, none_of [] s.held);
+  only = refl;
+  out_count = uncounted s.out_count;
+})
+
+-- nothing was done by a call, whatever the command
+pub nothing_called : {T : Type 0} (M : Meanings T) (command : Option Command) (s : Scene)
+    (store : Store) → CallOf M command S.Memory s s store store
+nothing_called M None s store = (nothing_done M None s, refl)
+nothing_called M (Some (Build w)) s store = by w.state
+  where
+    by : (file : Option (List ℕ)) → CallBy M (Some (Build w)) file S.Memory s s store store
+    by None = (nothing_done M (Some (Build w)) s, refl)
+    by (Some file) = nothing_kept M w file s store
+nothing_called M (Some (Watch w)) s store = (nothing_done M (Some (Watch w)) s, refl)
+nothing_called M (Some (Demo d)) s store = (nothing_done M (Some (Demo d)) s, refl)
+nothing_called M (Some (Format p)) s store = (nothing_done M (Some (Format p)) s, refl)
+
 -- the call of the command that the words are, by a runner that has made as many runs
-pub called : {T : Type 0} (M : Meanings T) (words : List (List ℕ)) (command : Option Command) (status : Status) (before after : Scene) (spent : Counts) → command ≡ command_of words → spent ≡ before.spent → CallOf M command status (record before { spent = spent }) after → CallOf M (command_of words) status before after
-called M words command status before after spent is same call = subst (λ command. CallOf M command status before after) is (subst (λ s. CallOf M command status (record before { spent = s }) after) same call)
+pub called : {T : Type 0} (M : Meanings T) (words : List (List ℕ)) (command : Option Command)
+    (status : Status) (before after : Scene) (spent : Counts) (store store_now : Store)
+    → command ≡ command_of words → spent ≡ before.spent
+    → CallOf M command status (record before { spent = spent }) after store store_now
+    → CallOf M (command_of words) status before after store store_now
+called M words command status before after spent store store_now is same call =
+    subst (λ command. CallOf M command status before after store store_now) is
+    (subst (λ s. CallOf M command status (record before { spent = s }) after store store_now) same
+    call)

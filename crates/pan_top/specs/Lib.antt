@@ -1,7 +1,8 @@
--- What a stranger must believe: the statuses and their lines; how a build, a watcher, a demo and a
--- formatting end; the call; what profiles keep; and what a layout keeps.
+-- What a stranger must believe: the statuses and their lines; how a build, one with a keeper, a
+-- watcher, a demo and a formatting end; the call; what profiles keep; and what a layout keeps.
 pub mod Statuses
 pub mod Builds
+pub mod KeptBuilds
 pub mod Watches
 pub mod Demos
 pub mod Formats

@@ -5,6 +5,8 @@ use Rattle.session.specs.declared.Ended.{Ended}
 use Rattle.session.specs.declared.Ended.TheVariants as ended
 use Rattle.site_build.specs.declared.ends.End.{End}
 use Rattle.site_build.specs.declared.ends.End.TheVariants as E
+use Rattle.kept_build.specs.declared.ends.End as kept
+use Rattle.kept_build.specs.declared.ends.End.TheVariants as K
 use Rattle.pan_top.specs.declared.status.Status.{Status}
 use Rattle.pan_top.specs.declared.status.Status.TheVariants as S
 
@@ -15,12 +17,14 @@ exit_code_of S.SomeFaults = 1
 exit_code_of S.Usage = 2
 exit_code_of S.SourceFault = 3
 exit_code_of S.ShelfFault = 4
+exit_code_of S.KeeperFault = 5
 exit_code_of S.LinesFault = 6
 exit_code_of S.OutFault = 7
 exit_code_of S.Memory = 8
 exit_code_of S.NumbersSpent = 9
 exit_code_of S.TooManyLines = 10
 exit_code_of S.TooMuch = 11
+exit_code_of S.BadRows = 12
 exit_code_of (S.TooManyRemovals removals) = 13
 
 -- of a session that came to its end
@@ -38,6 +42,13 @@ status_of E.Shelf = S.ShelfFault
 status_of (E.Publishing object) = S.ShelfFault
 status_of E.Out = S.OutFault
 status_of E.Memory = S.Memory
+
+-- .. of one with a keeper
+abbrev pub status_of_kept : kept.End → Status
+status_of_kept (K.Build e) = status_of e
+status_of_kept K.Keeper = S.KeeperFault
+status_of_kept K.Saving = S.KeeperFault
+status_of_kept K.BadRows = S.BadRows
 
 abbrev pub line_of : End → List ℕ
 line_of E.Source = codes "source fault\n"

@@ -4,12 +4,15 @@ ghost use Rattle.site_build.specs.Ends.{IsFailureOf};
 ghost use Rattle.site_build.specs.Session.{WritesEarly};
 ghost use Rattle.site_build.specs.declared.ends.Device.TheVariants as device;
 ghost use Rattle.pan_top.specs.Builds.{Wrote};
-ghost use Rattle.pan_top.specs.Statuses.{IsCut, Says, status_of};
+ghost use Rattle.kept_build.specs.Ends.{IsFailure};
+ghost use Rattle.pan_top.specs.KeptBuilds.{Closes};
+ghost use Rattle.pan_top.specs.Statuses.{IsCut, Says, status_of, status_of_kept};
 ghost use Rattle.pan_top.specs.declared.status.Status.{Status};
 
 use crate::status::Status;
 use base::Text;
 use outside::Sink;
+use kept_build::End as KeptEnd;
 use site_build::{End, write};
 use std::alloc::{AllocError, Global};
 
@@ -66,5 +69,21 @@ pub fn close_build<O: Sink>(alloc: Global, end: &End, out: &mut O) -> Status
         End::Publishing(object) => say_name(alloc, object, out),
         End::Out => Status::OutFault,
         End::Memory => Status::Memory,
+    }
+}
+
+/// Writes the line of an end of a build with a keeper that came early, and gives the status.
+pub fn close_kept<O: Sink>(alloc: Global, end: &KeptEnd, out: &mut O) -> Status
+    ensures status { (result ≡ status_of_kept end.now) ⊎ IsCut result }
+    ensures closes { Closes end.now result (O.held out.old) (O.held out.new) }
+    ensures count { (before : ℕ) → Counted (IsFailure device.Out end.now) before
+        (O.fault_count out.old) → Counted (result ≡ Status.OutFault) before
+        (O.fault_count out.new) }
+{
+    match end {
+        KeptEnd::Build(end) => close_build(alloc, end, out),
+        KeptEnd::Keeper => say(out, b"keeper fault\n", Status::KeeperFault),
+        KeptEnd::Saving => say(out, b"keeper fault\n", Status::KeeperFault),
+        KeptEnd::BadRows => say(out, b"bad rows\n", Status::BadRows),
     }
 }

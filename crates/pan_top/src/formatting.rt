@@ -1,4 +1,4 @@
-ghost use Rattle.format_site.specs.Formats.{seen};
+ghost use Rattle.site_build.specs.Scenes.{seen};
 ghost use Rattle.compiler.specs.Standing.{Counts};
 ghost use Rattle.pan_top.specs.Formats.{FormatCall};
 

@@ -1,6 +1,7 @@
 ghost use Rattle.std.specs.Prelude.{◌≡◌};
-ghost use Rattle.pan_top.specs.Statuses.{exit_code_of, status_after, status_of};
+ghost use Rattle.pan_top.specs.Statuses.{exit_code_of, status_after, status_of, status_of_kept};
 
+use kept_build::End as KeptEnd;
 use session::Ended;
 use site_build::End;
 
@@ -17,6 +18,8 @@ pub enum Status {
     SourceFault,
     /// The shelf failed.
     ShelfFault,
+    /// The keeper of the rows failed.
+    KeeperFault,
     /// A line could not be read.
     LinesFault,
     /// The text could not be written.
@@ -29,6 +32,8 @@ pub enum Status {
     TooManyLines,
     /// The source is past the limits of a scan.
     TooMuch,
+    /// The file of the rows holds rows that no build has kept.
+    BadRows,
     /// A build was to remove so many files of OUT, which is more than it may: nothing was changed.
     TooManyRemovals(usize),
 }
@@ -44,12 +49,14 @@ impl Status {
             Status::Usage => 2,
             Status::SourceFault => 3,
             Status::ShelfFault => 4,
+            Status::KeeperFault => 5,
             Status::LinesFault => 6,
             Status::OutFault => 7,
             Status::Memory => 8,
             Status::NumbersSpent => 9,
             Status::TooManyLines => 10,
             Status::TooMuch => 11,
+            Status::BadRows => 12,
             Status::TooManyRemovals(_) => 13,
         }
     }
@@ -76,6 +83,17 @@ impl Status {
             End::Shelf | End::Publishing(_) => Status::ShelfFault,
             End::Out => Status::OutFault,
             End::Memory => Status::Memory,
+        }
+    }
+
+    /// The status of a build with a keeper that ended early.
+    pub(crate) fn of_kept_end(end: &KeptEnd) -> Status
+        ensures { result ≡ status_of_kept end.now }
+    {
+        match end {
+            KeptEnd::Build(end) => Status::of_end(end),
+            KeptEnd::Keeper | KeptEnd::Saving => Status::KeeperFault,
+            KeptEnd::BadRows => Status::BadRows,
         }
     }
 }

@@ -1,6 +1,12 @@
-ghost use Rattle.std.specs.Prelude.{◌≤◌, ℕ, List, length};
+ghost use Rattle.std.specs.Prelude.{◌≤◌, ℕ, List, [], Some, length};
 ghost use Rattle.asking.specs.declared.limits.TheConstants.{MAX_WORK};
 ghost use Rattle.command_words.specs.Commands.{command_of};
+ghost use Rattle.command_words.specs.declared.commands.Command.TheVariants.{Build};
+ghost use Rattle.command_words.specs.declared.commands.Work.{Work};
+ghost use Rattle.kept_build.specs.Kept.{IsSoundStart};
+ghost use Rattle.kept_build.specs.Stores.{store_of};
+ghost use Rattle.kept_state.specs.Stored.{Stored};
+ghost use Rattle.record_rows.specs.Rows.{Give};
 ghost use Rattle.compiler.specs.Untouched.{LeavesRest};
 ghost use Rattle.pan_ast.specs.declared.work.Limits.{Limits};
 ghost use Rattle.site_build.specs.Scenes.{scene};
@@ -11,52 +17,88 @@ ghost use Rattle.pan_top.specs.Profiles.{AreKept};
 use crate::building::build;
 use crate::closing::say;
 use crate::formatting::format_templates;
-use crate::handed_back::{HandedBack, hand_back};
+use crate::handed_back::{HandedBack, beside, hand_back};
+use crate::keeping::build_with_rows;
 use crate::showing::show;
 use crate::status::Status;
 use crate::watching::watch;
 use base::{Steps, Text};
-use command_words::{Command, read_command};
-use compiler::new_works;
+use command_words::{Command, Work, read_command};
+use compiler::{Works, new_works};
+use keepers::Keeper;
+use kept_build::{KeptDevices, KeptWork};
 use outside::{Lines, Shelf, Sink, Source};
 use runner::Runner;
 use site_build::Devices;
 use std::alloc::{AllocError, Global};
 use std::sync::ledger::Ledger;
 
+/// A build, with a keeper where its words name a file of rows.
+fn carry_out_build<R: Runner, S: Source, H: Shelf, K: Keeper, N: Lines, O: Sink, L: Ledger>(
+    alloc: Global,
+    work: &Work,
+    works: Works<R>,
+    devices: Devices<S, H, N, O>,
+    keeper: K,
+    steps: &mut Steps<L>,
+) -> HandedBack<R, S, H, K, N, O>
+    ensures { CallOf R.meaning (Some (Build work.now)) result.status
+        (scene R.Runner S.Source H.Shelf N.Lines O.Sink works.runner devices steps.old)
+        (scene R.Runner S.Source H.Shelf N.Lines O.Sink result.runner result.devices steps.new)
+        (store_of K.Keeper keeper) (store_of K.Keeper result.keeper) }
+{
+    let mut works = works;
+    let Some(file) = &work.state else {
+        let mut devices = devices;
+        let status = build(alloc, work, &mut works, &mut devices, steps);
+        return beside(hand_back(status, works, devices), keeper);
+    };
+    let request = KeptWork {
+        work,
+        file: file.as_str(),
+    };
+    let mut kept = KeptDevices { devices, keeper };
+    let status = build_with_rows(alloc, &request, &mut works, &mut kept, steps);
+    let KeptDevices { devices, keeper } = kept;
+    beside(hand_back(status, works, devices), keeper)
+}
+
 /// Carries out the command that the words are.
-fn carry_out<R: Runner, S: Source, H: Shelf, N: Lines, O: Sink, L: Ledger>(
+fn carry_out<R: Runner, S: Source, H: Shelf, K: Keeper, N: Lines, O: Sink, L: Ledger>(
     alloc: Global,
     words: &[Text],
     runner: R,
     devices: Devices<S, H, N, O>,
+    keeper: K,
     steps: &mut Steps<L>,
-) -> HandedBack<R, S, H, N, O>
+) -> HandedBack<R, S, H, K, N, O>
     ensures { CallOf R.meaning (command_of words.now) result.status
         (scene R.Runner S.Source H.Shelf N.Lines O.Sink runner devices steps.old)
-        (scene R.Runner S.Source H.Shelf N.Lines O.Sink result.runner result.devices steps.new) }
+        (scene R.Runner S.Source H.Shelf N.Lines O.Sink result.runner result.devices steps.new)
+        (store_of K.Keeper keeper) (store_of K.Keeper result.keeper) }
 {
     let mut works = new_works(alloc, runner);
     let mut devices = devices;
     match read_command(alloc, words) {
         Ok(Some(Command::Build(work))) => {
-            let status = build(alloc, &work, &mut works, &mut devices, steps);
-            hand_back(status, works, devices)
+            carry_out_build(alloc, &work, works, devices, keeper, steps)
         }
-        Ok(Some(Command::Watch(work))) => watch(alloc, &work, works, devices, steps),
+        Ok(Some(Command::Watch(work))) => {
+            beside(watch(alloc, &work, works, devices, steps), keeper)
+        }
         Ok(Some(Command::Demo(demonstration))) => {
             let status = show(alloc, &demonstration, &mut works, &mut devices.out, steps);
-            hand_back(status, works, devices)
+            beside(hand_back(status, works, devices), keeper)
         }
         Ok(Some(Command::Format(pair))) => {
             let status = format_templates(alloc, &pair, &mut devices);
-            hand_back(status, works, devices)
+            beside(hand_back(status, works, devices), keeper)
         }
         Ok(None) => {
             let status = say(&mut devices.out, b"usage fault\n", Status::Usage);
-            hand_back(status, works, devices)
+            beside(hand_back(status, works, devices), keeper)
         }
-        Err(AllocError) => hand_back(Status::Memory, works, devices),
+        Err(AllocError) => beside(hand_back(Status::Memory, works, devices), keeper),
     }
 }
 
@@ -70,23 +112,31 @@ fn carry_out<R: Runner, S: Source, H: Shelf, N: Lines, O: Sink, L: Ledger>(
 /// of the objects that a watcher's `impact` names (`edits`). A layout keeps the template, its comments and its annotations
 /// (`layouts`), and has itself as its layout (`settled`).
 ///
-/// The runner and the devices are handed back with the status. `steps` rises by the session's steps: one for each file that is taken, for each item that is compared, and the work of
+/// Where the words name a file of rows, the keeper is opened there: a build goes on from the rows of an earlier one, and
+/// keeps its own. What is said of it stands on these rows being sound, as those are that a build has kept, and as none
+/// are (`unkept`); no other command does anything with the keeper.
+///
+/// The runner, the devices and the keeper are handed back with the status. `steps` rises by the session's steps: one for each file that is taken, for each item that is compared, and the work of
 /// each run.
-pub fn pan<R: Runner, S: Source, H: Shelf, N: Lines, O: Sink, L: Ledger>(
+pub fn pan<R: Runner, S: Source, H: Shelf, K: Keeper, N: Lines, O: Sink, L: Ledger>(
     alloc: Global,
     words: &[Text],
     runner: R,
     devices: Devices<S, H, N, O>,
+    keeper: K,
     steps: &mut Steps<L>,
-) -> HandedBack<R, S, H, N, O>
+) -> HandedBack<R, S, H, K, N, O>
     ensures call { CallOf R.meaning (command_of words.now) result.status
         (scene R.Runner S.Source H.Shelf N.Lines O.Sink runner devices steps.old)
-        (scene R.Runner S.Source H.Shelf N.Lines O.Sink result.runner result.devices steps.new) }
+        (scene R.Runner S.Source H.Shelf N.Lines O.Sink result.runner result.devices steps.new)
+        (store_of K.Keeper keeper) (store_of K.Keeper result.keeper) }
+    ensures unkept { (work : Work) (found : Stored) → Give [] found
+        → IsSoundStart R.meaning work found }
     ensures profiles { AreKept R.meaning R.promises }
     ensures edits { (dirs : List (List ℕ)) (limits : Limits) → length dirs ≤ MAX_WORK
         → LeavesRest (R.meaning dirs limits) dirs }
     ensures layouts { LayoutsKeep }
     ensures settled { LayoutsSettle }
 {
-    carry_out(alloc, words, runner, devices, steps)
+    carry_out(alloc, words, runner, devices, keeper, steps)
 }

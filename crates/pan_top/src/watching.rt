@@ -1,4 +1,5 @@
 ghost use Rattle.std.specs.Prelude.{◌≡◌, ◌≤◌, ◌⊎◌, ℕ, List, Option, Some, IfOk, IfErr, OnOk};
+ghost use Rattle.compiler.specs.Standing.{IsFaithful};
 ghost use Rattle.outside.specs.Causes.{Caused, Counted};
 ghost use Rattle.outside.specs.Cells.{AreSame};
 ghost use Rattle.publication.specs.Published.{Knows};
@@ -11,7 +12,7 @@ ghost use Rattle.pan_top.specs.Watches.{EndsWith, HasListed, IsOpening, PlaysAll
 ghost use Rattle.pan_top.specs.declared.status.Status.{Status};
 
 use crate::closing::{close_build, say};
-use crate::handed_back::HandedBack;
+use crate::handed_back::{Returned, hand_back};
 use crate::status::Status;
 use base::Steps;
 use command_words::Work;
@@ -115,8 +116,9 @@ fn play_all<R: Runner, S: Source, H: Shelf, N: Lines, O: Sink, L: Ledger>(
     publisher: Publisher,
     devices: Devices<S, H, N, O>,
     steps: &mut Steps<L>,
-) -> HandedBack<R, S, H, N, O>
-    requires { Knows publisher (H.cell devices.shelf) }
+) -> Returned<R, S, H, N, O>
+    requires knows { Knows publisher (H.cell devices.shelf) }
+    requires faithful { IsFaithful R.meaning works }
     ensures { PlaysAll R.meaning works.engine.core publisher result.status
         (scene R.Runner S.Source H.Shelf N.Lines O.Sink works.runner devices steps.old)
         (scene R.Runner S.Source H.Shelf N.Lines O.Sink result.runner result.devices steps.new) }
@@ -155,7 +157,7 @@ fn play_all<R: Runner, S: Source, H: Shelf, N: Lines, O: Sink, L: Ledger>(
         lines,
         out,
     };
-    HandedBack {
+    Returned {
         status,
         runner,
         devices,
@@ -171,7 +173,7 @@ pub fn watch<R: Runner, S: Source, H: Shelf, N: Lines, O: Sink, L: Ledger>(
     works: Works<R>,
     devices: Devices<S, H, N, O>,
     steps: &mut Steps<L>,
-) -> HandedBack<R, S, H, N, O>
+) -> Returned<R, S, H, N, O>
     ensures { WatchCall R.meaning work.now result.status
         (scene R.Runner S.Source H.Shelf N.Lines O.Sink works.runner devices steps.old)
         (scene R.Runner S.Source H.Shelf N.Lines O.Sink result.runner result.devices steps.new) }
@@ -182,30 +184,11 @@ pub fn watch<R: Runner, S: Source, H: Shelf, N: Lines, O: Sink, L: Ledger>(
         Ok(publisher) => publisher,
         Err(end) => {
             let status = close_build(alloc, &end, &mut devices.out);
-            let Works {
-                engine: _engine,
-                runner,
-                directories: _directories,
-            } = works;
-            return HandedBack {
-                status,
-                runner,
-                devices,
-            };
+            return hand_back(status, works, devices);
         }
     };
     let Ok(()) = start(alloc, &mut works, limits(work), work.directories.as_slice()) else {
-        let status = Status::Memory;
-        let Works {
-            engine: _engine,
-            runner,
-            directories: _directories,
-        } = works;
-        return HandedBack {
-            status,
-            runner,
-            devices,
-        };
+        return hand_back(Status::Memory, works, devices);
     };
     play_all(alloc, works, publisher, devices, steps)
 }

@@ -1,6 +1,6 @@
 //! The engine.
 
-ghost use Rattle.std.specs.Prelude.{◌≡◌, ◌↔◌, [], ◌≤◌, ◌+◌, ◌-◌, true, IfOk, IfErr, OnOk, OnErr, length};
+ghost use Rattle.std.specs.Prelude.{◌≡◌, ◌↔◌, [], ◌≤◌, ◌+◌, ◌-◌, false, true, IfOk, IfErr, OnOk, OnErr, length};
 ghost use Rattle.asking.specs.declared.limits.TheConstants.{END_OF_NUMBERS};
 ghost use Rattle.base.specs.declared.limits.TheConstants.{MAX_OBJECTS};
 ghost use Rattle.rebuild.specs.Engines.{is_ready};
@@ -48,6 +48,7 @@ fn shared(alloc: Global, texts: &[Text]) -> Result<Seq<Text>, AllocError>
 
 impl<R: Runner> Engine<R> {
     ghost use Rattle.object_names.specs.Objects.{AreObjects};
+    ghost use Rattle.questions.specs.declared.key.Key.{Key};
     ghost use Rattle.read_index.specs.Readers.{asks};
     ghost use Rattle.rebuild.specs.Answers.{seen_answer, answer_at, answer_of, seen_why, why_at, seen_reads, reads_at, runs_at};
     ghost use Rattle.rebuild.specs.Sound.{IsSound};
@@ -79,6 +80,27 @@ impl<R: Runner> Engine<R> {
             },
             index: Index::new(alloc),
         }
+    }
+
+    /// An engine with this data, of which nobody is known to read anything.
+    pub fn with_core(alloc: Global, core: Core<R::Rest>) -> Engine<R>
+        requires ready { is_ready core ≡ true }
+        requires low { core.counter ≤ END_OF_NUMBERS }
+        requires few { length core.rows.items ≤ MAX_OBJECTS }
+        ensures core { result.core ≡ core }
+        ensures asks { (r k : Key) → asks result.index r k ≡ false }
+    {
+        Engine {
+            core,
+            index: Index::new(alloc),
+        }
+    }
+
+    /// Its data.
+    pub fn core(&self) -> &Core<R::Rest>
+        ensures { result.now ≡ self.now.core }
+    {
+        &self.core
     }
 
     /// Takes a picture: its objects are those of the engine from now on, and all of them are unsettled. The runner gets

@@ -10,6 +10,7 @@ pub mod Details
 pub mod Loop
 pub mod TreeReading
 pub mod Written
+pub mod Rising
 pub mod TreeFits
 pub mod LoopAll
 pub mod PartsRead

@@ -12,6 +12,7 @@ use crate::format::Format;
 use crate::header::read_header;
 use crate::order::are_in_order;
 use crate::parts::{read_file, read_object};
+use crate::words::Words;
 use base::Text;
 use command_words::limits::{DEFAULT_ITERATIONS, DEFAULT_RECURSION};
 use kept_state::limits::FIRST_NUMBER;
@@ -73,7 +74,7 @@ fn file_of(alloc: Global, counter: u64, row: &StoredRow) -> Result<KeptFile, Row
 /// The object of a row.
 #[tactic(auto, unfolding(crate::specs::Reading::object_at))]
 fn object_of(
-    alloc: Global,
+    words: &mut Words,
     format: Format,
     counter: u64,
     row: &StoredRow,
@@ -86,8 +87,8 @@ fn object_of(
     if !is_name(name) {
         return Err(RowsError::BadRows);
     }
-    let name = name_of(alloc, name)?;
-    read_object(alloc, format, counter, name, row.bytes.as_slice())
+    let name = name_of(words.alloc, name)?;
+    read_object(words, format, counter, name, row.bytes.as_slice())
 }
 
 /// The files of rows.
@@ -111,9 +112,10 @@ fn all_objects(
 ) -> Result<Vec<KeptObject>, RowsError>
     ensures { Reads (λ os. os.items) result (all_at (object_at format counter) rows.now) }
 {
+    let mut words = Words::new(alloc, rows.len())?;
     let mut objects = Vec::with_capacity(alloc, rows.len())?;
     for row in rows {
-        let object = object_of(alloc, format, counter, row)?;
+        let object = object_of(&mut words, format, counter, row)?;
         objects.push(object)?;
     }
     Ok(objects)

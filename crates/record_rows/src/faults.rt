@@ -6,6 +6,7 @@ ghost use Rattle.record_rows.specs.Reading.{whole_fault};
 
 use crate::error::RowsError;
 use crate::reading::{read_byte, read_file_text, read_str, read_u32};
+use crate::words::Words;
 use pan_ast::{Code, Fault, Place};
 use std::alloc::Global;
 
@@ -98,10 +99,10 @@ fn read_place_number(bytes: &[u8]) -> Result<(u32, &[u8]), RowsError>
     Ok((number, rest))
 }
 
-fn read_place(alloc: Global, bytes: &[u8]) -> Result<(Place, &[u8]), RowsError>
+fn read_place<'a>(words: &mut Words, bytes: &'a [u8]) -> Result<(Place, &'a [u8]), RowsError>
     ensures { Reads (λ x. (x.0, x.1.now)) result (place.read bytes.now) }
 {
-    let (file, rest) = read_file_text(alloc, bytes)?;
+    let (file, rest) = read_file_text(words, bytes)?;
     let (line, rest) = read_place_number(rest)?;
     let (column, rest) = read_place_number(rest)?;
     Ok((Place { file, line, column }, rest))
@@ -120,24 +121,30 @@ fn fault_with(alloc: Global, code: Code, place: Place, detail: &str) -> Result<F
 }
 
 /// A fault.
-pub(crate) fn read_fault(alloc: Global, bytes: &[u8]) -> Result<(Fault, &[u8]), RowsError>
+pub(crate) fn read_fault<'a>(
+    words: &mut Words,
+    bytes: &'a [u8],
+) -> Result<(Fault, &'a [u8]), RowsError>
     ensures { Reads (λ x. (x.0, x.1.now)) result (fault.read bytes.now) }
 {
     let (code, rest) = read_code(bytes)?;
-    let (place, rest) = read_place(alloc, rest)?;
+    let (place, rest) = read_place(words, rest)?;
     let (detail, rest) = read_str(rest)?;
-    Ok((fault_with(alloc, code, place, detail)?, rest))
+    Ok((fault_with(words.alloc, code, place, detail)?, rest))
 }
 
 /// What a check found.
-pub(crate) fn read_verdict(alloc: Global, bytes: &[u8]) -> Result<(Option<Fault>, &[u8]), RowsError>
+pub(crate) fn read_verdict<'a>(
+    words: &mut Words,
+    bytes: &'a [u8],
+) -> Result<(Option<Fault>, &'a [u8]), RowsError>
     ensures { Reads (λ x. (x.0, x.1.now)) result (verdict.read bytes.now) }
 {
     match bytes {
         [] => Err(RowsError::BadRows),
         [0, rest @ ..] => Ok((None, rest)),
         [1, rest @ ..] => {
-            let (fault, rest) = read_fault(alloc, rest)?;
+            let (fault, rest) = read_fault(words, rest)?;
             Ok((Some(fault), rest))
         }
         [_, ..] => Err(RowsError::BadRows),

@@ -8,6 +8,7 @@ use crate::error::RowsError;
 use crate::format::Format;
 use crate::noted::Noted;
 use crate::reading::{read_file_text, read_name, read_str, read_u32, read_u64};
+use crate::words::Words;
 use base::Seq;
 use kept_state::limits::{MAX_INDEX, MAX_ITEMS, MAX_TERMS};
 use path_tree::{Key as DictKey, KeyError, Term};
@@ -15,12 +16,18 @@ use questions::Key;
 use read_sets::{Item, Trace};
 use std::alloc::Global;
 
+/// An item has no fewer bytes: a tag, a count, a name and a number.
+const LEAST_ITEM_BYTES: usize = 14;
+
 /// A key of a dict.
-pub(crate) fn read_dict_key(alloc: Global, bytes: &[u8]) -> Result<(DictKey, &[u8]), RowsError>
+pub(crate) fn read_dict_key<'a>(
+    words: &mut Words,
+    bytes: &'a [u8],
+) -> Result<(DictKey, &'a [u8]), RowsError>
     ensures { Reads (λ x. (x.0, x.1.now)) result (dict_key.read bytes.now) }
 {
     let (text, rest) = read_str(bytes)?;
-    match DictKey::parse(alloc, text) {
+    match words.key(text) {
         Ok(key) => Ok((key, rest)),
         Err(KeyError::BadKey) => Err(RowsError::BadRows),
         Err(KeyError::Memory) => Err(RowsError::Memory),
@@ -37,13 +44,13 @@ fn read_index(bytes: &[u8]) -> Result<(u32, &[u8]), RowsError>
     Ok((number, rest))
 }
 
-fn read_term(alloc: Global, bytes: &[u8]) -> Result<(Term, &[u8]), RowsError>
+fn read_term<'a>(words: &mut Words, bytes: &'a [u8]) -> Result<(Term, &'a [u8]), RowsError>
     ensures { Reads (λ x. (x.0, x.1.now)) result (a_term.read bytes.now) }
 {
     match bytes {
         [] => Err(RowsError::BadRows),
         [0, rest @ ..] => {
-            let (key, rest) = read_dict_key(alloc, rest)?;
+            let (key, rest) = read_dict_key(words, rest)?;
             Ok((Term::Key(key), rest))
         }
         [1, rest @ ..] => {
@@ -54,72 +61,80 @@ fn read_term(alloc: Global, bytes: &[u8]) -> Result<(Term, &[u8]), RowsError>
     }
 }
 
-fn some_terms(alloc: Global, count: u32, bytes: &[u8]) -> Result<(Vec<Term>, &[u8]), RowsError>
+fn some_terms<'a>(
+    words: &mut Words,
+    count: u32,
+    bytes: &'a [u8],
+) -> Result<(Vec<Term>, &'a [u8]), RowsError>
     ensures { Reads (λ x. (x.0.items, x.1.now)) result (some_at a_term.read count bytes.now) }
 {
-    let mut terms = Vec::new(alloc);
+    let mut terms = Vec::new(words.alloc);
     let mut rest = bytes;
     for _ in 0..count {
-        let (term, after) = read_term(alloc, rest)?;
+        let (term, after) = read_term(words, rest)?;
         terms.push(term)?;
         rest = after;
     }
     Ok((terms, rest))
 }
 
-fn read_terms(alloc: Global, bytes: &[u8]) -> Result<(Seq<Term>, &[u8]), RowsError>
+fn read_terms<'a>(words: &mut Words, bytes: &'a [u8]) -> Result<(Seq<Term>, &'a [u8]), RowsError>
     ensures { Reads (λ x. (x.0, x.1.now)) result (terms.read bytes.now) }
 {
     let (count, rest) = read_u32(bytes)?;
-    let (terms, rest) = some_terms(alloc, count, rest)?;
+    let (terms, rest) = some_terms(words, count, rest)?;
     if terms.len() > MAX_TERMS {
         return Err(RowsError::BadRows);
     }
     Ok((Seq::from_vec(terms), rest))
 }
 
-fn read_own_key(alloc: Global, bytes: &[u8]) -> Result<(Key, &[u8]), RowsError>
+fn read_own_key<'a>(words: &mut Words, bytes: &'a [u8]) -> Result<(Key, &'a [u8]), RowsError>
     ensures { Reads (λ x. (x.0, x.1.now)) result (key.read bytes.now) }
 {
     match bytes {
         [] => Err(RowsError::BadRows),
         [0, rest @ ..] => {
-            let (name, rest) = read_file_text(alloc, rest)?;
+            let (name, rest) = read_file_text(words, rest)?;
             Ok((Key::File(name), rest))
         }
         [1, rest @ ..] => {
-            let (object, rest) = read_name(alloc, rest)?;
-            let (terms, rest) = read_terms(alloc, rest)?;
+            let (object, rest) = read_name(words, rest)?;
+            let (terms, rest) = read_terms(words, rest)?;
             Ok((Key::Under { object, terms }, rest))
         }
         [_, ..] => Err(RowsError::BadRows),
     }
 }
 
-fn read_whole_key(alloc: Global, bytes: &[u8]) -> Result<(Key, &[u8]), RowsError>
+fn read_whole_key<'a>(words: &mut Words, bytes: &'a [u8]) -> Result<(Key, &'a [u8]), RowsError>
     ensures { Reads (λ x. (x.0, x.1.now)) result (whole_key.read bytes.now) }
 {
     match bytes {
         [] => Err(RowsError::BadRows),
         [0, rest @ ..] => {
-            let (name, rest) = read_file_text(alloc, rest)?;
+            let (name, rest) = read_file_text(words, rest)?;
             Ok((Key::File(name), rest))
         }
         [1, rest @ ..] => {
-            let (object, rest) = read_name(alloc, rest)?;
-            let terms = Seq::new(alloc);
+            let (object, rest) = read_name(words, rest)?;
+            let terms = Seq::new(words.alloc);
             Ok((Key::Under { object, terms }, rest))
         }
         [_, ..] => Err(RowsError::BadRows),
     }
 }
 
-fn read_key(alloc: Global, format: Format, bytes: &[u8]) -> Result<(Key, &[u8]), RowsError>
+fn read_key<'a>(
+    words: &mut Words,
+    format: Format,
+    bytes: &'a [u8],
+) -> Result<(Key, &'a [u8]), RowsError>
     ensures { Reads (λ x. (x.0, x.1.now)) result ((key_in format).read bytes.now) }
 {
     match format {
-        Format::First => read_whole_key(alloc, bytes),
-        Format::Second | Format::Third => read_own_key(alloc, bytes),
+        Format::First => read_whole_key(words, bytes),
+        Format::Second | Format::Third => read_own_key(words, bytes),
     }
 }
 
@@ -135,15 +150,15 @@ pub(crate) fn is_item(counter: u64, item: &Item) -> bool
     }
 }
 
-fn read_item(
-    alloc: Global,
+fn read_item<'a>(
+    words: &mut Words,
     format: Format,
     counter: u64,
-    bytes: &[u8],
-) -> Result<(Item, &[u8]), RowsError>
+    bytes: &'a [u8],
+) -> Result<(Item, &'a [u8]), RowsError>
     ensures { Reads (λ x. (x.0, x.1.now)) result ((item_in format counter).read bytes.now) }
 {
-    let (key, rest) = read_key(alloc, format, bytes)?;
+    let (key, rest) = read_key(words, format, bytes)?;
     let (number, rest) = read_u64(rest)?;
     let item = Item { key, number };
     if !is_item(counter, &item) {
@@ -152,20 +167,21 @@ fn read_item(
     Ok((item, rest))
 }
 
-fn some_items(
-    alloc: Global,
+fn some_items<'a>(
+    words: &mut Words,
     format: Format,
     counter: u64,
     count: u32,
-    bytes: &[u8],
-) -> Result<(Vec<Item>, &[u8]), RowsError>
+    bytes: &'a [u8],
+) -> Result<(Vec<Item>, &'a [u8]), RowsError>
     ensures { Reads (λ x. (x.0.items, x.1.now)) result
         (some_at (item_in format counter).read count bytes.now) }
 {
-    let mut items = Vec::new(alloc);
+    let room = (count as usize).min(bytes.len() / LEAST_ITEM_BYTES);
+    let mut items = Vec::with_capacity(words.alloc, room)?;
     let mut rest = bytes;
     for _ in 0..count {
-        let (item, after) = read_item(alloc, format, counter, rest)?;
+        let (item, after) = read_item(words, format, counter, rest)?;
         items.push(item)?;
         rest = after;
     }
@@ -179,7 +195,7 @@ fn traced(alloc: Global, items: Vec<Item>) -> Result<Trace, RowsError>
     if items.len() > MAX_ITEMS {
         return Err(RowsError::BadRows);
     }
-    let mut noted = Noted::new(alloc);
+    let mut noted = Noted::with_room(alloc, items.len())?;
     for item in items {
         if !noted.add(alloc, item)? {
             return Err(RowsError::BadRows);
@@ -189,15 +205,15 @@ fn traced(alloc: Global, items: Vec<Item>) -> Result<Trace, RowsError>
 }
 
 /// What a run asked.
-pub(crate) fn read_trace(
-    alloc: Global,
+pub(crate) fn read_trace<'a>(
+    words: &mut Words,
     format: Format,
     counter: u64,
-    bytes: &[u8],
-) -> Result<(Trace, &[u8]), RowsError>
+    bytes: &'a [u8],
+) -> Result<(Trace, &'a [u8]), RowsError>
     ensures { Reads (λ x. (x.0, x.1.now)) result ((trace_in format counter).read bytes.now) }
 {
     let (count, rest) = read_u32(bytes)?;
-    let (items, rest) = some_items(alloc, format, counter, count, rest)?;
-    Ok((traced(alloc, items)?, rest))
+    let (items, rest) = some_items(words, format, counter, count, rest)?;
+    Ok((traced(words.alloc, items)?, rest))
 }

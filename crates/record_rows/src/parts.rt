@@ -11,6 +11,7 @@ use crate::format::Format;
 use crate::items::read_trace;
 use crate::reading::{read_bytes, read_u64};
 use crate::trees::read_tree;
+use crate::words::Words;
 use base::limits::MAX_FILE_BYTES;
 use base::{Bytes, Text};
 use kept_state::limits::FIRST_NUMBER;
@@ -76,17 +77,20 @@ pub(crate) fn read_file(
     })
 }
 
-fn read_built(alloc: Global, bytes: &[u8]) -> Result<(Result<Tree, Fault>, &[u8]), RowsError>
+fn read_built<'a>(
+    words: &mut Words,
+    bytes: &'a [u8],
+) -> Result<(Result<Tree, Fault>, &'a [u8]), RowsError>
     ensures { Reads (λ x. (x.0, x.1.now)) result (built.read bytes.now) }
 {
     match bytes {
         [] => Err(RowsError::BadRows),
         [0, rest @ ..] => {
-            let (tree, rest) = read_tree(alloc, rest)?;
+            let (tree, rest) = read_tree(words, rest)?;
             Ok((Ok(tree), rest))
         }
         [1, rest @ ..] => {
-            let (fault, rest) = read_fault(alloc, rest)?;
+            let (fault, rest) = read_fault(words, rest)?;
             Ok((Err(fault), rest))
         }
         [_, ..] => Err(RowsError::BadRows),
@@ -116,7 +120,7 @@ pub(crate) fn are_parts(counter: u64, object: &KeptObject) -> bool
 
 /// The object with this name and these parts.
 pub(crate) fn read_object(
-    alloc: Global,
+    words: &mut Words,
     format: Format,
     counter: u64,
     name: Name,
@@ -126,10 +130,10 @@ pub(crate) fn read_object(
         (object_by format counter name bytes.now) }
 {
     let (number, rest) = read_u64(bytes)?;
-    let (built, rest) = read_built(alloc, rest)?;
-    let (build_reads, rest) = read_trace(alloc, format, counter, rest)?;
-    let (verdict, rest) = read_verdict(alloc, rest)?;
-    let (check_reads, rest) = read_trace(alloc, format, counter, rest)?;
+    let (built, rest) = read_built(words, rest)?;
+    let (build_reads, rest) = read_trace(words, format, counter, rest)?;
+    let (verdict, rest) = read_verdict(words, rest)?;
+    let (check_reads, rest) = read_trace(words, format, counter, rest)?;
     let object = KeptObject {
         name,
         number,

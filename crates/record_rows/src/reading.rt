@@ -5,6 +5,7 @@ ghost use Rattle.record_rows.specs.Fields.{is_asked, file_text, name_text};
 ghost use Rattle.record_rows.specs.Results.{Reads};
 
 use crate::error::RowsError;
+use crate::words::Words;
 use base::Text;
 use kept_state::limits::MAX_ASKED_BYTES;
 use path_tree::{Name, NameError};
@@ -92,22 +93,28 @@ pub(crate) fn is_asked(name: &str) -> bool
 }
 
 /// The name of a file that was asked for.
-pub(crate) fn read_file_text(alloc: Global, bytes: &[u8]) -> Result<(Text, &[u8]), RowsError>
+pub(crate) fn read_file_text<'a>(
+    words: &mut Words,
+    bytes: &'a [u8],
+) -> Result<(Text, &'a [u8]), RowsError>
     ensures { Reads (λ x. (x.0, x.1.now)) result (file_text.read bytes.now) }
 {
     let (text, rest) = read_str(bytes)?;
     if !is_asked(text) {
         return Err(RowsError::BadRows);
     }
-    Ok((Text::new(alloc, text)?, rest))
+    Ok((words.file(text)?, rest))
 }
 
 /// A template name.
-pub(crate) fn read_name(alloc: Global, bytes: &[u8]) -> Result<(Name, &[u8]), RowsError>
+pub(crate) fn read_name<'a>(
+    words: &mut Words,
+    bytes: &'a [u8],
+) -> Result<(Name, &'a [u8]), RowsError>
     ensures { Reads (λ x. (x.0, x.1.now)) result (name_text.read bytes.now) }
 {
     let (text, rest) = read_str(bytes)?;
-    match Name::parse(alloc, text) {
+    match words.name(text) {
         Ok(name) => Ok((name, rest)),
         Err(NameError::BadName) => Err(RowsError::BadRows),
         Err(NameError::Memory) => Err(RowsError::Memory),

@@ -10,6 +10,7 @@ ghost use Rattle.record_rows.specs.Reading.{added_dict, dicts_at};
 use crate::error::RowsError;
 use crate::items::read_dict_key;
 use crate::reading::{read_byte, read_str, read_u32, read_u64};
+use crate::words::Words;
 use base::limits::MAX_TREE_HEIGHT;
 use path_tree::{Key, PutError, Refused, Term, Tree};
 use std::alloc::Global;
@@ -21,11 +22,12 @@ fn read_long(bytes: &[u8]) -> Result<(Tree, &[u8]), RowsError>
     Ok((Tree::long(number.cast_signed()), rest))
 }
 
-fn read_short_text(alloc: Global, bytes: &[u8]) -> Result<(Tree, &[u8]), RowsError>
+fn read_short_text<'a>(words: &mut Words, bytes: &'a [u8]) -> Result<(Tree, &'a [u8]), RowsError>
     ensures { Reads (λ x. (x.0, x.1.now)) result (text_at bytes.now) }
 {
     let (text, rest) = read_str(bytes)?;
-    match Tree::text(alloc, text) {
+    let text = words.value(text)?;
+    match Tree::shared_text(&text) {
         Ok(tree) => Ok((tree, rest)),
         Err(Refused::TooLarge) => Err(RowsError::BadRows),
         Err(_) => Err(RowsError::Memory),
@@ -74,18 +76,18 @@ fn add_field(alloc: Global, dict: &mut Tree, key: Key, value: Tree) -> Result<()
 }
 
 #[cycle(read)]
-fn some_trees(
-    alloc: Global,
+fn some_trees<'a>(
+    words: &mut Words,
     below: u64,
     count: u32,
-    bytes: &[u8],
-) -> Result<(Vec<Tree>, &[u8]), RowsError>
+    bytes: &'a [u8],
+) -> Result<(Vec<Tree>, &'a [u8]), RowsError>
     ensures { Reads (λ x. (x.0.items, x.1.now)) result (some_at (tree_at below) count bytes.now) }
 {
-    let mut trees = Vec::new(alloc);
+    let mut trees = Vec::new(words.alloc);
     let mut rest = bytes;
     for _ in 0..count {
-        let (tree, after) = read_within(alloc, below, rest)?;
+        let (tree, after) = read_within(words, below, rest)?;
         trees.push(tree)?;
         rest = after;
     }
@@ -93,46 +95,59 @@ fn some_trees(
 }
 
 #[cycle(read)]
-fn read_list(alloc: Global, below: u64, bytes: &[u8]) -> Result<(Tree, &[u8]), RowsError>
+fn read_list<'a>(
+    words: &mut Words,
+    below: u64,
+    bytes: &'a [u8],
+) -> Result<(Tree, &'a [u8]), RowsError>
     ensures { Reads (λ x. (x.0, x.1.now)) result (list_at (tree_at below) bytes.now) }
 {
     let (count, rest) = read_u32(bytes)?;
-    let (trees, rest) = some_trees(alloc, below, count, rest)?;
-    Ok((list_of(alloc, trees)?, rest))
+    let (trees, rest) = some_trees(words, below, count, rest)?;
+    Ok((list_of(words.alloc, trees)?, rest))
 }
 
 #[cycle(read)]
-fn some_fields(
-    alloc: Global,
+fn some_fields<'a>(
+    words: &mut Words,
     below: u64,
     count: u32,
-    bytes: &[u8],
-) -> Result<(Tree, &[u8]), RowsError>
+    bytes: &'a [u8],
+) -> Result<(Tree, &'a [u8]), RowsError>
     ensures { Reads (λ x. (x.0, x.1.now)) result
         (dicts_at (tree_at below) count plain.no_fields bytes.now) }
 {
     let room = (count as usize).min(bytes.len() / 6);
-    let mut dict = Tree::dict_with_room(alloc, room)?;
+    let mut dict = Tree::dict_with_room(words.alloc, room)?;
     let mut rest = bytes;
     for _ in 0..count {
-        let (key, after) = read_dict_key(alloc, rest)?;
-        let (value, after) = read_within(alloc, below, after)?;
-        add_field(alloc, &mut dict, key, value)?;
+        let (key, after) = read_dict_key(words, rest)?;
+        let (value, after) = read_within(words, below, after)?;
+        add_field(words.alloc, &mut dict, key, value)?;
         rest = after;
     }
     Ok((dict, rest))
 }
 
 #[cycle(read)]
-fn read_dict(alloc: Global, below: u64, bytes: &[u8]) -> Result<(Tree, &[u8]), RowsError>
+fn read_dict<'a>(
+    words: &mut Words,
+    below: u64,
+    bytes: &'a [u8],
+) -> Result<(Tree, &'a [u8]), RowsError>
     ensures { Reads (λ x. (x.0, x.1.now)) result (dict_at (tree_at below) bytes.now) }
 {
     let (count, rest) = read_u32(bytes)?;
-    some_fields(alloc, below, count, rest)
+    some_fields(words, below, count, rest)
 }
 
 #[cycle(read)]
-fn read_kind(alloc: Global, below: u64, kind: u8, bytes: &[u8]) -> Result<(Tree, &[u8]), RowsError>
+fn read_kind<'a>(
+    words: &mut Words,
+    below: u64,
+    kind: u8,
+    bytes: &'a [u8],
+) -> Result<(Tree, &'a [u8]), RowsError>
     ensures { Reads (λ x. (x.0, x.1.now)) result (tree_by (tree_at below) kind bytes.now) }
 {
     match kind {
@@ -140,27 +155,34 @@ fn read_kind(alloc: Global, below: u64, kind: u8, bytes: &[u8]) -> Result<(Tree,
         1 => Ok((Tree::boolean(false), bytes)),
         2 => Ok((Tree::boolean(true), bytes)),
         3 => read_long(bytes),
-        4 => read_short_text(alloc, bytes),
-        5 => read_list(alloc, below, bytes),
-        6 => read_dict(alloc, below, bytes),
+        4 => read_short_text(words, bytes),
+        5 => read_list(words, below, bytes),
+        6 => read_dict(words, below, bytes),
         _ => Err(RowsError::BadRows),
     }
 }
 
 #[cycle(read)]
-fn read_within(alloc: Global, height: u64, bytes: &[u8]) -> Result<(Tree, &[u8]), RowsError>
+fn read_within<'a>(
+    words: &mut Words,
+    height: u64,
+    bytes: &'a [u8],
+) -> Result<(Tree, &'a [u8]), RowsError>
     ensures { Reads (λ x. (x.0, x.1.now)) result (tree_at height bytes.now) }
 {
     if height == 0 {
         return Err(RowsError::BadRows);
     }
     let (kind, rest) = read_byte(bytes)?;
-    read_kind(alloc, height - 1, kind, rest)
+    read_kind(words, height - 1, kind, rest)
 }
 
 /// A tree.
-pub(crate) fn read_tree(alloc: Global, bytes: &[u8]) -> Result<(Tree, &[u8]), RowsError>
+pub(crate) fn read_tree<'a>(
+    words: &mut Words,
+    bytes: &'a [u8],
+) -> Result<(Tree, &'a [u8]), RowsError>
     ensures { Reads (λ x. (x.0, x.1.now)) result (tree.read bytes.now) }
 {
-    read_within(alloc, MAX_TREE_HEIGHT, bytes)
+    read_within(words, MAX_TREE_HEIGHT, bytes)
 }

@@ -1,6 +1,7 @@
 -- What a build publishes, writes and spends, by how far it came.
 use Rattle.std.proofs.Common.{◌≡◌, ℕ, Bool, true, false, List, Option, Some, None, IfSome, Result, Ok, Err, IfOk, sym, subst}
 use Rattle.command_words.specs.declared.commands.Work.{Work}
+use Rattle.compiler.specs.Compiler.{Compiled}
 use Rattle.compiler.specs.Standing.{Counts, Gives, HasSpentAtMost, SpendsAs}
 use Rattle.compiler.specs.declared.building.Built.{Built}
 use Rattle.compiler.proofs.Counting.{at_most}
@@ -15,7 +16,7 @@ use Rattle.session.specs.Sessions.{State, ended_by}
 use Rattle.session.specs.declared.Ended.{Ended}
 use Rattle.site_build.specs.Rounds.{Reaches, Spends, SpendsBy, build_of, given_by, session_at}
 use Rattle.site_build.specs.declared.ends.End.{End}
-use Rattle.site_build.specs.Session.{Session, ended_behind, session_for, session_over, state_for}
+use Rattle.site_build.specs.Session.{Session, ended_behind, session_from, session_over, state_from}
 use Rattle.site_build.specs.declared.building.Reached.{Reached}
 use Rattle.site_build.specs.declared.building.Reached.TheVariants as reached
 
@@ -26,10 +27,10 @@ some_map (Some x) P Q f p = f x p
 pub given_is : {E : Type 0} (most : Option ℕ) (names : List (List ℕ)) (machine : Machine E) (e : E) (b : Built) → Gives machine e b → given_by most names b ≡ build_of most names machine e
 given_is most names machine e b gives = λ i. session_over most names (wants_of (gives.profiles i)) (gives.report i) (ended_by (gives.has_faults i))
 
-module _ {T : Type 0} (M : Meanings T) (w : Work) (names : List (List ℕ)) (how : Reached) (core : Core T) (before mid : Counts) where
+module _ {T : Type 0} (M : Meanings T) (e : Compiled T) (w : Work) (names : List (List ℕ)) (how : Reached) (core : Core T) (before mid : Counts) where
   -- what holds of a build that came so far holds of the command's session
-  pub comes_to : (Q : Session → Type 0) (coming : Option (List (List MemFile))) → IfSome coming (λ ps. Reaches M w how ps core before mid) → Q (session_at w.most_removed names M how core) → IfSome coming (λ ps. Q (session_for M w names ps))
-  comes_to Q coming reaches q = some_map coming (λ ps. Reaches M w how ps core before mid) (λ ps. Q (session_for M w names ps)) (λ ps r. subst Q (sym (r.session names)) q) reaches
+  pub comes_to : (Q : Session → Type 0) (coming : Option (List (List MemFile))) → IfSome coming (λ ps. Reaches M e w how ps core before mid) → Q (session_at w.most_removed names M how core) → IfSome coming (λ ps. Q (session_from M e w names ps))
+  comes_to Q coming reaches q = some_map coming (λ ps. Reaches M e w how ps core before mid) (λ ps. Q (session_from M e w names ps)) (λ ps r. subst Q (sym (r.session names)) q) reaches
 
 spends_most : {E : Type 0} (how : Reached) (s : State E) (before mid : Counts) → SpendsBy how s before mid → HasSpentAtMost s before mid
 spends_most reached.All s before mid spent = at_most s before mid spent
@@ -46,7 +47,7 @@ spends_by most names M reached.All core how' s before mid is spent = at _ _ is
 spends_by most names M reached.NumbersSpent core how' s before mid is spent = subst (λ x. SpendsAs x s before mid) is spent
 spends_by most names M reached.TooMuch core how' s before mid is spent = subst (λ x. SpendsAs x s before mid) is spent
 
-module _ {T : Type 0} (M : Meanings T) (w : Work) (names : List (List ℕ)) (how : Reached) (core : Core T) (before mid : Counts) (coming : Option (List (List MemFile))) (reaches : IfSome coming (λ ps. Reaches M w how ps core before mid)) where
-  pub spends_on : (r : Result Ended End) → IfOk r (λ how'. (session_at w.most_removed names M how core).ended ≡ how') → IfSome coming (λ ps. Spends r (state_for M w ps) before mid)
-  spends_on (Ok how') is = some_map coming (λ ps. Reaches M w how ps core before mid) (λ ps. SpendsAs how' (state_for M w ps) before mid) (λ ps r. spends_by w.most_removed names M how core how' (state_for M w ps) before mid is r.spent) reaches
-  spends_on (Err e) is = some_map coming (λ ps. Reaches M w how ps core before mid) (λ ps. HasSpentAtMost (state_for M w ps) before mid) (λ ps r. spends_most how (state_for M w ps) before mid r.spent) reaches
+module _ {T : Type 0} (M : Meanings T) (e : Compiled T) (w : Work) (names : List (List ℕ)) (how : Reached) (core : Core T) (before mid : Counts) (coming : Option (List (List MemFile))) (reaches : IfSome coming (λ ps. Reaches M e w how ps core before mid)) where
+  pub spends_on : (r : Result Ended End) → IfOk r (λ how'. (session_at w.most_removed names M how core).ended ≡ how') → IfSome coming (λ ps. Spends r (state_from M e w ps) before mid)
+  spends_on (Ok how') is = some_map coming (λ ps. Reaches M e w how ps core before mid) (λ ps. SpendsAs how' (state_from M e w ps) before mid) (λ ps r. spends_by w.most_removed names M how core how' (state_from M e w ps) before mid is r.spent) reaches
+  spends_on (Err end) is = some_map coming (λ ps. Reaches M e w how ps core before mid) (λ ps. HasSpentAtMost (state_from M e w ps) before mid) (λ ps r. spends_most how (state_from M e w ps) before mid r.spent) reaches

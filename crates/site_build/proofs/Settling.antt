@@ -8,13 +8,13 @@ use Rattle.rebuild.specs.Engines.{Meanings, turns_left_of}
 use Rattle.session.specs.Machines.{Machine}
 use Rattle.session.specs.Sessions.{State, Next, GoesOn, SpendsNumbers, IsTooMuch, Scanned, NotBegun, BrokeOff, Done, state_in, with_turns, built, reported, started, scanned, writes}
 use Rattle.engine_turns.specs.Spent.{counted_more}
-use Rattle.compiler.specs.Compiler.{Compiled, compiler, nothing}
+use Rattle.compiler.specs.Compiler.{Compiled, compiler}
 use Rattle.compiler.specs.Standing.{Here, Counts, HasSpent, HasSpentAtMost, IsAt, IsIn, IsRising, MakesTurns, TakesNext, has_failed}
 use Rattle.compiler.specs.declared.taking.Took.TheVariants as took
 use Rattle.compiler.proofs.Counting.{no_fewer, spent_none, turns_rise}
 use Rattle.compiler.proofs.Moves.{along}
 use Rattle.site_build.specs.Rounds.{Reaches, build_of, session_at}
-use Rattle.site_build.specs.Session.{engine_for, limits_of, round_for, session_after, state_for}
+use Rattle.site_build.specs.Session.{engine_for, limits_of, round_from, session_after, state_from}
 use Rattle.site_build.specs.declared.building.Reached.TheVariants as reached
 
 pub if_told : {A : Type 0} (P : A → Type 0) (o : Option A) → ((x : A) → o ≡ Some x → P x) → IfSome o P
@@ -29,12 +29,12 @@ spent_nothing s start = record {
   in_steps = omega arith;
 }
 
-module _ {T : Type 0} (M : Meanings T) (w : Work) (ps : List (List MemFile)) where
+module _ {T : Type 0} (M : Meanings T) (e : Compiled T) (w : Work) (ps : List (List MemFile)) where
   abbrev pub m : Machine (Compiled T)
   m = engine_for M w
 
   abbrev pub first : Here T
-  first = started nothing ps []
+  first = started e ps []
 
   abbrev pub at_end : Here T → Next (Compiled T)
   at_end t = GoesOn (reported m (publication.Done []) t)
@@ -45,27 +45,29 @@ module _ {T : Type 0} (M : Meanings T) (w : Work) (ps : List (List MemFile)) whe
   pub build_rises : IsRising (built m (publication.Done []))
   build_rises t = turns_rise m at_end end_rises (m.turns_left t.engine) t
 
-  pub at_first : (core : Core T) (start : Counts) → IsIn w.directories (limits_of w) core nothing → IsAt w.directories (limits_of w) first core start start
+  pub at_first : (core : Core T) (start : Counts) → IsIn w.directories (limits_of w) core e → IsAt w.directories (limits_of w) first core start start
   at_first core start is = record { engine = is; spent = spent_none first start refl refl }
 
   -- a publication and a report over nothing
   reports : (names : List (List ℕ)) (s : Here T) → s.text ≡ [] → session_after m w.most_removed names (at_end s) ≡ build_of w.most_removed names m s.engine
   reports names s text = ap (λ before. session_after m w.most_removed names (at_end (record s { text = before }))) text
 
-  round_is : round_for M w ps ≡ scanned m Done first (built m (publication.Done []))
+  round_is : round_from M e w ps ≡ scanned m Done first (built m (publication.Done []))
   round_is = refl
 
   module _ (core : Core T) (start now : Counts) (coming : Option (List (List MemFile))) (faults faults' : ℕ) where
-    pub reaches_spent : TakesNext m w.directories (limits_of w) first took.SpendsNumbers core start now coming faults faults' → Reaches M w reached.NumbersSpent ps core start now
-    reaches_spent t = let leads : round_for M w ps ≡ SpendsNumbers t.state = subst (λ scan. scanned m scan first (built m (publication.Done [])) ≡ SpendsNumbers t.state) t.failed (t.leads (built m (publication.Done []))) in record {
+    pub reaches_spent : TakesNext m w.directories (limits_of w) first took.SpendsNumbers core start now coming faults faults' → Reaches M e w reached.NumbersSpent ps core start now
+    reaches_spent t = let leads : round_from M e w ps ≡ SpendsNumbers t.state = subst (λ scan. scanned m scan first (built m (publication.Done [])) ≡ SpendsNumbers t.state) t.failed (t.leads (built m (publication.Done []))) in record {
       session = λ names. ap (session_after m w.most_removed names) leads;
       spent = subst (λ s. HasSpentAtMost s start now) (sym (ap state_in leads)) t.stands;
+      ends = tt;
     }
 
-    pub reaches_too_much : TakesNext m w.directories (limits_of w) first took.IsTooMuch core start now coming faults faults' → Reaches M w reached.TooMuch ps core start now
-    reaches_too_much t = let leads : round_for M w ps ≡ IsTooMuch t.state = subst (λ scan. scanned m scan first (built m (publication.Done [])) ≡ IsTooMuch t.state) t.failed (t.leads (built m (publication.Done []))) in record {
+    pub reaches_too_much : TakesNext m w.directories (limits_of w) first took.IsTooMuch core start now coming faults faults' → Reaches M e w reached.TooMuch ps core start now
+    reaches_too_much t = let leads : round_from M e w ps ≡ IsTooMuch t.state = subst (λ scan. scanned m scan first (built m (publication.Done [])) ≡ IsTooMuch t.state) t.failed (t.leads (built m (publication.Done []))) in record {
       session = λ names. ap (session_after m w.most_removed names) leads;
       spent = subst (λ s. HasSpentAtMost s start now) (sym (ap state_in leads)) t.stands;
+      ends = tt;
     }
 
     -- a scan that failed made no run and no step
@@ -74,39 +76,41 @@ module _ {T : Type 0} (M : Meanings T) (w : Work) (ps : List (List MemFile)) whe
     stands_still BrokeOff s failed leads = (sym (ap (λ n. (state_in n).runs) leads), sym (ap (λ n. (state_in n).steps) leads))
     stands_still Done s failed leads = cc
 
-    pub cut_failed : TakesNext m w.directories (limits_of w) first took.Failed core start now coming faults faults' → HasSpentAtMost (state_for M w ps) start now
+    pub cut_failed : TakesNext m w.directories (limits_of w) first took.Failed core start now coming faults faults' → HasSpentAtMost (state_from M e w ps) start now
     cut_failed t =
         let still = stands_still t.scan t.state t.failed (t.leads (built m (publication.Done []))) in
         let steps : now.steps ≡ start.steps = (let a = t.stands.spent.in_steps in let b = still.1 in omega (arith, a, b)) in
         let runs : now.runs ≡ start.runs = t.stands.spent.in_runs ∙ ap (λ k. counted_more k start.runs) still.0 in
         let same : now ≡ start = (λ i. record { runs = runs i; steps = steps i }) in
-        subst (λ c. HasSpentAtMost (state_for M w ps) start c) (sym same) (spent_nothing (state_for M w ps) start)
+        subst (λ c. HasSpentAtMost (state_from M e w ps) start c) (sym same) (spent_nothing (state_from M e w ps) start)
 
     -- the turns after the take
     module _ (t : TakesNext m w.directories (limits_of w) first took.Taken core start now coming faults faults') (left : ℕ) (is_left : left ≡ turns_left_of core) where
       left_is : m.turns_left t.state.engine ≡ left
       left_is = ap m.turns_left (sym t.stands.engine.is) ∙ sym is_left
 
-      turns_are : round_for M w ps ≡ with_turns m left t.state at_end
+      turns_are : round_from M e w ps ≡ with_turns m left t.state at_end
       turns_are = subst (λ scan. scanned m scan first (built m (publication.Done [])) ≡ built m (publication.Done []) t.state) t.failed (t.leads (built m (publication.Done []))) ∙ ap (λ k. with_turns m k t.state at_end) left_is
 
-      pub cut_turning : (later : Counts) → HasSpentAtMost (state_in (with_turns m left t.state at_end)) start later → HasSpentAtMost (state_for M w ps) start later
+      pub cut_turning : (later : Counts) → HasSpentAtMost (state_in (with_turns m left t.state at_end)) start later → HasSpentAtMost (state_from M e w ps) start later
       cut_turning later most = subst (λ n. HasSpentAtMost (state_in n) start later) (sym turns_are) most
 
-      pub reaches_all : (last : Core T) (later : Counts) → MakesTurns m w.directories (limits_of w) left t.state true last start later → Reaches M w reached.All ps last start later
+      pub reaches_all : (last : Core T) (later : Counts) → MakesTurns m w.directories (limits_of w) left t.state true last start later → Reaches M e w reached.All ps last start later
       reaches_all last later made = record {
-        session = λ names. ap (session_after m w.most_removed names) leads ∙ reports names made.state (made.moved.text ∙ t.text) ∙ along last (λ dirs limits e. build_of w.most_removed names (compiler (M dirs limits) dirs) e ≡ session_at w.most_removed names M reached.All last) w.directories (limits_of w) made.state.engine made.stands.engine refl;
+        session = λ names. ap (session_after m w.most_removed names) leads ∙ reports names made.state (made.moved.text ∙ t.text) ∙ along last (λ dirs limits x. build_of w.most_removed names (compiler (M dirs limits) dirs) x ≡ session_at w.most_removed names M reached.All last) w.directories (limits_of w) made.state.engine made.stands.engine refl;
         spent = subst (λ n. HasSpent (state_in n) start later) (sym leads) (record { in_runs = made.stands.spent.in_runs; in_steps = made.stands.spent.in_steps });
+        ends = (made.state, leads, made.stands.engine);
       }
         where
-          leads : round_for M w ps ≡ at_end made.state
+          leads : round_from M e w ps ≡ at_end made.state
           leads = turns_are ∙ made.leads at_end
 
-      pub reaches_none : (last : Core T) (later : Counts) → MakesTurns m w.directories (limits_of w) left t.state false last start later → Reaches M w reached.NumbersSpent ps last start later
+      pub reaches_none : (last : Core T) (later : Counts) → MakesTurns m w.directories (limits_of w) left t.state false last start later → Reaches M e w reached.NumbersSpent ps last start later
       reaches_none last later made = record {
         session = λ names. ap (session_after m w.most_removed names) leads;
         spent = subst (λ n. HasSpentAtMost (state_in n) start later) (sym leads) made.stands;
+        ends = tt;
       }
         where
-          leads : round_for M w ps ≡ SpendsNumbers made.state
+          leads : round_from M e w ps ≡ SpendsNumbers made.state
           leads = turns_are ∙ made.leads at_end

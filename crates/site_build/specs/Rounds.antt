@@ -1,21 +1,23 @@
 -- A build behind its devices: what a settled engine gives, and how far a build came.
-use Rattle.std.specs.Prelude.{◌≡◌, ℕ, List, Option, Result, Ok, Err, IfOk, IfErr, OnOk, OnErr, nat_lt}
+use Rattle.std.specs.Prelude.{◌≡◌, ℕ, List, [], Option, Result, Ok, Err, IfOk, IfErr, OnOk, OnErr, nat_lt}
 use Rattle.command_words.specs.declared.commands.Work.{Work}
-use Rattle.compiler.specs.Standing.{Counts, HasSpent, HasSpentAtMost, SpendsAs, compiled_in, machine_in}
+use Rattle.compiler.specs.Compiler.{Compiled}
+use Rattle.compiler.specs.Standing.{Counts, HasSpent, HasSpentAtMost, IsIn, SpendsAs, compiled_in, machine_in}
 use Rattle.compiler.specs.declared.building.Built.{Built}
 use Rattle.engine_turns.specs.declared.core_data.Core.{Core}
 use Rattle.outside.specs.declared.source.MemFile.{MemFile}
 use Rattle.publication.specs.Changing.{MadeOver, BegunOver, Tells}
 use Rattle.publication.specs.Wants.{wants_of}
+use Rattle.publication.specs.declared.answer.Publication.TheVariants as publication
 use Rattle.rebuild.specs.Engines.{Meanings}
 use Rattle.session.specs.Machines.{Machine}
-use Rattle.session.specs.Sessions.{State, answers_in, profiles_of, ended_by}
+use Rattle.session.specs.Sessions.{State, Next, GoesOn, answers_in, profiles_of, ended_by, reported}
 use Rattle.session.specs.Texts.{report, faults_in}
 use Rattle.session.specs.declared.Ended.{Ended}
 use Rattle.session.specs.declared.Ended.TheVariants as ended
 use Rattle.site_build.specs.Ends.{Stopped}
 use Rattle.site_build.specs.Scenes.{Outs}
-use Rattle.site_build.specs.Session.{Session, Finished, WritesEarly, line_alone, session_for, session_over, state_for}
+use Rattle.site_build.specs.Session.{Session, Finished, WritesEarly, engine_for, limits_of, line_alone, round_from, session_from, session_over, state_from}
 use Rattle.site_build.specs.declared.ends.End.{End}
 use Rattle.site_build.specs.declared.building.Reached.{Reached}
 use Rattle.site_build.specs.declared.building.Reached.TheVariants as reached
@@ -51,12 +53,21 @@ SpendsBy reached.All s before now = HasSpent s before now
 SpendsBy reached.NumbersSpent s before now = HasSpentAtMost s before now
 SpendsBy reached.TooMuch s before now = HasSpentAtMost s before now
 
--- a build came so far with the source's next pictures
-pub record Reaches {T : Type 0} (means : Meanings T) (work : Work) (how : Reached)
+-- where all is settled, the engine has come to what the round leads to, before its report
+abbrev pub EndsIn : {T : Type 0} → Meanings T → Work → Next (Compiled T) → Reached → Core T → Type 0
+EndsIn {T} means work x reached.All core = (t : State (Compiled T))
+    × (x ≡ GoesOn (reported (engine_for means work) (publication.Done []) t))
+    × IsIn work.directories (limits_of work) core t.engine
+EndsIn means work x reached.NumbersSpent core = Unit {0}
+EndsIn means work x reached.TooMuch core = Unit {0}
+
+-- a build that began with this engine came so far with the source's next pictures
+pub record Reaches {T : Type 0} (means : Meanings T) (e : Compiled T) (work : Work) (how : Reached)
     (pictures : List (List MemFile)) (core : Core T) (before now : Counts) : Type 0 where
-  pub session : (names : List (List ℕ)) → session_for means work names pictures
+  pub session : (names : List (List ℕ)) → session_from means e work names pictures
       ≡ session_at work.most_removed names means how core
-  pub spent : SpendsBy how (state_for means work pictures) before now
+  pub spent : SpendsBy how (state_from means e work pictures) before now
+  pub ends : EndsIn means work (round_from means e work pictures) how core
 
 -- the shelf with these names, and the sink, follow a session, to its end or as far as an end lets them
 pub record Follows (s : Session) (names : List (List ℕ)) (result : Result Ended End)

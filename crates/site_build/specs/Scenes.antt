@@ -26,9 +26,10 @@ pub record Scene : Type 0 where
   pub out_count : ℕ
   pub spent : Counts
 
-abbrev pub scene : {R S H N O T : Type 0} → runner.Ghosts R T → source.Ghosts S → shelf.Ghosts H
-    → lines.Ghosts N → sink.Ghosts O → R → Devices S H N O → ℕ → Scene
-scene M S H N O runner devices steps = record {
+-- .. beside these runs and steps
+abbrev pub seen : {S H N O : Type 0} → source.Ghosts S → shelf.Ghosts H → lines.Ghosts N
+    → sink.Ghosts O → Devices S H N O → Counts → Scene
+seen S H N O devices spent = record {
   coming = S.coming devices.source;
   source_opened = S.opened devices.source;
   source_count = S.fault_count devices.source;
@@ -40,8 +41,13 @@ scene M S H N O runner devices steps = record {
   lines_count = N.fault_count devices.lines;
   held = O.held devices.out;
   out_count = O.fault_count devices.out;
-  spent = counts (M.runs_of runner) steps;
+  spent = spent;
 }
+
+abbrev pub scene : {R S H N O T : Type 0} → runner.Ghosts R T → source.Ghosts S → shelf.Ghosts H
+    → lines.Ghosts N → sink.Ghosts O → R → Devices S H N O → ℕ → Scene
+scene M S H N O runner devices steps =
+    seen S H N O devices (counts (M.runs_of runner) steps)
 
 -- no device was called but the sink
 abbrev pub OnlyWrites : Scene → Scene → Type 0

@@ -75,18 +75,25 @@ module _ {T : Type 0} (means : Meanings T) where
   abbrev pub engine_for : Work → Machine (Compiled T)
   engine_for w = compiler (means w.directories (limits_of w)) w.directories
 
-  -- what a build's round leads to, from an engine that has taken nothing
-  abbrev pub round_for : Work → List (List MemFile) → Next (Compiled T)
-  round_for w pictures = next (engine_for w) build_round (started nothing pictures [])
+  -- what a build's round leads to, from an engine that has come to this
+  abbrev pub round_from : Compiled T → Work → List (List MemFile) → Next (Compiled T)
+  round_from e w pictures = next (engine_for w) build_round (started e pictures [])
 
   -- over a shelf with these names
-  abbrev pub session_for : Work → List (List ℕ) → List (List MemFile) → Session
-  session_for w names pictures =
-      session_after (engine_for w) w.most_removed names (round_for w pictures)
+  abbrev pub session_from : Compiled T → Work → List (List ℕ) → List (List MemFile) → Session
+  session_from e w names pictures =
+      session_after (engine_for w) w.most_removed names (round_from e w pictures)
 
   -- where the session then stands, with the runs and the steps that were made
+  abbrev pub state_from : Compiled T → Work → List (List MemFile) → State (Compiled T)
+  state_from e w pictures = state_in (round_from e w pictures)
+
+  -- .. from an engine that has taken nothing
+  abbrev pub session_for : Work → List (List ℕ) → List (List MemFile) → Session
+  session_for = session_from nothing
+
   abbrev pub state_for : Work → List (List MemFile) → State (Compiled T)
-  state_for w pictures = state_in (round_for w pictures)
+  state_for = state_from nothing
 
 -- the session came to its end: its text is written, and the shelf is the session's
 pub record Finished (s : Session) (how : Ended) (held_old held_new : Option (List ℕ))

@@ -1,6 +1,6 @@
 ghost use Rattle.std.specs.Prelude.{◌≡◌, ◌≤◌, ◌⊎◌, IfOk, IfErr, OnOk, OnErr, IfSome, Some, true};
-ghost use Rattle.compiler.specs.Compiler.{nothing};
-ghost use Rattle.compiler.specs.Standing.{counts, IsIn, HasSpentAtMost};
+ghost use Rattle.compiler.specs.Compiler.{Compiled};
+ghost use Rattle.compiler.specs.Standing.{IsBegun, IsFaithful, IsIn, HasSpentAtMost, counts};
 ghost use Rattle.outside.specs.Causes.{Caused};
 ghost use Rattle.outside.specs.Contents.{Appends, AppendsPart};
 ghost use Rattle.publication.specs.Listings.{Lists};
@@ -9,7 +9,7 @@ ghost use Rattle.rebuild.specs.Engines.{turns_left_of};
 ghost use Rattle.site_build.specs.Ends.{IsEndOf, IsFailureOf, OfSink, OfSource, IsRoundEnd};
 ghost use Rattle.site_build.specs.Rounds.{Follows, Reaches, Spends, given_by, session_at};
 ghost use Rattle.site_build.specs.Scenes.{outs};
-ghost use Rattle.site_build.specs.Session.{TakesEarly, IsPassed, ended_behind, limits_of, session_for, state_for, text_behind};
+ghost use Rattle.site_build.specs.Session.{TakesEarly, IsPassed, ended_behind, limits_of, session_for, state_for, state_from, text_behind};
 ghost use Rattle.session.specs.Sessions.{end_line};
 ghost use Rattle.session.specs.declared.Ended.TheVariants as ended;
 ghost use Rattle.site_build.specs.declared.ends.Device.{Device};
@@ -19,7 +19,7 @@ use crate::ends::End;
 use crate::handed::Devices;
 use base::{Steps, Text};
 use command_words::Work;
-use compiler::{Built, Took, Works, make_turns, start, take_next};
+use compiler::{Built, Took, Works, make_all_turns, start, take_next};
 use outside::{Lines, Shelf, Sink, Source};
 use pan_ast::Limits;
 use publication::Publication;
@@ -49,7 +49,7 @@ pub fn limits(work: &Work) -> Limits
 }
 
 /// A session that ends with a line.
-fn end_with_line<O: Sink>(out: &mut O, line: &[u8], ended: Ended) -> Result<Ended, End>
+pub fn end_with_line<O: Sink>(out: &mut O, line: &[u8], ended: Ended) -> Result<Ended, End>
     ensures ended { IfOk result (λ reached. reached ≡ ended) }
     ensures ok { OnOk result (Appends (O.held out.old) line.now (O.held out.new)) }
     ensures err { OnErr result (AppendsPart (O.held out.old) line.now (O.held out.new)) }
@@ -71,7 +71,7 @@ fn too_many(alloc: Global, removals: usize) -> Result<Vec<u8>, AllocError>
 }
 
 /// Writes the report behind a publication, or the line of one that was refused.
-fn tell<O: Sink>(
+pub fn tell<O: Sink>(
     alloc: Global,
     publication: &Publication,
     report: &[u8],
@@ -132,7 +132,7 @@ fn finish<R: Runner, S: Source, H: Shelf, N: Lines, O: Sink>(
 ) -> Result<Ended, End>
     requires settled { reached ≡ Reached.All → turns_left_of works.now.engine.core ≡ 0 }
     requires listed { Lists listed.now (H.cell devices.old.shelf) }
-    ensures follows { Follows
+    ensures follows { (reached ≡ Reached.All → IsFaithful R.meaning works.now) → Follows
         (session_at most listed.now R.meaning reached works.now.engine.core) listed.now result
         (outs H.Shelf O.Sink devices.old.shelf devices.old.out)
         (outs H.Shelf O.Sink devices.new.shelf devices.new.out) }
@@ -167,20 +167,24 @@ fn finish<R: Runner, S: Source, H: Shelf, N: Lines, O: Sink>(
 }
 
 /// Scans the source and compiles what was scanned, as far as it goes.
-fn settle<R: Runner, S: Source, L: Ledger>(
+pub fn settle<R: Runner, S: Source, L: Ledger>(
     alloc: Global,
     works: &mut Works<R>,
     source: &mut S,
     steps: &mut Steps<L>,
 ) -> Result<Reached, End>
-    ensures ok { IfOk result (λ how. (work : Work) → IsIn work.directories (limits_of work)
-        works.old.engine.core nothing → IfSome (S.coming source.old) (λ ps. Reaches R.meaning work
-        how ps works.new.engine.core (counts (R.runs_of works.old.runner) steps.old)
+    ensures ok { IsBegun R.meaning works.old → IfOk result (λ how. (work : Work)
+        (e : Compiled R.Rest) → IsIn work.directories (limits_of work) works.old.engine.core e
+        → IfSome (S.coming source.old) (λ ps. Reaches R.meaning e work how ps
+        works.new.engine.core (counts (R.runs_of works.old.runner) steps.old)
         (counts (R.runs_of works.new.runner) steps.new))) }
-    ensures cut { OnErr result ((work : Work) → IsIn work.directories (limits_of work)
-        works.old.engine.core nothing → IfSome (S.coming source.old) (λ ps. HasSpentAtMost
-        (state_for R.meaning work ps) (counts (R.runs_of works.old.runner) steps.old)
-        (counts (R.runs_of works.new.runner) steps.new))) }
+    ensures cut { IsBegun R.meaning works.old → OnErr result ((work : Work)
+        (e : Compiled R.Rest) → IsIn work.directories (limits_of work) works.old.engine.core e
+        → IfSome (S.coming source.old) (λ ps. HasSpentAtMost (state_from R.meaning e work ps)
+        (counts (R.runs_of works.old.runner) steps.old) (counts (R.runs_of works.new.runner)
+        steps.new))) }
+    ensures faithful { IsBegun R.meaning works.old
+        → IfOk result (λ how. how ≡ Reached.All → IsFaithful R.meaning works.new) }
     ensures settled { IfOk result (λ how. how ≡ Reached.All
         → turns_left_of works.new.engine.core ≡ 0) }
     ensures kind { IfErr result (IsEndOf OfSource) }
@@ -197,8 +201,7 @@ fn settle<R: Runner, S: Source, L: Ledger>(
         Took::IsTooMuch => return Ok(Reached::TooMuch),
         Took::Taken => {}
     }
-    let left = works.engine.turns_left();
-    if make_turns(alloc, works, left, steps)? {
+    if make_all_turns(alloc, works, steps)? {
         return Ok(Reached::All);
     }
     Ok(Reached::NumbersSpent)

@@ -10,8 +10,8 @@ mod ends;
 mod handed;
 mod run;
 
-pub use building::limits;
-pub use devices::{list_shelf, open_shelf, open_source, write};
+pub use building::{Reached, end_with_line, limits, settle, tell};
+pub use devices::{list_shelf, open_shelf, open_source, publish, write};
 pub use ends::{Device, End};
 pub use handed::Devices;
 pub use run::build_site;

@@ -1,5 +1,5 @@
 ghost use Rattle.std.specs.Prelude.{◌≡◌, ◌≤◌, IfOk, OnOk, OnErr, [], ◌++◌, codes};
-ghost use Rattle.compiler.specs.Standing.{compiled_in, machine_in};
+ghost use Rattle.compiler.specs.Standing.{IsFaithful, compiled_in, machine_in};
 ghost use Rattle.publication.specs.Published.{Knows};
 ghost use Rattle.rebuild.specs.Engines.{turns_left_of};
 ghost use Rattle.session.specs.Orders as orders;
@@ -16,7 +16,8 @@ use crate::texts::{
 };
 use base::Steps;
 use compiler::{
-    Took, Works, build, deps, make_turns, push_cause, shown, take_next, touched, unused,
+    Took, Works, build, deps, make_all_turns, make_turns, push_cause, shown, take_next, touched,
+    unused,
 };
 use outside::{Shelf, Source};
 use publication::Publisher;
@@ -107,6 +108,7 @@ fn publish_built<R: Runner, H: Shelf>(
     text: &mut Vec<u8>,
 ) -> Result<(), AllocError>
     requires text { text.old.items ≡ [] }
+    requires faithful { IsFaithful R.meaning works.now }
     requires settled { turns_left_of works.now.engine.core ≡ 0 }
     requires knows { Knows publisher.old (H.cell shelf.old) }
     ensures done { OnOk result (Publishes (machine_in R.meaning works.now.engine.core)
@@ -134,6 +136,7 @@ fn show_line<R: Runner>(
     name: &str,
     text: &mut Vec<u8>,
 ) -> Result<(), AllocError>
+    requires { IsFaithful R.meaning works.now }
     ensures { OnOk result (text.new.items ≡ text.old.items ++ about outcome_text (shown_of
         (machine_in R.meaning works.now.engine.core) name.now
         (compiled_in works.now.engine.core))) }
@@ -148,6 +151,7 @@ fn deps_line<R: Runner>(
     name: &str,
     text: &mut Vec<u8>,
 ) -> Result<(), AllocError>
+    requires { IsFaithful R.meaning works.now }
     ensures { OnOk result (text.new.items ≡ text.old.items ++ about deps_text (deps_of
         (machine_in R.meaning works.now.engine.core) name.now
         (compiled_in works.now.engine.core))) }
@@ -162,6 +166,7 @@ fn impact_line<R: Runner>(
     file: &str,
     text: &mut Vec<u8>,
 ) -> Result<(), AllocError>
+    requires { IsFaithful R.meaning works.now }
     ensures { OnOk result (text.new.items ≡ text.old.items ++ touched_text (touched_of (machine_in
         R.meaning works.now.engine.core) file.now (compiled_in works.now.engine.core))) }
 {
@@ -174,6 +179,7 @@ fn unused_line<R: Runner>(
     works: &Works<R>,
     text: &mut Vec<u8>,
 ) -> Result<(), AllocError>
+    requires { IsFaithful R.meaning works.now }
     ensures { OnOk result (text.new.items ≡ text.old.items ++ unused_text (unused_of (machine_in
         R.meaning works.now.engine.core) (compiled_in works.now.engine.core))) }
 {
@@ -214,8 +220,7 @@ fn build_line<R: Runner, S: Source, H: Shelf, L: Ledger>(
         Took::SpendsNumbers => return Ok(Step::SpendsNumbers),
         Took::IsTooMuch => return Ok(Step::IsTooMuch),
     }
-    let left = site.works.engine.turns_left();
-    if !make_turns(alloc, &mut site.works, left, steps)? {
+    if !make_all_turns(alloc, &mut site.works, steps)? {
         return Ok(Step::SpendsNumbers);
     }
     publish_built(

@@ -1,5 +1,5 @@
 use Rattle.std.proofs.Common.{◌≡◌, Some, ap, refl, ◌∙◌}
-use Rattle.format_site.specs.Formats.{seen}
+use Rattle.site_build.specs.Scenes.{seen}
 use Rattle.format_site.proofs.Opening.{Over, Ready, breaks, err_for_all, finishes, ok_for_all, over_from, ready_by}
 use Rattle.site_build.specs.Scenes.{Scene}
 use Rattle.site_build.proofs.Opening.{opened_by}

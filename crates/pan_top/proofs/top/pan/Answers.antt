@@ -1,7 +1,13 @@
 use Rattle.compiler.proofs.Untouched.{leaves_rest}
 use Rattle.format_laws.proofs.Formatting.{formatting_kept, settled_again}
+use Rattle.kept_works.proofs.Nothing.{nothing_sound}
 use Rattle.pan_top.proofs.Profiles.{are_kept}
 use Rattle.pan_top.proofs.top.pan.Goals as goal
+
+-- where there are no rows, nothing has to be believed of them
+pub returns-clause-unkept : goal.returns-clause-unkept
+returns-clause-unkept g c = λ work found gives fits.
+    ∣ nothing_sound g.R.Runner.meaning g.met.R.Runner.laws found gives ∣₁
 
 pub returns-clause-profiles : goal.returns-clause-profiles
 returns-clause-profiles g c = are_kept g.R.Runner.meaning g.met.R.Runner.laws g.met.R.Runner.by_name g.R.Runner.promises g.met.R.Runner.kept

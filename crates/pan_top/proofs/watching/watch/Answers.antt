@@ -13,7 +13,8 @@ use Rattle.pan_top.proofs.watching.watch.Goals as goal
 
 -- the devices could not be opened
 pub returns-in-Err : goal.returns-in-Err
-returns-in-Err g c = inr (record {
+returns-in-Err g c = rw (c.hand_back.ensures.status, c.hand_back.ensures.runner,
+    c.hand_back.ensures.devices) (inr (record {
   end = c.in-Err.end;
   opening = c.in-Err.ensures.kind;
   text = c.close_build-status.ensures.text [] (g.O.Sink.held c.args.devices.out) (early_held c.in-Err.end (g.O.Sink.held c.args.devices.out));
@@ -28,11 +29,12 @@ returns-in-Err g c = inr (record {
   source_count = counted_of c.in-Err.end _ _ c.in-Err.ensures.source_cause;
   shelf_count = counted_of c.in-Err.end _ _ c.in-Err.ensures.shelf_cause;
   out_count = c.close_build-status.ensures.count (g.O.Sink.fault_count c.args.devices.out) (counted_same (IsFailureOf D.Out c.in-Err.end) _ _ refl (not_sinks c.in-Err.end c.in-Err.ensures.kind));
-})
+}))
 
 -- memory was wanting before the first line
 pub returns-in_default : goal.returns-in_default
-returns-in_default g c = inr (record {
+returns-in_default g c = rw (c.hand_back-in_default.ensures.status,
+    c.hand_back-in_default.ensures.runner, c.hand_back-in_default.ensures.devices) (inr (record {
   end = E.Memory;
   opening = tt;
   text = memory_wrote (g.O.Sink.held c.args.devices.out);
@@ -47,7 +49,7 @@ returns-in_default g c = inr (record {
   source_count = counted_same (IsFailureOf D.Source E.Memory) _ _ c.in-Ok.ensures.source_cause.done (λ is. cc);
   shelf_count = counted_same (IsFailureOf D.Shelf E.Memory) _ _ c.in-Ok.ensures.shelf_cause.done (λ is. cc);
   out_count = counted_same (S.Memory ≡ S.OutFault) _ _ refl (λ is. cc);
-})
+}))
 
 -- the lines were played
 pub returns : goal.returns

@@ -1,5 +1,6 @@
 use Rattle.std.proofs.Common.{IfErr, IfSome, rules, sym, subst}
 use Rattle.std.proofs.lemmas.Result.{IfOk-weaker, err_from_is_err_and}
+use Rattle.compiler.proofs.Fits.{begins}
 use Rattle.compiler.specs.Compiler.{nothing}
 use Rattle.compiler.specs.Standing.{counts, HasSpentAtMost, IsIn}
 use Rattle.outside.specs.Causes.{Caused}
@@ -43,8 +44,9 @@ returns-in_err-reached-clause-spent g c =
     let coming = g.S.Source.coming c.args.devices.now.source in
     let steps = c.args.steps.now in
     let is : IsIn work.directories (limits_of work) core nothing = subst (λ l. IsIn work.directories l core nothing) c.limits.ensures (subst (λ d. IsIn d c.limits.result core nothing) c.as_slice.ensures c.in_ok-start.ensures.at) in
+    let begun = begins M c.start.new.works c.in_ok-start.ensures.faithful in
     let now = counts (g.R.Runner.runs_of c.settle.new.works.runner) c.settle.new.steps in
-    spends_err (state_for M work) coming r p.0 (counts (g.R.Runner.runs_of c.args.works.now.runner) steps) now p.1 (subst (λ n. IfSome coming (λ ps. HasSpentAtMost (state_for M work ps) (counts n steps) now)) c.start.ensures.runs (c.in_err-reached.ensures.cut work is))
+    spends_err (state_for M work) coming r p.0 (counts (g.R.Runner.runs_of c.args.works.now.runner) steps) now p.1 (subst (λ n. IfSome coming (λ ps. HasSpentAtMost (state_for M work ps) (counts n steps) now)) c.start.ensures.runs (c.in_err-reached.ensures.cut begun work nothing is))
 
 pub returns-in_err-reached-clause-shelf_cause : goal.returns-in_err-reached-clause-shelf_cause
 returns-in_err-reached-clause-shelf_cause g c =
@@ -64,12 +66,13 @@ returns-clause-follows g c =
     let coming = g.S.Source.coming c.args.devices.now.source in
     let steps = c.args.steps.now in
     let is : IsIn work.directories (limits_of work) core nothing = subst (λ l. IsIn work.directories l core nothing) c.limits.ensures (subst (λ d. IsIn d c.limits.result core nothing) c.as_slice.ensures c.in_ok-start.ensures.at) in
+    let begun = begins M c.start.new.works c.in_ok-start.ensures.faithful in
     let now = counts (g.R.Runner.runs_of c.settle.new.works.runner) c.settle.new.steps in
     let before = counts (g.R.Runner.runs_of c.args.works.now.runner) steps in
     let how = c.in_ok-reached.reached in
     let last = c.settle.new.works.engine.core in
-    let reaches : IfSome coming (λ ps. Reaches M work how ps last before now) = subst (λ n. IfSome coming (λ ps. Reaches M work how ps last (counts n steps) now)) c.start.ensures.runs (c.in_ok-reached.ensures.ok work is) in
-    comes_to M work c.args.listed.now how last before now (λ s. Follows s c.args.listed.now c.finish.result (outs g.H.Shelf g.O.Sink c.args.devices.now.shelf c.args.devices.now.out) (outs g.H.Shelf g.O.Sink c.finish.new.devices.shelf c.finish.new.devices.out)) coming reaches c.finish.ensures.follows
+    let reaches : IfSome coming (λ ps. Reaches M nothing work how ps last before now) = subst (λ n. IfSome coming (λ ps. Reaches M nothing work how ps last (counts n steps) now)) c.start.ensures.runs (c.in_ok-reached.ensures.ok begun work nothing is) in
+    comes_to M nothing work c.args.listed.now how last before now (λ s. Follows s c.args.listed.now c.finish.result (outs g.H.Shelf g.O.Sink c.args.devices.now.shelf c.args.devices.now.out) (outs g.H.Shelf g.O.Sink c.finish.new.devices.shelf c.finish.new.devices.out)) coming reaches (c.finish.ensures.follows (c.in_ok-reached.ensures.faithful begun))
 
 pub returns-clause-spent : goal.returns-clause-spent
 returns-clause-spent g c =
@@ -79,16 +82,17 @@ returns-clause-spent g c =
     let coming = g.S.Source.coming c.args.devices.now.source in
     let steps = c.args.steps.now in
     let is : IsIn work.directories (limits_of work) core nothing = subst (λ l. IsIn work.directories l core nothing) c.limits.ensures (subst (λ d. IsIn d c.limits.result core nothing) c.as_slice.ensures c.in_ok-start.ensures.at) in
+    let begun = begins M c.start.new.works c.in_ok-start.ensures.faithful in
     let now = counts (g.R.Runner.runs_of c.settle.new.works.runner) c.settle.new.steps in
     let before = counts (g.R.Runner.runs_of c.args.works.now.runner) steps in
     let how = c.in_ok-reached.reached in
     let last = c.settle.new.works.engine.core in
-    let reaches : IfSome coming (λ ps. Reaches M work how ps last before now) = subst (λ n. IfSome coming (λ ps. Reaches M work how ps last (counts n steps) now)) c.start.ensures.runs (c.in_ok-reached.ensures.ok work is) in
+    let reaches : IfSome coming (λ ps. Reaches M nothing work how ps last before now) = subst (λ n. IfSome coming (λ ps. Reaches M nothing work how ps last (counts n steps) now)) c.start.ensures.runs (c.in_ok-reached.ensures.ok begun work nothing is) in
     let old = g.H.Shelf.cell c.args.devices.now.shelf in
     let new = g.H.Shelf.cell c.finish.new.devices.shelf in
     let held = g.O.Sink.held c.args.devices.now.out in
     let held' = g.O.Sink.held c.finish.new.devices.out in
-    spends_on M work c.args.listed.now how last before now coming reaches c.finish.result (IfOk-weaker _ _ _ (λ ended. λ (f : Finished (session_at work.most_removed c.args.listed.now M how last) ended held held' old new). f.ended) c.finish.ensures.follows.ok)
+    spends_on M nothing work c.args.listed.now how last before now coming reaches c.finish.result (IfOk-weaker _ _ _ (λ ended. λ (f : Finished (session_at work.most_removed c.args.listed.now M how last) ended held held' old new). f.ended) (c.finish.ensures.follows (c.in_ok-reached.ensures.faithful begun)).ok)
 
 pub returns-clause-pictures : goal.returns-clause-pictures
 returns-clause-pictures g c =

@@ -1,4 +1,5 @@
 use Rattle.std.proofs.Common.{◌≡◌, ◌++◌, ap₂, codes, length, refl, rules, subst, ◌∙◌}
+use Rattle.compiler.proofs.Fits.{begins}
 use Rattle.compiler.specs.Compiler.{compiler}
 use Rattle.compiler.specs.Standing.{counts, TakesNext}
 use Rattle.engine_turns.specs.Places.{names}
@@ -16,7 +17,7 @@ pub returns-in_ok-extend_from_slice-in-Failed-clause-went : goal.returns-in_ok-e
 returns-in_ok-extend_from_slice-in-Failed-clause-went g c =
     let text : c.extend_from_slice.new.self.items ≡ codes "source fault\n" = search rules in
     λ dirs limits s start began at.
-    scan_failed (compiler (g.R.Runner.meaning dirs limits) dirs) dirs limits s (spot_of g.R.Runner g.S.Source g.H.Shelf c.args.site.now c.args.steps.now) _ _ _ _ start began Scan _ _ refl (λ line scan. refl) at (subst (λ how. TakesNext (compiler (g.R.Runner.meaning dirs limits) dirs) dirs limits s how c.take_next.new.works.engine.core began (counts (g.R.Runner.runs_of c.take_next.new.works.runner) c.take_next.new.steps) (g.S.Source.coming c.take_next.new.source) (g.S.Source.fault_count c.args.site.now.source) (g.S.Source.fault_count c.take_next.new.source)) c.in-Failed.is (c.in_ok-take_next.ensures.took dirs limits s began at.engine at.coming)) c.take_next.ensures.count.later text
+    scan_failed (compiler (g.R.Runner.meaning dirs limits) dirs) dirs limits s (spot_of g.R.Runner g.S.Source g.H.Shelf c.args.site.now c.args.steps.now) _ _ _ _ start began Scan _ _ refl (λ line scan. refl) at (subst (λ how. TakesNext (compiler (g.R.Runner.meaning dirs limits) dirs) dirs limits s how c.take_next.new.works.engine.core began (counts (g.R.Runner.runs_of c.take_next.new.works.runner) c.take_next.new.steps) (g.S.Source.coming c.take_next.new.source) (g.S.Source.fault_count c.args.site.now.source) (g.S.Source.fault_count c.take_next.new.source)) c.in-Failed.is (c.in_ok-take_next.ensures.took (begins g.R.Runner.meaning c.args.site.now.works c.args.site.now.faithful) dirs limits s began at.engine at.coming)) c.take_next.ensures.count.later text
 
 pub returns-in_ok-push_files-in-Taken-clause-went : goal.returns-in_ok-push_files-in-Taken-clause-went
 returns-in_ok-push_files-in-Taken-clause-went g c =
@@ -24,16 +25,16 @@ returns-in_ok-push_files-in-Taken-clause-went g c =
     let count : c.len.result ≡ length (names core.rows.items) = search rules in
     let text : c.push_files.new.text.items ≡ files_line (length (pictured core.files.items)) (length (names core.rows.items)) = c.in_ok-push_files-in-Taken.ensures ∙ ap₂ (λ before line. before ++ line) c.requires.text (ap₂ (λ a b. files_line (length a) b) (c.files.ensures.files ∙ c.picture.ensures ∙ c.take_next.new.works.files) count) in
     λ dirs limits s start began at.
-    let t = subst (λ how. TakesNext (compiler (g.R.Runner.meaning dirs limits) dirs) dirs limits s how c.take_next.new.works.engine.core began (counts (g.R.Runner.runs_of c.take_next.new.works.runner) c.take_next.new.steps) (g.S.Source.coming c.take_next.new.source) (g.S.Source.fault_count c.args.site.now.source) (g.S.Source.fault_count c.take_next.new.source)) c.in-Taken.is (c.in_ok-take_next.ensures.took dirs limits s began at.engine at.coming) in
-    scan_taken (compiler (g.R.Runner.meaning dirs limits) dirs) dirs limits s (spot_of g.R.Runner g.S.Source g.H.Shelf c.args.site.now c.args.steps.now) _ _ _ _ start began c.push_files.new.text.items at t c.take_next.ensures.count.later (text ∙ files_are g.R.Runner.meaning core c.take_next.new.works.kept dirs limits t.state.engine t.stands.engine)
+    let t = subst (λ how. TakesNext (compiler (g.R.Runner.meaning dirs limits) dirs) dirs limits s how c.take_next.new.works.engine.core began (counts (g.R.Runner.runs_of c.take_next.new.works.runner) c.take_next.new.steps) (g.S.Source.coming c.take_next.new.source) (g.S.Source.fault_count c.args.site.now.source) (g.S.Source.fault_count c.take_next.new.source)) c.in-Taken.is (c.in_ok-take_next.ensures.took (begins g.R.Runner.meaning c.args.site.now.works c.args.site.now.faithful) dirs limits s began at.engine at.coming) in
+    scan_taken (compiler (g.R.Runner.meaning dirs limits) dirs) dirs limits s (spot_of g.R.Runner g.S.Source g.H.Shelf c.args.site.now c.args.steps.now) _ _ _ _ start began c.push_files.new.text.items at t c.take_next.ensures.count.later (text ∙ files_are g.R.Runner.meaning core (c.take_next.ensures.faithful c.args.site.now.faithful).kept dirs limits t.state.engine t.stands.engine)
 
 pub returns-in-SpendsNumbers-clause-went : goal.returns-in-SpendsNumbers-clause-went
 returns-in-SpendsNumbers-clause-went g c = λ dirs limits s start began at.
-    scan_spends (compiler (g.R.Runner.meaning dirs limits) dirs) dirs limits s (spot_of g.R.Runner g.S.Source g.H.Shelf c.args.site.now c.args.steps.now) _ _ _ _ start began Scan _ _ refl (λ line scan. refl) (subst (λ how. TakesNext (compiler (g.R.Runner.meaning dirs limits) dirs) dirs limits s how c.take_next.new.works.engine.core began (counts (g.R.Runner.runs_of c.take_next.new.works.runner) c.take_next.new.steps) (g.S.Source.coming c.take_next.new.source) (g.S.Source.fault_count c.args.site.now.source) (g.S.Source.fault_count c.take_next.new.source)) c.in-SpendsNumbers.is (c.in_ok-take_next.ensures.took dirs limits s began at.engine at.coming)) c.take_next.ensures.count.later
+    scan_spends (compiler (g.R.Runner.meaning dirs limits) dirs) dirs limits s (spot_of g.R.Runner g.S.Source g.H.Shelf c.args.site.now c.args.steps.now) _ _ _ _ start began Scan _ _ refl (λ line scan. refl) (subst (λ how. TakesNext (compiler (g.R.Runner.meaning dirs limits) dirs) dirs limits s how c.take_next.new.works.engine.core began (counts (g.R.Runner.runs_of c.take_next.new.works.runner) c.take_next.new.steps) (g.S.Source.coming c.take_next.new.source) (g.S.Source.fault_count c.args.site.now.source) (g.S.Source.fault_count c.take_next.new.source)) c.in-SpendsNumbers.is (c.in_ok-take_next.ensures.took (begins g.R.Runner.meaning c.args.site.now.works c.args.site.now.faithful) dirs limits s began at.engine at.coming)) c.take_next.ensures.count.later
 
 pub returns-in-IsTooMuch-clause-went : goal.returns-in-IsTooMuch-clause-went
 returns-in-IsTooMuch-clause-went g c = λ dirs limits s start began at.
-    scan_exceeds (compiler (g.R.Runner.meaning dirs limits) dirs) dirs limits s (spot_of g.R.Runner g.S.Source g.H.Shelf c.args.site.now c.args.steps.now) _ _ _ _ start began Scan _ _ refl (λ line scan. refl) (subst (λ how. TakesNext (compiler (g.R.Runner.meaning dirs limits) dirs) dirs limits s how c.take_next.new.works.engine.core began (counts (g.R.Runner.runs_of c.take_next.new.works.runner) c.take_next.new.steps) (g.S.Source.coming c.take_next.new.source) (g.S.Source.fault_count c.args.site.now.source) (g.S.Source.fault_count c.take_next.new.source)) c.in-IsTooMuch.is (c.in_ok-take_next.ensures.took dirs limits s began at.engine at.coming)) c.take_next.ensures.count.later
+    scan_exceeds (compiler (g.R.Runner.meaning dirs limits) dirs) dirs limits s (spot_of g.R.Runner g.S.Source g.H.Shelf c.args.site.now c.args.steps.now) _ _ _ _ start began Scan _ _ refl (λ line scan. refl) (subst (λ how. TakesNext (compiler (g.R.Runner.meaning dirs limits) dirs) dirs limits s how c.take_next.new.works.engine.core began (counts (g.R.Runner.runs_of c.take_next.new.works.runner) c.take_next.new.steps) (g.S.Source.coming c.take_next.new.source) (g.S.Source.fault_count c.args.site.now.source) (g.S.Source.fault_count c.take_next.new.source)) c.in-IsTooMuch.is (c.in_ok-take_next.ensures.took (begins g.R.Runner.meaning c.args.site.now.works c.args.site.now.faithful) dirs limits s began at.engine at.coming)) c.take_next.ensures.count.later
 
 pub returns-in_err-take_next-clause-cut : goal.returns-in_err-take_next-clause-cut
 returns-in_err-take_next-clause-cut g c =
@@ -45,14 +46,14 @@ returns-in_err-take_next-clause-cut g c =
 pub returns-in_err-extend_from_slice-in-Failed-clause-cut : goal.returns-in_err-extend_from_slice-in-Failed-clause-cut
 returns-in_err-extend_from_slice-in-Failed-clause-cut g c = on_err c.from_residual-in_err-extend_from_slice-in-Failed.result (λ dirs limits s start began at.
     let machine = compiler (g.R.Runner.meaning dirs limits) dirs in
-    scan_untold g.R.Runner.meaning dirs limits s (spot_of g.R.Runner g.S.Source g.H.Shelf c.args.site.now c.args.steps.now) _ began c.take_next.new.works.engine.core Scan refl (λ u. writes u (files_line (length (machine.picture u.engine)) (length (answers_in machine u.engine)))) (λ line scan. refl) (writes_rises (λ u. files_line (length (machine.picture u.engine)) (length (answers_in machine u.engine)))) c.take_next.ensures.perhaps c.take_next.ensures.count.later refl _ (c.in_ok-take_next.ensures.took dirs limits s began at.engine at.coming))
+    scan_untold g.R.Runner.meaning dirs limits s (spot_of g.R.Runner g.S.Source g.H.Shelf c.args.site.now c.args.steps.now) _ began c.take_next.new.works.engine.core Scan refl (λ u. writes u (files_line (length (machine.picture u.engine)) (length (answers_in machine u.engine)))) (λ line scan. refl) (writes_rises (λ u. files_line (length (machine.picture u.engine)) (length (answers_in machine u.engine)))) c.take_next.ensures.perhaps c.take_next.ensures.count.later refl _ (c.in_ok-take_next.ensures.took (begins g.R.Runner.meaning c.args.site.now.works c.args.site.now.faithful) dirs limits s began at.engine at.coming))
 
 pub returns-in_err-objects-in-Taken-clause-cut : goal.returns-in_err-objects-in-Taken-clause-cut
 returns-in_err-objects-in-Taken-clause-cut g c = on_err c.from_residual-in_err-objects-in-Taken.result (λ dirs limits s start began at.
     let machine = compiler (g.R.Runner.meaning dirs limits) dirs in
-    scan_untold g.R.Runner.meaning dirs limits s (spot_of g.R.Runner g.S.Source g.H.Shelf c.args.site.now c.args.steps.now) _ began c.take_next.new.works.engine.core Scan refl (λ u. writes u (files_line (length (machine.picture u.engine)) (length (answers_in machine u.engine)))) (λ line scan. refl) (writes_rises (λ u. files_line (length (machine.picture u.engine)) (length (answers_in machine u.engine)))) c.take_next.ensures.perhaps c.take_next.ensures.count.later refl _ (c.in_ok-take_next.ensures.took dirs limits s began at.engine at.coming))
+    scan_untold g.R.Runner.meaning dirs limits s (spot_of g.R.Runner g.S.Source g.H.Shelf c.args.site.now c.args.steps.now) _ began c.take_next.new.works.engine.core Scan refl (λ u. writes u (files_line (length (machine.picture u.engine)) (length (answers_in machine u.engine)))) (λ line scan. refl) (writes_rises (λ u. files_line (length (machine.picture u.engine)) (length (answers_in machine u.engine)))) c.take_next.ensures.perhaps c.take_next.ensures.count.later refl _ (c.in_ok-take_next.ensures.took (begins g.R.Runner.meaning c.args.site.now.works c.args.site.now.faithful) dirs limits s began at.engine at.coming))
 
 pub returns-in_err-push_files-in-Taken-clause-cut : goal.returns-in_err-push_files-in-Taken-clause-cut
 returns-in_err-push_files-in-Taken-clause-cut g c = on_err c.from_residual-in_err-push_files-in-Taken.result (λ dirs limits s start began at.
     let machine = compiler (g.R.Runner.meaning dirs limits) dirs in
-    scan_untold g.R.Runner.meaning dirs limits s (spot_of g.R.Runner g.S.Source g.H.Shelf c.args.site.now c.args.steps.now) _ began c.take_next.new.works.engine.core Scan refl (λ u. writes u (files_line (length (machine.picture u.engine)) (length (answers_in machine u.engine)))) (λ line scan. refl) (writes_rises (λ u. files_line (length (machine.picture u.engine)) (length (answers_in machine u.engine)))) c.take_next.ensures.perhaps c.take_next.ensures.count.later refl _ (c.in_ok-take_next.ensures.took dirs limits s began at.engine at.coming))
+    scan_untold g.R.Runner.meaning dirs limits s (spot_of g.R.Runner g.S.Source g.H.Shelf c.args.site.now c.args.steps.now) _ began c.take_next.new.works.engine.core Scan refl (λ u. writes u (files_line (length (machine.picture u.engine)) (length (answers_in machine u.engine)))) (λ line scan. refl) (writes_rises (λ u. files_line (length (machine.picture u.engine)) (length (answers_in machine u.engine)))) c.take_next.ensures.perhaps c.take_next.ensures.count.later refl _ (c.in_ok-take_next.ensures.took (begins g.R.Runner.meaning c.args.site.now.works c.args.site.now.faithful) dirs limits s began at.engine at.coming))

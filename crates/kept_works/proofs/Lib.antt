@@ -1,0 +1,4 @@
+pub mod Ordered
+pub mod Begun
+pub mod Held
+pub mod Nothing

@@ -1,0 +1,2 @@
+-- Rows that no state has.
+pub mod Refused
