@@ -5,6 +5,7 @@
 
 - docs/pan.1 is what docs/make_man.py makes of docs/COMMANDS.md, and groff shows it without a warning.
 - Each link of a document leads to a file that is there, as does each path in it, and README.md names each document.
+- What docs/ARCHITECTURE.md names as the definition or the code of a rule is there.
 - docs/FAULTS.md and docs/LANGUAGE.md have each fault code of the compiler once; ./pan --help names each option.
 - What README.md shows is examples/first, and the program does it. The examples of the other documents are run by tests/run.
 - Each folder of examples/ is run by a row.
@@ -37,7 +38,8 @@ def man_page():
 
 
 def pages():
-    return [TOP / "README.md", TOP / "tests" / "README.md", *sorted(DOCS.glob("*.md"))]
+    readmes = [TOP / folder / "README.md" for folder in (".", "editors", "tests")]
+    return [*readmes, *sorted(DOCS.glob("*.md"))]
 
 
 def anchors_of(page):
@@ -62,39 +64,57 @@ def links():
     yield f"README.md names each document {' '.join(missing)}".rstrip(), not missing
 
 
-def spans_of(page):
-    """What stands between backquotes in a page, and not in its indented blocks."""
-    text = re.sub(r"^    .*$", "", page.read_text(), flags=re.M)
-    return re.findall(r"(?<!`)`([^`\n]+)`(?!`)", text)
+# A path below a folder of the repository, and one below a crate's folder, wherever they stand in a page.
+BEFORE_A_PATH = r"(?<![\w/.<>-])"
+OF_THE_TOP = re.compile(BEFORE_A_PATH + r"(?:\.ci|bench|contrib|crates|dist|docs|editors|examples|tests)/[\w./*+-]+")
+OF_A_CRATE = re.compile(BEFORE_A_PATH + r"(?:crates/)?([a-z]\w*)/((?:must-fail|proofs|specs|src)(?:/[\w.+]+)*)")
+ENDINGS = ("", ".antt", ".rt")
 
 
-def is_there(span):
-    """Whether a path of the repository that a span is leads somewhere; true for all that is none, and for NAME in it."""
-    if "NAME" in span:
-        return True
-    part = re.match(r"(?:crates/)?([a-z_]+)/((?:specs|src|proofs|must-fail)(?:/[\w+]+)*)(\.\w+)?$", span)
-    if part and (TOP / "crates" / part[1]).is_dir():
-        path = TOP / "crates" / part[1] / part[2]
-        return any(path.with_name(path.name + end).exists() for end in (part[3] or "", ".antt", ".rt"))
-    if re.match(r"(?:bench|contrib|crates|docs|editors|examples|tests)/[\w./*-]+$", span):
-        return any(TOP.glob(span.rstrip("/")))
-    return True
+def is_of_a_crate(name, rest):
+    """Whether a crate has this file or folder; a file of definitions, proofs or code may stand without its ending."""
+    return any((TOP / "crates" / name / f"{rest}{ending}").exists() for ending in ENDINGS)
 
 
-def named_definitions():
-    """The modules that ARCHITECTURE.md's table of rules names behind a crate's folder specs, as `crate/specs` `A`, `B`."""
-    for line in (DOCS / "ARCHITECTURE.md").read_text().splitlines():
-        for crate, names in re.findall(r"`([a-z_]+)/specs` ((?:`[A-Z]\w*`(?:, )?)+)", line):
-            for name in re.findall(r"`(\w+)`", names):
-                yield f"{crate}/specs/{name}"
+def paths_gone(text):
+    """The paths of a text that lead nowhere, but for those with NAME in them."""
+    for name, rest in OF_A_CRATE.findall(text):
+        if not is_of_a_crate(name, rest.rstrip(".")):
+            yield f"{name}/{rest}"
+    for path in OF_THE_TOP.findall(text):
+        path = path.rstrip("./")
+        if "NAME" not in path and not any(TOP.glob(path)) and not OF_A_CRATE.fullmatch(path):
+            yield path
+
+
+NAMES = r"((?:`\w+`(?:, )?)+)"
+
+
+def has_definition(file, name):
+    """Whether a file of definitions, `crate/specs/File`, has this one."""
+    path = TOP / "crates" / f"{file}.antt"
+    head = re.compile(rf"^ *(?:(?:abbrev|data|pub|record|unfoldable) )*{name} [:({{]", re.M)
+    return path.exists() and head.search(path.read_text())
+
+
+def rules_gone():
+    """What ARCHITECTURE.md's tables name and is not there: in `crate/specs` `File` a file of definitions, in `crate`:
+    `file` a file of code, in `crate/specs/File` `name` a definition."""
+    rows = "\n".join(re.findall(r"^\|.*$", (DOCS / "ARCHITECTURE.md").read_text(), re.M))
+    for between, folder in ((r"/specs` ", "specs"), (r"`: ", "src")):
+        for crate, names in re.findall(rf"`([a-z]\w*){between}{NAMES}", rows):
+            files = [f"{folder}/{name}" for name in re.findall(r"\w+", names)]
+            yield from (f"{crate}/{file}" for file in files if not is_of_a_crate(crate, file))
+    for file, names in re.findall(rf"`([a-z]\w*/specs/\w+)` {NAMES}", rows):
+        yield from (f"{file} {name}" for name in re.findall(r"\w+", names) if not has_definition(file, name))
 
 
 def paths():
     for page in pages():
-        gone = sorted({span for span in spans_of(page) if not is_there(span)})
+        gone = sorted(set(paths_gone(page.read_text())))
         yield f"paths of {page.relative_to(TOP)} {' '.join(gone)}".rstrip(), not gone
-    gone = sorted(name for name in named_definitions() if not is_there(name))
-    yield f"definitions of docs/ARCHITECTURE.md {' '.join(gone)}".rstrip(), not gone
+    gone = sorted(set(rules_gone()))
+    yield f"rules of docs/ARCHITECTURE.md {', '.join(gone)}".rstrip(), not gone
 
 
 def codes():
