@@ -11,8 +11,8 @@ ghost use Rattle.pan_top.specs.declared.status.Status.{Status};
 
 use crate::status::Status;
 use base::Text;
-use outside::Sink;
 use kept_build::End as KeptEnd;
+use outside::Sink;
 use site_build::{End, write};
 use std::alloc::{AllocError, Global};
 

@@ -16,9 +16,9 @@ returns-in-Err g c =
     let old = c.args.devices.now in
     let new = c.build_kept.new.devices in
     let before = scene g.R.Runner g.S.Source g.H.Shelf g.N.Lines g.O.Sink c.args.works.now.runner
-        old.devices c.args.steps.now in
+    old.devices c.args.steps.now in
     let mid = scene g.R.Runner g.S.Source g.H.Shelf g.N.Lines g.O.Sink
-        c.build_kept.new.works.runner new.devices c.build_kept.new.steps in
+    c.build_kept.new.works.runner new.devices c.build_kept.new.steps in
     let broke = c.in-Err.ensures.part in
     inr (record {
       end = c.in-Err.end;

@@ -13,8 +13,11 @@ use Rattle.pan_top.proofs.watching.watch.Goals as goal
 
 -- the devices could not be opened
 pub returns-in-Err : goal.returns-in-Err
-returns-in-Err g c = rw (c.hand_back.ensures.status, c.hand_back.ensures.runner,
-    c.hand_back.ensures.devices) (inr (record {
+returns-in-Err g c = rw (
+  c.hand_back.ensures.status,
+  c.hand_back.ensures.runner,
+  c.hand_back.ensures.devices,
+) (inr (record {
   end = c.in-Err.end;
   opening = c.in-Err.ensures.kind;
   text = c.close_build-status.ensures.text [] (g.O.Sink.held c.args.devices.out) (early_held c.in-Err.end (g.O.Sink.held c.args.devices.out));
@@ -33,8 +36,11 @@ returns-in-Err g c = rw (c.hand_back.ensures.status, c.hand_back.ensures.runner,
 
 -- memory was wanting before the first line
 pub returns-in_default : goal.returns-in_default
-returns-in_default g c = rw (c.hand_back-in_default.ensures.status,
-    c.hand_back-in_default.ensures.runner, c.hand_back-in_default.ensures.devices) (inr (record {
+returns-in_default g c = rw (
+  c.hand_back-in_default.ensures.status,
+  c.hand_back-in_default.ensures.runner,
+  c.hand_back-in_default.ensures.devices,
+) (inr (record {
   end = E.Memory;
   opening = tt;
   text = memory_wrote (g.O.Sink.held c.args.devices.out);
