@@ -4,8 +4,8 @@
 //! Each line says something of the next run. `file NAME TEXT` is a file of the source, TEXT being all behind NAME, and
 //! a line feed; `many COUNT NAME TEXT` are the files `0NAME`, `1NAME` and so on. `kept NAME TEXT` stands on the shelf
 //! before the run. `line TEXT` is a line of a watcher. The keeper holds the rows that the run before left; `forget` takes
-//! them away, and `row NAME HEX` adds one. `fail DEVICE CALL` has a call of the `source`, the `shelf`, the `keeper`, the `lines` or the
-//! `sink` fail, the first being 0. The source gives the files once, and then an empty picture.
+//! them away, and `row NAME HEX` adds one. `fail DEVICE CALL` has a call of the `source`, the `shelf`, the `keeper`, the
+//! `lines` or the `sink` fail, the first being 0. The source gives the files once, and then an empty picture.
 //! `run WORD ..` calls the compiler with these words, and forgets what was said. Behind `status` stand the faults that
 //! the source, the shelf, the keeper and the sink counted, and the runs that were made. Behind the shelf stand the names
 //! of the rows that are kept. Any other line is a remark. An object's text
@@ -20,7 +20,7 @@ use keepers::{Keeper, MemKeeper};
 use outside::{
     Held, MemFile, MemLines, MemShelf, MemSink, MemSource, Shelf, Sink, Source, are_distinct,
 };
-use pan_top::{Devices, pan};
+use pan_top::{Devices, HandedBack, pan};
 use std::alloc::{AllocError, Global};
 use std::marker::Brand;
 use std::mem;
@@ -35,11 +35,17 @@ struct Case {
     held: Vec<Held>,
     lines: Vec<Bytes>,
     rows: Vec<StoredRow>,
-    source_fails: Vec<u64>,
-    shelf_fails: Vec<u64>,
-    keeper_fails: Vec<u64>,
-    lines_fails: Vec<u64>,
-    sink_fails: Vec<u64>,
+    fails: Fails,
+}
+
+/// The calls of each device that are to fail.
+#[derive(Drop)]
+struct Fails {
+    source: Vec<u64>,
+    shelf: Vec<u64>,
+    keeper: Vec<u64>,
+    lines: Vec<u64>,
+    sink: Vec<u64>,
 }
 
 fn new_case(alloc: Global) -> Case {
@@ -48,11 +54,17 @@ fn new_case(alloc: Global) -> Case {
         held: Vec::new(alloc),
         lines: Vec::new(alloc),
         rows: Vec::new(alloc),
-        source_fails: Vec::new(alloc),
-        shelf_fails: Vec::new(alloc),
-        keeper_fails: Vec::new(alloc),
-        lines_fails: Vec::new(alloc),
-        sink_fails: Vec::new(alloc),
+        fails: no_fails(alloc),
+    }
+}
+
+fn no_fails(alloc: Global) -> Fails {
+    Fails {
+        source: Vec::new(alloc),
+        shelf: Vec::new(alloc),
+        keeper: Vec::new(alloc),
+        lines: Vec::new(alloc),
+        sink: Vec::new(alloc),
     }
 }
 
@@ -104,11 +116,11 @@ fn watched_line(alloc: Global, case: &mut Case, text: &str) -> Result<()> {
 fn fail(case: &mut Case, device: &str, call: &str) -> Result<()> {
     let call = call.parse::<u64>()?;
     match device {
-        "source" => case.source_fails.push(call)?,
-        "shelf" => case.shelf_fails.push(call)?,
-        "keeper" => case.keeper_fails.push(call)?,
-        "lines" => case.lines_fails.push(call)?,
-        "sink" => case.sink_fails.push(call)?,
+        "source" => case.fails.source.push(call)?,
+        "shelf" => case.fails.shelf.push(call)?,
+        "keeper" => case.fails.keeper.push(call)?,
+        "lines" => case.fails.lines.push(call)?,
+        "sink" => case.fails.sink.push(call)?,
         _ => return Err(anyhow!("no device")),
     }
     Ok(())
@@ -137,28 +149,47 @@ fn print_rows(rt: &HostRuntime, rows: &[StoredRow]) -> Result<()> {
     Ok(())
 }
 
-/// Calls the compiler, and gives the rows that are kept then.
-fn run<L: Ledger>(
-    rt: &HostRuntime,
-    case: Case,
-    words: &str,
-    steps: &mut Steps<L>,
-) -> Result<Vec<StoredRow>> {
-    let alloc = rt.alloc();
-    let words = words_of(alloc, words)?;
-    if !are_distinct(alloc, &case.files)? || !are_rising(&case.rows) {
-        return Err(anyhow!("two files of one name, or rows that do not rise"));
+/// The devices of a case.
+fn devices_of(
+    alloc: Global,
+    files: Vec<MemFile>,
+    held: Vec<Held>,
+    lines: Vec<Bytes>,
+    fails: Fails,
+) -> Result<(Devices<MemSource, MemShelf, MemLines, MemSink>, Vec<u64>)> {
+    if !are_distinct(alloc, &files)? {
+        return Err(anyhow!("two files of one name"));
     }
     let mut pictures = Vec::new(alloc);
-    pictures.push(Seq::from_vec(case.files))?;
+    pictures.push(Seq::from_vec(files))?;
+    let Fails {
+        source,
+        shelf,
+        keeper,
+        lines: lines_fails,
+        sink,
+    } = fails;
     let devices = Devices {
-        source: MemSource::new(alloc, pictures, case.source_fails),
-        shelf: MemShelf::new(alloc, case.held, case.shelf_fails),
-        lines: MemLines::new(case.lines, case.lines_fails),
-        out: MemSink::new(alloc, case.sink_fails),
+        source: MemSource::new(alloc, pictures, source),
+        shelf: MemShelf::new(alloc, held, shelf),
+        lines: MemLines::new(lines, lines_fails),
+        out: MemSink::new(alloc, sink),
     };
-    let keeper = MemKeeper::new(alloc, case.rows, case.keeper_fails);
-    let ended = pan(alloc, &words, Written::new(alloc), devices, keeper, steps);
+    Ok((devices, keeper))
+}
+
+/// The keeper of a case.
+fn keeper_of(alloc: Global, rows: Vec<StoredRow>, fails: Vec<u64>) -> Result<MemKeeper> {
+    if !are_rising(&rows) {
+        return Err(anyhow!("rows that do not rise"));
+    }
+    Ok(MemKeeper::new(alloc, rows, fails))
+}
+
+/// What a call handed back.
+type Ended = HandedBack<Written, MemSource, MemShelf, MemKeeper, MemLines, MemSink>;
+
+fn print_ended(rt: &HostRuntime, ended: &Ended) -> Result<()> {
     let devices = &ended.devices;
     print!(rt;
         "status {} faults {} {} {} {} runs {}\n{}",
@@ -171,7 +202,29 @@ fn run<L: Ledger>(
         str::from_utf8(devices.out.written())?
     )?;
     print_shelf(rt, devices.shelf.held())?;
-    print_rows(rt, ended.keeper.rows())?;
+    print_rows(rt, ended.keeper.rows())
+}
+
+/// Calls the compiler, and gives the rows that are kept then.
+fn run<L: Ledger>(
+    rt: &HostRuntime,
+    case: Case,
+    words: &str,
+    steps: &mut Steps<L>,
+) -> Result<Vec<StoredRow>> {
+    let alloc = rt.alloc();
+    let Case {
+        files,
+        held,
+        lines,
+        rows,
+        fails,
+    } = case;
+    let (devices, keeper_fails) = devices_of(alloc, files, held, lines, fails)?;
+    let keeper = keeper_of(alloc, rows, keeper_fails)?;
+    let words = words_of(alloc, words)?;
+    let ended = pan(alloc, &words, Written::new(alloc), devices, keeper, steps);
+    print_ended(rt, &ended)?;
     copies(alloc, ended.keeper.rows())
 }
 
