@@ -18,7 +18,7 @@ pan compiles templates of the Pan language into one JSON profile for each machin
       --max-iteration N             turns of one loop, 1 to 1,000,000 (10,000)
       --max-recursion N             calls of functions that are open at once, 1 to 200 (50)
       --most-removed N              changes nothing where more than N files of OUT would go, 0 to 20,000
-      --state FILE                  (build) goes on from what an earlier build kept in FILE, and keeps its own there
+      --state FILE                  (build, watch) goes on from what an earlier build kept in FILE, and keeps its own there
 
 pan manages every .json and .dep file below OUT: give it a folder of its own. Its status is 0 where each object
 has a profile, 1 where one has a fault, and more where something failed.
@@ -31,6 +31,8 @@ These are the script's own:
       --only NAME                   those of one object
   pan show SOURCE NAME [PATH] [options]
                                     the profile of an object, or what stands at a path of it; nothing is published
+  pan blame SOURCE NAME [PATH] [options]
+                                    where each value of that profile, at and below the path, was set last
   pan impact SOURCE FILE [options]  the objects that an edit of the file FILE below SOURCE can change
   pan unused SOURCE [options]       the templates below SOURCE that no object looks at
   pan state FILE                    what a file of --state keeps (wants `sqlite3`)
@@ -77,7 +79,7 @@ version() {
 has_mode() {
   local word
   for word in "$@"; do
-    case $word in build | watch | demo | format | check | show | impact | unused | state) return 0 ;; esac
+    case $word in build | watch | demo | format | check | show | blame | impact | unused | state) return 0 ;; esac
   done
   return 1
 }
@@ -189,11 +191,7 @@ build() {
   fi
   wait
   cat "$room/notes" >&2
-  case $status in
-    5) say "$state could not be opened, read or written" ;;
-    12) say "$state holds rows that no build has kept: without it a build begins anew" ;;
-    13) tell_faults "$program"; exit 13 ;;
-  esac
+  if [ "$status" -eq 13 ]; then tell_faults "$program"; exit 13; fi
   "$tools/pan-notes" unused "$source" "$out" "$room/text"
   profiles >"$room/after"
   "$tools/pan-notes" summary "$room/text" "$room/before" "$room/after" $((${EPOCHREALTIME/./} - start))
@@ -211,15 +209,25 @@ tell_include() {
   esac
 }
 
-# Watching: the notes come first, and the lock is held for as long as it runs.
+# Watching: the notes come first, and the locks are held for as long as it runs.
 watch() {
-  local program=$1
-  shift
   make_out >/dev/null
   lock_out
   "$tools/pan-notes" out "$out"
+  [ -z "$state" ] || "$tools/pan-notes" state "$source" "$out" "$state"
   "$tools/pan-notes" source "$source" "${include:-.}"
-  exec "$program" "$@"
+  run_over_state "$@"
+}
+
+# Runs the program over the file of rows, which is locked.
+run_over_state() {
+  local made_state status=0
+  made_state=$(make_state)
+  lock_state "$state"
+  [ -n "$made_state" ] || exec "$@"
+  "$@" || status=$?
+  unmake_state "$made_state"
+  exit "$status"
 }
 
 # Lines about one template that was given the name input.pan, with its own name.
@@ -373,6 +381,17 @@ show() {
   cat "$room/value"
 }
 
+# Where the values at and below a path of an object were set last.
+blame() {
+  local program=$1 object=$2 at=$3
+  ask "$program" "blame $object $at"
+  if grep -qx 'bad line' "$room/text"; then say "$object $at: no object's name and a path that begins with \`/\`"; exit 2; fi
+  if grep -qx 'no object' "$room/text"; then say "$object: no object"; exit 2; fi
+  if grep '^fault ' "$room/text" >&2; then exit 1; fi
+  if grep -qx 'no path' "$room/text"; then say "$object: nothing at $at"; exit 1; fi
+  grep '^/' "$room/text"
+}
+
 # Lines on faults with the names of files as they are from here.
 placed() {
   local line
@@ -501,18 +520,18 @@ program=$("$tools/pan-program")
 case ${1:-} in format) [ -z "$form$only" ] || usage; format "$program" "$@" ;; esac
 read_words "$@"
 case $mode in build) [ -z "$only" ] || usage ;; check) ;; *) [ -z "$form$only" ] || usage ;; esac
-case $mode in check | show | impact | unused) [ -z "$has_state" ] || usage ;; esac
+case $mode in check | show | blame | impact | unused) [ -z "$has_state" ] || usage ;; esac
 [ "${PAN_NOTES:-}" = off ] || tell_include
 case $mode in
   check) [ -n "$source" ] || usage; check "$program" ;;
   show) [ -n "$out" ] || usage; show "$program" "$out" "$path"; exit ;;
+  blame) [ -n "$out" ] || usage; blame "$program" "$out" "${path:-/}"; exit ;;
   impact) [ -n "$out" ] || usage; ask_names "$program" "impact $out" touches; exit ;;
   unused) [ -n "$source" ] || usage; ask_names "$program" unused unused; exit ;;
   build) if [ -n "$form" ] && [ -n "$out" ]; then build_for_programs "$program" "$@"; fi ;;
 esac
 if [ "${PAN_NOTES:-}" = off ] || [ -z "$out" ]; then
-  case $mode in build | watch) [ -z "$out" ] || { make_out >/dev/null; lock_out; } ;; esac
-  case $mode in build) make_state >/dev/null; lock_state "$state" ;; esac
+  case $mode in build | watch) [ -z "$out" ] || { make_out >/dev/null; lock_out; }; run_over_state "$program" "$@" ;; esac
   exec "$program" "$@"
 fi
 case $mode in

@@ -20,7 +20,7 @@ _pan() {
     if [ "$COMP_CWORD" -eq 1 ]; then options+=' --help --version --prove --release --try'; fi
     mapfile -t COMPREPLY < <(compgen -W "$options" -- "$word")
   elif [[ $COMP_CWORD -eq 1 || ( $COMP_CWORD -eq 2 && $before == -* ) ]]; then
-    mapfile -t COMPREPLY < <(compgen -W 'build watch check show format impact unused state demo' -- "$word")
+    mapfile -t COMPREPLY < <(compgen -W 'build watch check show blame format impact unused state demo' -- "$word")
   else
     mapfile -t COMPREPLY < <(compgen -d -- "$word")
     compopt -o filenames 2>/dev/null

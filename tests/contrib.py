@@ -4,7 +4,7 @@
     tests/contrib.py
 
 - contrib/pan-watch over a small site: a build at its start, one for each change, a fault, and its end by SIGTERM; a
-  source that is lost.
+  source that is lost; a watcher that goes on from the rows of the one before.
 - contrib/pre-commit in a git repository of its own: what is added is compiled, and not what lies in the folder.
 - contrib/pan-watch.service reads, where systemd is here.
 
@@ -39,12 +39,12 @@ def write(folder, name, text):
 class Watched:
     """A run of contrib/pan-watch, which is ended where it takes too long."""
 
-    def __init__(self, *words):
+    def __init__(self, *words, **variables):
         self.process = subprocess.Popen(
             [CONTRIB / "pan-watch", "--program", PROGRAM, *words],
             stdout=subprocess.PIPE,
             stderr=subprocess.STDOUT,
-            env={**os.environ, "PAN_NOTES": "off"},
+            env={**os.environ, "PAN_NOTES": "off", **variables},
             text=True,
         )
         self.clock = threading.Timer(SECONDS, self.process.kill)
@@ -132,6 +132,25 @@ def every_few_seconds(folder):
     yield "a build each few seconds", watched.lines() == said
     yield "its profile", (folder / "out/web1.json").read_text() == '{"port":81}\n'
     yield "the end by SIGINT", watched.end(signal.SIGINT) == (0, ["ended, the watcher with status 0"])
+
+
+def going_on_from_rows(folder):
+    """What a watcher kept, the next one goes on from, whether a word or a variable names the file."""
+    source, state = folder / "source", str(folder / "s.db")
+    write(source, "web1.pan", "object template web1;\n'/port' = 80;\n")
+    watched = Watched("--poll", "60", source, folder / "out", PAN_STATE=state)
+    yield "a first watcher", watched.lines() == ["run web1", "objects 1 ok 1 faults 0 run 1"]
+    other = Watched("--poll", "60", source, folder / "other", "--state", state)
+    waiting = other.lines("another")
+    yield "a second one waits", waiting == [f"another pan works on {state}: waiting for it"]
+    watched.end(signal.SIGTERM)
+    yield "and goes on from its rows", other.lines() == ["objects 1 ok 1 faults 0 run 0"]
+    yield "it publishes", (folder / "other/web1.json").exists()
+    other.end(signal.SIGTERM)
+    watched = Watched("--poll", "60", source, folder / "out", "--state", str(folder / "out"))
+    yield "a file that is none", watched.lines("the watcher ended")[-1] == "the watcher ended with status 5"
+    watched.process.wait(SECONDS)
+    watched.clock.cancel()
 
 
 class Repository:
@@ -224,7 +243,7 @@ def unit(folder):
 
 def main():
     passed = failed = 0
-    for part in (watching, a_lost_source, every_few_seconds, committing, unit):
+    for part in (watching, a_lost_source, every_few_seconds, going_on_from_rows, committing, unit):
         with tempfile.TemporaryDirectory() as room:
             for name, is_well in part(Path(room)):
                 passed, failed = passed + is_well, failed + (not is_well)

@@ -8,7 +8,7 @@
 - Accidents that would take every profile away: with --most-removed the files are still there, and a note says why.
 - One program at a time works on a folder of profiles, and on a file of --state; what such a file keeps.
 - The layout of folders, files and standard input, and what only looks at it; what an edit touches, and what is unused.
-- Faults without a publication, faults for other programs, and what stands in a profile.
+- Faults without a publication, faults for other programs, what stands in a profile, and who set it.
 - What contrib/install puts below a folder runs there, with nothing of the repository.
 
 The program is the one that the variable PAN names, else the one that contrib/pan-program finds.
@@ -268,10 +268,42 @@ def state(folder):
     write(folder, "text.db", "no database, but a text\n")
     ended = pan(folder, "build", "site", "out", "--state", "text.db")
     yield "a file that is none", (ended.status, ended.text) == (5, "keeper fault\n")
-    yield "it says so", "text.db could not be opened" in ended.notes
+    yield "it says so", "error: text.db: " in ended.notes
     taken = [["check", "site"], ["show", "site", "web1"], ["unused", "site"], ["impact", "site", "web1.pan"]]
-    taken += [["watch", "site", "out"], ["format", "site", "site"]]
+    taken += [["blame", "site", "web1"], ["format", "site", "site"]]
     yield "no other command takes it", {pan(folder, *each, "--state", "s.db").status for each in taken} == {2}
+
+
+def kept_by_a_watcher(folder):
+    machines(folder, 2)
+    words = ["watch", "site", "out", "--state", "s.db"]
+    ended = pan(folder, *words, given="build\nquit\n")
+    yield "a watcher that keeps rows", ended.status == 0 and ended.text.endswith("run 2\n") and not ended.warns("")
+    ended = pan(folder, *words, given="build\nquit\n")
+    yield "the next one", ended.text == "objects 2 ok 2 faults 0 run 0\n"
+    ended = pan(folder, "build", "site", "out", "--state", "s.db")
+    yield "a build that goes on from it", ended.text == "objects 2 ok 2 faults 0 run 0\n"
+    watcher = subprocess.Popen([PROGRAM, *words], cwd=folder, stdin=subprocess.PIPE, stdout=subprocess.PIPE, text=True)
+    watcher.stdin.write("scan\n")
+    watcher.stdin.flush()
+    watcher.stdout.readline()
+    ended = pan(folder, "build", "site", "new", "--state", "s.db")
+    yield "a file that a watcher has open", ended.status == 5 and "error: s.db: database is locked" in ended.notes
+    watcher.communicate("quit\n")
+    held = os.open(folder / "s.db", os.O_RDONLY)
+    fcntl.flock(held, fcntl.LOCK_EX)
+    ended = []
+    waits = threading.Thread(target=lambda: ended.append(pan(folder, *words, given="build\n")))
+    waits.start()
+    waits.join(2)
+    yield "a watcher waits for the file", not ended
+    os.close(held)
+    waits.join(SECONDS)
+    yield "and then builds", ended[0].status == 0 and ended[0].text.endswith("run 0\n")
+    ended = pan(folder, "watch", "site", "out", "--state", "none.db", "--max-iteration", "0")
+    yield "words that are wrong make no file", ended.status == 2 and not (folder / "none.db").exists()
+    ended = pan(folder, "watch", "site", "out", "--state", "site/s.db", given="quit\n")
+    yield "a file among the templates", ended.status == 0 and ended.warns("site/s.db stands below site")
 
 
 def kept(folder):
@@ -428,6 +460,26 @@ def shown(folder):
     yield "and nothing is published", not (folder / "out").exists()
 
 
+def blamed(folder):
+    write(folder, "site/port.pan", "declaration template port;\ntype port = { 'port' : long = 80 };\n")
+    write(folder, "site/web1.pan", "object template web1;\ninclude 'port';\nbind '/a' = port;\n'/a' = dict();\n'/b' = list(1, 2);\n")
+    write(folder, "site/web2.pan", "object template web2;\n'/a' = 1 + 'x';\n")
+    below = "/a/port web1.pan:3:1 default\n"
+    whole = below + "/b/0 web1.pan:5:1\n/b/1 web1.pan:5:1\n"
+    for path, told in {"": whole, "/": whole, "/a": below, "/b/1": "/b/1 web1.pan:5:1\n"}.items():
+        ended = pan(folder, "blame", "site", "web1", *([path] if path else []))
+        yield f"who set {path}", (ended.status, ended.text) == (0, told)
+    ended = pan(folder, "blame", "site", "web1", "/c")
+    yield "nothing at /c", (ended.status, ended.text) == (1, "") and "nothing at /c" in ended.notes
+    ended = pan(folder, "blame", "site", "web1", "a")
+    yield "no path", ended.status == 2 and "begins with `/`" in ended.notes
+    ended = pan(folder, "blame", "site", "web2")
+    yield "a fault", (ended.status, ended.text) == (1, "") and "fault F10 web2.pan:2:8" in ended.notes
+    yield "no object", pan(folder, "blame", "site", "web3").status == 2
+    yield "no word", pan(folder, "blame", "site").status == 2
+    yield "and nothing is published", not (folder / "out").exists()
+
+
 def installed(folder):
     ended = pan(folder, folder / "there", script=TOP / "contrib/install")
     yield "contrib/install", ended.status == 0
@@ -443,7 +495,7 @@ def installed(folder):
     yield "pages", all((share / page).is_file() for page in pages)
     unit = (folder / "there/lib/systemd/system/pan-watch.service").read_text()
     yield "the unit", f"ExecStart={folder}/there/bin/pan-watch " in unit
-    asked = "source there/share/bash-completion/completions/pan; COMP_WORDS=(pan b); COMP_CWORD=1; _pan; echo ${COMPREPLY[*]}"
+    asked = "source there/share/bash-completion/completions/pan; COMP_WORDS=(pan bu); COMP_CWORD=1; _pan; echo ${COMPREPLY[*]}"
     said = subprocess.run(["bash", "-c", asked], cwd=folder, capture_output=True, text=True).stdout
     yield "completion", said == "build\n"
 
@@ -460,7 +512,8 @@ def vim(folder):
 
 def main():
     passed = failed = 0
-    parts = (words, found, notes, accidents, lock, state, kept, layout, touched, checked, for_programs, shown, installed, vim)
+    parts = (words, found, notes, accidents, lock, state, kept_by_a_watcher, kept, layout, touched, checked, for_programs)
+    parts += (shown, blamed, installed, vim)
     for part in parts:
         with tempfile.TemporaryDirectory() as room:
             for name, is_well in part(Path(room).resolve()):

@@ -2,6 +2,7 @@ use crate::calls::{letters, print_calls, replace, word};
 use anyhow::{Result, anyhow};
 use host_keeper::HostKeeper;
 use keepers::Keeper;
+use std::alloc::Global;
 use std::fs;
 
 /// Opens a new file and changes its rows, and opens it again.
@@ -30,11 +31,22 @@ fn content(rt: &HostRuntime, file: &str) -> Vec<u8> {
     }
 }
 
+/// The last failure in words; nothing where there was none.
+fn trouble_in(alloc: Global, keeper: &HostKeeper) -> Result<String> {
+    match keeper.trouble() {
+        Some(trouble) => {
+            Ok(format!(in alloc; "{}: {}", trouble.path.as_str(), trouble.reason.as_str())?)
+        }
+        None => Ok(String::new(alloc)),
+    }
+}
+
 /// Opens a file that is no store, and calls on: each call is refused and counted, and the file stays.
 fn print_bad(rt: &HostRuntime, what: &str, file: &str) -> Result<()> {
     let before = content(rt, file);
     let mut keeper = HostKeeper::new(rt.clone()?);
     let opened = word(keeper.open_store(file));
+    let told = trouble_in(rt.alloc(), &keeper)?;
     let loaded = word(keeper.load(&mut Vec::new(rt.alloc())));
     let replaced = word(replace(rt.alloc(), &mut keeper, "a", "b")?);
     let same = if before.as_slice() == content(rt, file).as_slice() {
@@ -46,6 +58,7 @@ fn print_bad(rt: &HostRuntime, what: &str, file: &str) -> Result<()> {
         "{what}: open {opened}, load {loaded}, replace {replaced}, {} faults, {same}",
         keeper.faults()
     )?;
+    println!(rt; "  {}", told.as_str())?;
     Ok(())
 }
 

@@ -2,17 +2,19 @@
 //! faults, the runs, the text and the shelf.
 //!
 //! Each line says something of the next run. `file NAME TEXT` is a file of the source, TEXT being all behind NAME, and
-//! a line feed; `many COUNT NAME TEXT` are the files `0NAME`, `1NAME` and so on. `kept NAME TEXT` stands on the shelf
+//! a line feed; `many COUNT NAME TEXT` are the files `0NAME`, `1NAME` and so on; `then` ends a picture of the source, so that
+//! what is said behind it is of the next one. `kept NAME TEXT` stands on the shelf
 //! before the run. `line TEXT` is a line of a watcher. The keeper holds the rows that the run before left; `forget` takes
 //! them away, and `row NAME HEX` adds one. `fail DEVICE CALL` has a call of the `source`, the `shelf`, the `keeper`, the
-//! `lines` or the `sink` fail, the first being 0. The source gives the files once, and then an empty picture.
+//! `lines` or the `sink` fail, the first being 0. The source gives its pictures, and then empty ones.
 //! `run WORD ..` calls the compiler with these words, and forgets what was said. Behind `status` stand the faults that
 //! the source, the shelf, the keeper and the sink counted, and the runs that were made. Behind the shelf stand the names
 //! of the rows that are kept. Any other line is a remark. An object's text
 //! is the word `object` and lines of three bytes, as `written_runner` says. The expected output is written by hand.
 #![tactic(auto)]
 
-ghost use Rattle.std.specs.Prelude.{◌≡◌, ◌<◌};
+ghost use Rattle.std.specs.Prelude.{◌≡◌, ◌<◌, true};
+ghost use Rattle.outside.specs.Pictures.{are_pictures};
 
 use anyhow::{Result, anyhow};
 use base::{Bytes, Seq, Steps, Text};
@@ -31,11 +33,14 @@ use written_runner::Written;
 /// What is said of a run.
 #[derive(Drop)]
 struct Case {
+    /// The pictures that were ended.
+    pictures: Vec<Seq<MemFile>>,
     files: Vec<MemFile>,
     held: Vec<Held>,
     lines: Vec<Bytes>,
     rows: Vec<StoredRow>,
     fails: Fails,
+    ghost pictured: { are_pictures pictures.items ≡ true },
 }
 
 /// The calls of each device that are to fail.
@@ -50,6 +55,7 @@ struct Fails {
 
 fn new_case(alloc: Global) -> Case {
     Case {
+        pictures: Vec::new(alloc),
         files: Vec::new(alloc),
         held: Vec::new(alloc),
         lines: Vec::new(alloc),
@@ -89,6 +95,24 @@ fn many(alloc: Global, case: &mut Case, count: &str, rest: &str) -> Result<()> {
         file(alloc, case, name.as_str(), text)?;
     }
     Ok(())
+}
+
+/// Adds these files as the next picture.
+fn push_picture(alloc: Global, pictures: &mut Vec<Seq<MemFile>>, files: Vec<MemFile>) -> Result<()>
+    requires { are_pictures pictures.old.items ≡ true }
+    ensures { are_pictures pictures.new.items ≡ true }
+{
+    if !are_distinct(alloc, &files)? {
+        return Err(anyhow!("two files of one name"));
+    }
+    pictures.push(Seq::from_vec(files))?;
+    Ok(())
+}
+
+/// Ends a picture.
+fn end_picture(alloc: Global, case: &mut Case) -> Result<()> {
+    let files = mem::replace(&mut case.files, Vec::new(alloc));
+    push_picture(alloc, &mut case.pictures, files)
 }
 
 fn kept(alloc: Global, case: &mut Case, name: &str, text: &str) -> Result<()> {
@@ -152,16 +176,13 @@ fn print_rows(rt: &HostRuntime, rows: &[StoredRow]) -> Result<()> {
 /// The devices of a case.
 fn devices_of(
     alloc: Global,
-    files: Vec<MemFile>,
+    pictures: Vec<Seq<MemFile>>,
     held: Vec<Held>,
     lines: Vec<Bytes>,
     fails: Fails,
-) -> Result<(Devices<MemSource, MemShelf, MemLines, MemSink>, Vec<u64>)> {
-    if !are_distinct(alloc, &files)? {
-        return Err(anyhow!("two files of one name"));
-    }
-    let mut pictures = Vec::new(alloc);
-    pictures.push(Seq::from_vec(files))?;
+) -> (Devices<MemSource, MemShelf, MemLines, MemSink>, Vec<u64>)
+    requires { are_pictures pictures.items ≡ true }
+{
     let Fails {
         source,
         shelf,
@@ -175,7 +196,7 @@ fn devices_of(
         lines: MemLines::new(lines, lines_fails),
         out: MemSink::new(alloc, sink),
     };
-    Ok((devices, keeper))
+    (devices, keeper)
 }
 
 /// The keeper of a case.
@@ -214,13 +235,16 @@ fn run<L: Ledger>(
 ) -> Result<Vec<StoredRow>> {
     let alloc = rt.alloc();
     let Case {
+        pictures,
         files,
         held,
         lines,
         rows,
         fails,
     } = case;
-    let (devices, keeper_fails) = devices_of(alloc, files, held, lines, fails)?;
+    let mut pictures = pictures;
+    push_picture(alloc, &mut pictures, files)?;
+    let (devices, keeper_fails) = devices_of(alloc, pictures, held, lines, fails);
     let keeper = keeper_of(alloc, rows, keeper_fails)?;
     let words = words_of(alloc, words)?;
     let ended = pan(alloc, &words, Written::new(alloc), devices, keeper, steps);
@@ -254,6 +278,7 @@ fn say<L: Ledger>(
     match what {
         "file" => file(alloc, case, name, text),
         "many" => many(alloc, case, name, text),
+        "then" => end_picture(alloc, case),
         "kept" => kept(alloc, case, name, text),
         "line" => watched_line(alloc, case, rest),
         "row" => row(alloc, case, name, text),

@@ -1,7 +1,8 @@
 -- Written values of options.
 use Rattle.std.proofs.Common.{◌≡◌, ℕ, List, [], ◌∷◌, Option, Some, None, refl, codes}
 use Rattle.command_words.specs.Commands.{limit_of, bound_of, directories_of, number_given, state_given, command_by}
-use Rattle.command_words.specs.declared.commands.Command.TheVariants.{Build}
+use Rattle.command_words.specs.declared.commands.Command.TheVariants.{Build, Watch}
+use Rattle.command_words.specs.declared.commands.Work.{Work}
 use Rattle.command_words.specs.declared.words.Words.{Words}
 use Rattle.command_words.specs.declared.limits.TheConstants.{MAX_ITERATIONS, DEFAULT_ITERATIONS, MAX_RECURSION, DEFAULT_RECURSION, MAX_MOST_REMOVED, MAX_MACHINES, MAX_START}
 
@@ -108,7 +109,7 @@ file = refl
 empty_file : state_given (Some []) ≡ None
 empty_file = refl
 
--- the words of a command whose rows a file is to keep: `build` alone is one
+-- the words of a command whose rows a file is to keep: `build` and `watch` are one
 abbrev kept : List ℕ → Words
 kept mode = record {
   mode = Some mode;
@@ -121,7 +122,8 @@ kept mode = record {
   state = Some (codes "f");
 }
 
-kept_build : command_by (kept (codes "build")) ≡ Some (Build (record {
+abbrev kept_work : Work
+kept_work = record {
   source = codes "1";
   out = codes "2";
   directories = [] ∷ [];
@@ -129,10 +131,12 @@ kept_build : command_by (kept (codes "build")) ≡ Some (Build (record {
   recursion = 50;
   most_removed = None;
   state = Some (codes "f");
-}))
+}
+
+kept_build : command_by (kept (codes "build")) ≡ Some (Build kept_work)
 kept_build = refl
 
-kept_watch : command_by (kept (codes "watch")) ≡ None
+kept_watch : command_by (kept (codes "watch")) ≡ Some (Watch kept_work)
 kept_watch = refl
 
 kept_demo : command_by (kept (codes "demo")) ≡ None

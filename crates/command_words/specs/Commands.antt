@@ -108,15 +108,11 @@ work_with (Some source) (Some out) (Some directories) (Some limits) (Some state)
   state = state;
 })
 
--- what `build` works on
+-- what `build` and `watch` work on
 abbrev pub work_of : Words → Option Work
 work_of w =
     work_with (filled w.source) (filled w.out) (directories_of w.include) (limits_given w)
     (state_given w.state)
-
--- what `watch` works on: the same, and no file keeps its rows
-abbrev pub watch_of : Words → Option Work
-watch_of w = if is_some w.state then None else work_of w
 
 -- a word that is a number, from low to high
 abbrev pub number_given : ℕ → ℕ → Option (List ℕ) → Option ℕ
@@ -166,7 +162,7 @@ is_word word (Some given) = bytes_eq given word
 abbrev pub command_by : Words → Option Command
 command_by w =
     if is_word (codes "build") w.mode then option_map Build (work_of w)
-    else if is_word (codes "watch") w.mode then option_map Watch (watch_of w)
+    else if is_word (codes "watch") w.mode then option_map Watch (work_of w)
     else if is_word (codes "demo") w.mode then option_map Demo (demonstration_of w)
     else if is_word (codes "format") w.mode then option_map Format (pair_of w)
     else None

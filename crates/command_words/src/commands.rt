@@ -2,7 +2,7 @@ ghost use Rattle.std.specs.Prelude.{◌≡◌, ◌<◌, ◌≤◌, ◌+◌, ◌-
 ghost use Rattle.std.specs.Char.{digit_value};
 ghost use Rattle.std.specs.List.{list_all};
 ghost use Rattle.base.specs.Integers.{digits_value};
-ghost use Rattle.command_words.specs.Commands.{number_within, number_given, limit_of, bound_of, is_part, directory_of, parts_of, are_parts, directories_among, directories_of, filled, within, limits_given, state_given, work_of, watch_of, demonstration_of, pair_with, has_option, pair_of, is_word, command_by, command_of};
+ghost use Rattle.command_words.specs.Commands.{number_within, number_given, limit_of, bound_of, is_part, directory_of, parts_of, are_parts, directories_among, directories_of, filled, within, limits_given, state_given, work_of, demonstration_of, pair_with, has_option, pair_of, is_word, command_by, command_of};
 
 use crate::limits::{
     DEFAULT_ITERATIONS, DEFAULT_RECURSION, MAX_ITERATIONS, MAX_MACHINES, MAX_MOST_REMOVED,
@@ -247,16 +247,6 @@ fn read_work(alloc: Global, words: Words) -> Result<Option<Work>, AllocError>
     }
 }
 
-/// What `watch` works on: as `build`, and no file keeps its rows.
-fn read_watch(alloc: Global, words: Words) -> Result<Option<Work>, AllocError>
-    ensures { IfOk result (λ work. work ≡ watch_of words) }
-{
-    if words.state.is_some() {
-        return Ok(None);
-    }
-    read_work(alloc, words)
-}
-
 /// A number and one more decimal digit, where 64 bits hold it.
 fn with_digit(number: u64, digit: u8) -> Option<u64>
     ensures { MatchOption result (2 ^ 64 ≤ number * 10 + digit_value digit)
@@ -392,7 +382,7 @@ fn command_by(alloc: Global, words: Words) -> Result<Option<Command>, AllocError
         };
     }
     if is_word("watch", &words.mode) {
-        return match read_watch(alloc, words)? {
+        return match read_work(alloc, words)? {
             Some(work) => Ok(Some(Command::Watch(work))),
             None => Ok(None),
         };
@@ -412,9 +402,9 @@ fn command_by(alloc: Global, words: Words) -> Result<Option<Command>, AllocError
     Ok(None)
 }
 
-/// The command that the words are: `build SOURCE OUT` with the options `--include`, `--max-iteration`,
-/// `--max-recursion`, `--most-removed` and `--state`, `watch SOURCE OUT` with the first four, `demo COUNT START` with
-/// the second and the third, or `format SOURCE OUT` with none; None where they are none. The words are read by `clap`.
+/// The command that the words are: `build SOURCE OUT` or `watch SOURCE OUT` with the options `--include`,
+/// `--max-iteration`, `--max-recursion`, `--most-removed` and `--state`, `demo COUNT START` with the second and the third,
+/// or `format SOURCE OUT` with none; None where they are none. The words are read by `clap`.
 /// SOURCE, OUT and the FILE of `--state` are not empty. COUNT is a number from 1 to `MAX_MACHINES`, START one from 0 to
 /// `MAX_START`.
 #[tactic(auto, unfolding(crate::specs::Commands::command_of))]

@@ -40,6 +40,7 @@ fn take<R: Runner, L: Ledger>(
         works.new.runner) steps.new)) }
     ensures begun { IsBegun R.meaning works.old
         → IfOk result (λ how. how ≡ Took.Taken → IsFaithful R.meaning works.new) }
+    ensures still { IsBegun R.meaning works.old → IsBegun R.meaning works.new }
     ensures faithful { IsFaithful R.meaning works.old → IsFaithful R.meaning works.new }
     ensures source { IfOk result (λ how. how ≡ Took.Failed → ⊥) }
     ensures runs { R.runs_of works.new.runner ≡ R.runs_of works.old.runner }
@@ -74,6 +75,7 @@ pub fn take_next<R: Runner, S: Source, L: Ledger>(
         (counts (R.runs_of works.new.runner) steps.new)) }
     ensures begun { IsBegun R.meaning works.old
         → IfOk result (λ how. how ≡ Took.Taken → IsFaithful R.meaning works.new) }
+    ensures still { IsBegun R.meaning works.old → IsBegun R.meaning works.new }
     ensures faithful { IsFaithful R.meaning works.old → IsFaithful R.meaning works.new }
     ensures runs { R.runs_of works.new.runner ≡ R.runs_of works.old.runner }
     ensures taken { IfOk result (λ how. (how ≡ Took.Failed → ⊥)

@@ -8,7 +8,7 @@ use Rattle.engine_turns.specs.declared.core_data.Core.{Core}
 use Rattle.rebuild.specs.Engines.{Meanings, turns_left_of}
 use Rattle.session.specs.Machines.{Machine}
 use Rattle.publication.specs.declared.answer.Publication.TheVariants as publication
-use Rattle.session.specs.Sessions.{Next, GoesOn, SpendsNumbers, IsTooMuch, next, state_in, with_turns, built, reported, started, scanned, answers_in, build_round, ended_by}
+use Rattle.session.specs.Sessions.{NotSaved, Next, GoesOn, SpendsNumbers, IsTooMuch, next, state_in, with_turns, built, reported, started, scanned, answers_in, build_round, ended_by}
 use Rattle.session.specs.Texts.{report}
 use Rattle.compiler.specs.Compiler.{Compiled, compiler, forgotten, nothing}
 use Rattle.compiler.specs.Standing.{Here, Counts, HasSpentAtMost, IsAt, IsIn, MakesTurns, TakesNext, compiled_in}
@@ -36,14 +36,14 @@ module _ {T : Type 0} (M : Meanings T) (dirs : List (List ℕ)) (limits : Limits
   Took how = TakesNext m dirs limits s how mid start spent (Some coming) faults faults'
 
   pub take_spends : (line : List ℕ) (has_faults : Bool) → Took took.SpendsNumbers → Goes m dirs limits s step.SpendsNumbers line has_faults mid coming start spent
-  take_spends line has_faults t = record { state = t.state; leads = subst (λ scan. scanned m scan s (built m (publication.Done [])) ≡ SpendsNumbers t.state) t.failed (t.leads (built m (publication.Done []))); on = t.stands }
+  take_spends line has_faults t = record { state = t.state; leads = subst (λ scan. scanned m scan s (built m (publication.Done []) NotSaved) ≡ SpendsNumbers t.state) t.failed (t.leads (built m (publication.Done []) NotSaved)); on = t.stands }
 
   pub take_exceeds : (line : List ℕ) (has_faults : Bool) → Took took.IsTooMuch → Goes m dirs limits s step.IsTooMuch line has_faults mid coming start spent
-  take_exceeds line has_faults t = record { state = t.state; leads = subst (λ scan. scanned m scan s (built m (publication.Done [])) ≡ IsTooMuch t.state) t.failed (t.leads (built m (publication.Done []))); on = t.stands }
+  take_exceeds line has_faults t = record { state = t.state; leads = subst (λ scan. scanned m scan s (built m (publication.Done []) NotSaved) ≡ IsTooMuch t.state) t.failed (t.leads (built m (publication.Done []) NotSaved)); on = t.stands }
 
   module _ (t : Took took.Taken) (is_left : left ≡ turns_left_of mid) where
     turns_are : next m build_round s ≡ with_turns m left t.state (at_end m)
-    turns_are = subst (λ scan. scanned m scan s (built m (publication.Done [])) ≡ built m (publication.Done []) t.state) t.failed (t.leads (built m (publication.Done []))) ∙ ap (λ k. with_turns m k t.state (at_end m)) (ap m.turns_left (sym t.stands.engine.is) ∙ sym is_left)
+    turns_are = subst (λ scan. scanned m scan s (built m (publication.Done []) NotSaved) ≡ built m (publication.Done []) NotSaved t.state) t.failed (t.leads (built m (publication.Done []) NotSaved)) ∙ ap (λ k. with_turns m k t.state (at_end m)) (ap m.turns_left (sym t.stands.engine.is) ∙ sym is_left)
 
     pub cut_turning : HasSpentAtMost (state_in (with_turns m left t.state (at_end m))) start later → HasSpentAtMost (state_in (next m build_round s)) start later
     cut_turning most = subst (λ n. HasSpentAtMost (state_in n) start later) (sym turns_are) most
@@ -55,13 +55,13 @@ module _ {T : Type 0} (M : Meanings T) (dirs : List (List ℕ)) (limits : Limits
     turns_spend line has_faults made = record { state = made.state; leads = turns_are ∙ made.leads (at_end m); on = made.stands }
 
     pub cut_made : Made true → HasSpentAtMost (state_in (next m build_round s)) start later
-    cut_made made = subst (λ n. HasSpentAtMost (state_in n) start later) (sym (turns_are ∙ made.leads (at_end m))) (at_most (reported m (publication.Done []) made.state) start later (record { in_runs = made.stands.spent.in_runs; in_steps = made.stands.spent.in_steps }))
+    cut_made made = subst (λ n. HasSpentAtMost (state_in n) start later) (sym (turns_are ∙ made.leads (at_end m))) (at_most (reported m (publication.Done []) NotSaved made.state) start later (record { in_runs = made.stands.spent.in_runs; in_steps = made.stands.spent.in_steps }))
 
     pub reports : (line : List ℕ) (has_faults : Bool) → s.text ≡ [] → (made : Made true) → Says (compiler (M settled.dirs settled.limits) settled.dirs) (compiled_in settled) has_faults line → IsIn dirs limits new (forgotten (M dirs limits) dirs made.state.engine) → Goes m dirs limits s step.Reports line has_faults new coming start later
     reports line has_faults empty made says forgot =
         let g = along settled (λ d l e. Says (compiler (M d l) d) e has_faults line) dirs limits made.state.engine made.stands.engine says in
         record {
-          state = reported m (publication.Done []) made.state;
+          state = reported m (publication.Done []) NotSaved made.state;
           leads = turns_are ∙ made.leads (at_end m);
           on = record {
             at = record { engine = forgot; spent = record { in_runs = made.stands.spent.in_runs; in_steps = made.stands.spent.in_steps } };

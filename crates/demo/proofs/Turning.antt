@@ -5,7 +5,7 @@ use Rattle.std.proofs.lemmas.List.{take-append-drop}
 use Rattle.outside.specs.Contents.{AppendsPart}
 use Rattle.publication.specs.declared.answer.Publication.TheVariants as publication
 use Rattle.session.specs.Machines.{Machine}
-use Rattle.session.specs.Sessions.{State, Next, GoesOn, Quits, SpendsNumbers, IsTooMuch, build_round, next, state_in, reported, built}
+use Rattle.session.specs.Sessions.{NotSaved, State, Next, GoesOn, Quits, SpendsNumbers, IsTooMuch, build_round, next, state_in, reported, built}
 use Rattle.compiler.specs.Compiler.{Compiled}
 use Rattle.compiler.specs.Standing.{Here, IsBelow, IsRising}
 use Rattle.compiler.proofs.Counting.{turns_rise, below_same}
@@ -38,16 +38,16 @@ grows machine (suc k) s = shortened_grows s.text (builds machine k) (grows machi
 
 module _ {T : Type 0} (machine : Machine (Compiled T)) where
   abbrev pub at_end : Here T → Next (Compiled T)
-  at_end t = GoesOn (reported machine (publication.Done []) t)
+  at_end t = GoesOn (reported machine (publication.Done []) NotSaved t)
 
   pub end_rises : IsRising at_end
   end_rises t = record { in_runs = omega arith; in_steps = omega arith }
 
-  pub build_rises : IsRising (built machine (publication.Done []))
+  pub build_rises : IsRising (built machine (publication.Done []) NotSaved)
   build_rises t = turns_rise machine at_end end_rises (machine.turns_left t.engine) t
 
   round_rises : (s : Here T) → IsBelow s (state_in (next machine build_round s))
-  round_rises s = scan_rises machine (built machine (publication.Done [])) build_rises s
+  round_rises s = scan_rises machine (built machine (publication.Done []) NotSaved) build_rises s
 
   pub builds_rise : (k : ℕ) → IsRising (builds machine k)
   builds_rise zero s = below_same s

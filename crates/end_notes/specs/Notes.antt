@@ -19,7 +19,7 @@ wrong_text (Extra word) = codes "one word too many: " ++ word
 wrong_text (BadMode word) = codes "no such MODE: " ++ word
 wrong_text (Empty place) = place_name place ++ codes " is empty"
 wrong_text TakesNoOption = codes "format takes no option"
-wrong_text TakesNoState = codes "only build takes --state"
+wrong_text TakesNoState = codes "demo takes no --state"
 wrong_text NotUtf8 = codes "a word is not UTF-8"
 wrong_text Otherwise = codes "the words are no command"
 
@@ -36,3 +36,9 @@ abbrev pub removals_of : List ℕ → ℕ → ℕ → List ℕ
 removals_of folder removals most = codes "error: " ++ folder ++ codes ": " ++ decimal removals
     ++ codes " files would have gone, more than the " ++ decimal most
     ++ codes " that --most-removed allows; nothing was changed\n"
+
+-- the rows of a file are none that a build has kept: it may be removed, and its log with it
+abbrev pub bad_rows_of : List ℕ → List ℕ
+bad_rows_of file = codes "error: " ++ file
+    ++ codes ": it holds rows that no build has kept; remove it and " ++ file
+    ++ codes "-wal: the next build then begins anew, and loses time alone\n"

@@ -1,5 +1,5 @@
 -- What is wrong with words that are no command.
-use Rattle.std.specs.Prelude.{ℕ, Bool, not, ◌&&◌, ◌||◌, List, [], ◌∷◌, Option, Some, None, if◌then◌else◌, nat_eq, length, bytes_eq, codes}
+use Rattle.std.specs.Prelude.{ℕ, Bool, ◌&&◌, ◌||◌, List, [], ◌∷◌, Option, Some, None, if◌then◌else◌, nat_eq, length, bytes_eq, codes}
 use Rattle.end_notes.specs.Scan.{wrong_option, names_state, has_state, places_in}
 use Rattle.end_notes.specs.declared.wrong.Wrong.{Wrong}
 use Rattle.end_notes.specs.declared.wrong.Wrong.TheVariants.{BadOption, StateWithoutFile, Missing, Extra, BadMode, Empty, TakesNoOption, TakesNoState, Otherwise}
@@ -9,11 +9,11 @@ abbrev pub is_mode : List ℕ → Bool
 is_mode word = bytes_eq word (codes "build") || bytes_eq word (codes "watch")
     || bytes_eq word (codes "demo") || bytes_eq word (codes "format")
 
--- `format` was given an option, or another MODE than `build` was given `--state`
+-- `format` was given an option, or `demo` was given `--state`
 abbrev pub wrong_options : List (List ℕ) → List ℕ → Wrong
 wrong_options words mode =
     if bytes_eq mode (codes "format") then TakesNoOption
-    else (if not (bytes_eq mode (codes "build")) && has_state words then TakesNoState
+    else (if bytes_eq mode (codes "demo") && has_state words then TakesNoState
     else Otherwise)
 
 -- SOURCE or OUT is empty, or an option is not for MODE

@@ -10,5 +10,5 @@ mod scan;
 mod wrong;
 
 pub use asked::asked_of;
-pub use notes::{removals_note, trouble_note, usage_note};
+pub use notes::{bad_rows_note, removals_note, trouble_note, usage_note};
 pub use wrong::{Place, Wrong, wrong_of};

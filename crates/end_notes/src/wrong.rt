@@ -30,7 +30,7 @@ pub enum Wrong {
     Empty(Place),
     /// An option was given to `format`, which takes none.
     TakesNoOption,
-    /// `--state` was given to `watch` or `demo`, whose rows no file keeps.
+    /// `--state` was given to `demo`, whose rows no file keeps.
     TakesNoState,
     /// A word is not UTF-8, so the words could not be read.
     NotUtf8,
@@ -51,7 +51,7 @@ fn wrong_options(words: &[Text], mode: &str) -> Wrong
     if mode == "format" {
         return Wrong::TakesNoOption;
     }
-    if mode != "build" && has_state(words) {
+    if mode == "demo" && has_state(words) {
         return Wrong::TakesNoState;
     }
     Wrong::Otherwise

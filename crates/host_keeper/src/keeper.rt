@@ -1,60 +1,70 @@
-ghost use Rattle.std.specs.Prelude.{◌≡◌, None};
-ghost use Rattle.outside.specs.Causes.{HasCause};
+ghost use Rattle.std.specs.Prelude.{◌≡◌, None, option_copied};
 
+use crate::troubles::Troubles;
 use base::Text;
-use keepers::{Faults, Keeper};
-use outside::StoreError;
+use keepers::Keeper;
+use outside::{StoreError, Trouble};
 use sqlite::{Connection, File, FileStore};
-use sqlite_keeper::{SqliteKeeper, store_error};
+use sqlite_keeper::{Refusal, SqliteKeeper, store_error};
 use stored_rows::StoredRow;
 
 /// A keeper over a file of the host, which is made where it is missing.
 ///
 /// It tells the file that it was opened with, and nothing of its rows. What stands beside the file
-/// belongs to it, until `close` copies it back: the log of the changes.
+/// belongs to it, until `close` copies it back: the log of the changes. Its last failure is kept in
+/// words.
 #[derive(Drop)]
 pub struct HostKeeper {
     rt: HostRuntime,
     keeper: Option<SqliteKeeper<FileStore<File>>>,
     opened: Option<Text>,
-    faults: Faults,
+    troubles: Troubles,
 }
 
 /// Opens the file, and makes the keeper over it ready.
-fn open(rt: &HostRuntime, file: &str) -> Result<SqliteKeeper<FileStore<File>>, StoreError> {
+fn open(
+    rt: &HostRuntime,
+    file: &str,
+) -> Result<SqliteKeeper<FileStore<File>>, (StoreError, Refusal)> {
     match Connection::open(rt, file) {
         Ok(connection) => {
             let mut keeper = SqliteKeeper::adopt(rt.alloc(), connection);
-            keeper.open_store(file)?;
-            Ok(keeper)
+            match keeper.open_store(file) {
+                Ok(()) => Ok(keeper),
+                Err(error) => Err((error, keeper.refusal())),
+            }
         }
-        Err(error) => Err(store_error(&error)),
+        Err(error) => Err((store_error(&error), Refusal::Database(error))),
     }
 }
 
-/// Counts a call that failed.
-fn judge(faults: &mut Faults, done: Result<(), StoreError>) -> Result<(), StoreError>
-    ensures cause { HasCause faults.old.count faults.new.count result }
-    ensures same { result ≡ done }
-{
-    if done == Err(StoreError::Failed) {
-        faults.add();
+/// The file that was opened; nothing before.
+fn name_of(opened: &Option<Text>) -> &str {
+    match opened {
+        Some(name) => name.as_str(),
+        None => "",
     }
-    done
 }
 
 impl HostKeeper {
     /// A keeper that is still to be opened.
     pub fn new(rt: HostRuntime) -> HostKeeper
         ensures opened { result.opened ≡ None }
-        ensures faults { result.faults.count ≡ 0 }
+        ensures faults { result.troubles.faults.count ≡ 0 }
     {
         HostKeeper {
             rt,
             keeper: None,
             opened: None,
-            faults: Faults::new(),
+            troubles: Troubles::new(),
         }
+    }
+
+    /// The last failure in words; None where there was none, or memory for the words was wanting.
+    pub fn trouble(&self) -> Option<&Trouble>
+        ensures { option_copied result ≡ self.now.troubles.last }
+    {
+        self.troubles.last()
     }
 
     /// Copies the log back into the file and closes both. Where that fails the log has what the file
@@ -64,7 +74,7 @@ impl HostKeeper {
             rt: _,
             keeper,
             opened: _,
-            faults: _,
+            troubles: _,
         } = self;
         let Some(keeper) = keeper else {
             return Ok(());
@@ -83,10 +93,10 @@ impl Keeper for HostKeeper {
 
     ghost cell = { λ _ _. None };
 
-    ghost fault_count = { λ k. k.faults.count };
+    ghost fault_count = { λ k. k.troubles.faults.count };
 
     fn faults(&self) -> u64 {
-        self.faults.count()
+        self.troubles.count()
     }
 
     fn open_store(&mut self, file: &str) -> Result<(), StoreError> {
@@ -97,21 +107,28 @@ impl Keeper for HostKeeper {
                 self.opened = Some(name);
                 Ok(())
             }
-            Err(error) => judge(&mut self.faults, Err(error)),
+            Err((error, why)) => {
+                let alloc = self.rt.alloc();
+                self.troubles.judge(alloc, file, Err(error), why)
+            }
         }
     }
 
     fn load(&mut self, into: &mut Vec<StoredRow>) -> Result<(), StoreError> {
-        match &mut self.keeper {
-            Some(keeper) => judge(&mut self.faults, keeper.load(into)),
-            None => judge(&mut self.faults, Err(StoreError::Failed)),
-        }
+        let (done, why) = match &mut self.keeper {
+            Some(keeper) => (keeper.load(into), keeper.refusal()),
+            None => (Err(StoreError::Failed), Refusal::NotOpened),
+        };
+        let alloc = self.rt.alloc();
+        self.troubles.judge(alloc, name_of(&self.opened), done, why)
     }
 
     fn replace(&mut self, gone: &[Text], rows: &[StoredRow]) -> Result<(), StoreError> {
-        match &mut self.keeper {
-            Some(keeper) => judge(&mut self.faults, keeper.replace(gone, rows)),
-            None => judge(&mut self.faults, Err(StoreError::Failed)),
-        }
+        let (done, why) = match &mut self.keeper {
+            Some(keeper) => (keeper.replace(gone, rows), keeper.refusal()),
+            None => (Err(StoreError::Failed), Refusal::NotOpened),
+        };
+        let alloc = self.rt.alloc();
+        self.troubles.judge(alloc, name_of(&self.opened), done, why)
     }
 }

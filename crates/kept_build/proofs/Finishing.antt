@@ -19,7 +19,7 @@ use Rattle.publication.specs.declared.answer.Publication.{Publication}
 use Rattle.publication.specs.declared.answer.Publication.TheVariants.{Done, TooManyRemovals}
 use Rattle.rebuild.specs.Engines.{Meanings}
 use Rattle.record_rows.specs.Rows.{rows_of}
-use Rattle.session.specs.Sessions.{State, Next, GoesOn, Quits, SpendsNumbers, IsTooMuch, answers_in, ended_by, profiles_of, reported}
+use Rattle.session.specs.Sessions.{NotSaved, State, Next, GoesOn, Quits, SpendsNumbers, IsTooMuch, answers_in, ended_by, profiles_of, reported}
 use Rattle.session.specs.declared.Ended.{Ended}
 use Rattle.session.specs.declared.Ended.TheVariants as ended
 use Rattle.site_build.specs.Rounds.{Reaches, given_by, session_at}
@@ -79,7 +79,7 @@ module _ {T : Type 0} (M : Meanings T) (e : Compiled T) (w : Work) (ps : List (L
     (names : List (List ℕ)) where
   -- what is kept behind a report is what is kept before it: the report forgets only what was run
   before_report : (t : State (Compiled T))
-      → kept_after M w names (GoesOn (reported (engine_for M w) (Done []) t)) ≡ kept_behind
+      → kept_after M w names (GoesOn (reported (engine_for M w) (Done []) NotSaved t)) ≡ kept_behind
       w.directories (limits_of w)
       (answer_over w.most_removed names
       (wants_of (profiles_of (answers_in (engine_for M w) t.engine)))) t.engine
@@ -89,7 +89,7 @@ module _ {T : Type 0} (M : Meanings T) (e : Compiled T) (w : Work) (ps : List (L
       (wants_of (profiles_of (answers_in (engine_for M w) t.engine))))
     where
       at : (p : Publication) → kept_behind w.directories (limits_of w) p
-          (reported (engine_for M w) (Done []) t).engine ≡ kept_behind w.directories (limits_of w) p
+          (reported (engine_for M w) (Done []) NotSaved t).engine ≡ kept_behind w.directories (limits_of w) p
           t.engine
       at (Done troubles) = refl
       at (TooManyRemovals removals) = refl

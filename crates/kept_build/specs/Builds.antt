@@ -12,10 +12,10 @@ use Rattle.publication.specs.Changing.{AreListed, MadeOver, BegunOver, Tells}
 use Rattle.rebuild.specs.Engines.{Meanings}
 use Rattle.session.specs.declared.Ended.{Ended}
 use Rattle.site_build.specs.Scenes.{Scene}
-use Rattle.site_build.specs.Session.{Finished, IsPassed, IsPerhapsOpened, session_from, state_from}
+use Rattle.site_build.specs.Session.{Finished, IsPassed, session_from, state_from}
 use Rattle.site_build.specs.declared.ends.Device.TheVariants as D
 use Rattle.stored_rows.specs.declared.row.StoredRow.{StoredRow}
-use Rattle.kept_build.specs.Ends.{IsFailure, IsKeeperFailure, IsLater, IsOpening, ShelfAt, SourceAt, Stopped, StopsKeeping, TakesEarly, WritesEarly}
+use Rattle.kept_build.specs.Ends.{IsFailure, IsKeeperFailure, IsLater, IsOpening, ShelfAt, SourceAt, Stopped, StopsKeeping, StoreAt, TakesEarly, WritesEarly}
 use Rattle.kept_build.specs.Kept.{IsSoundStart, begun_for, kept_from, rows_from}
 use Rattle.kept_build.specs.Stores.{HoldsBadRows, Keeps, Loads, Store}
 use Rattle.kept_build.specs.declared.ends.End.{End}
@@ -123,7 +123,7 @@ pub record Unbegun (w : Work) (file : List ℕ) (end : End) (before after : Scen
   pub rows : Follows unchanged store.cell store_now.cell
   pub source_opened : SourceAt end w.source before.source_opened after.source_opened
   pub shelf_opened : ShelfAt end w.out before.shelf_opened after.shelf_opened
-  pub store_opened : IsPerhapsOpened file store.opened store_now.opened
+  pub store_opened : StoreAt end file store.opened store_now.opened
   pub source_count : Counted (IsFailure D.Source end) before.source_count after.source_count
   pub shelf_count : Counted (IsFailure D.Shelf end) before.shelf_count after.shelf_count
   pub out_count : after.out_count ≡ before.out_count

@@ -104,3 +104,10 @@ abbrev pub ShelfAt : End → List ℕ → Option (List ℕ) → Option (List ℕ
 ShelfAt (K.Build E.Source) folder old new = new ≡ old
 ShelfAt (K.Build e) folder old new = session.IsPerhapsOpened folder old new
 ShelfAt e folder old new = new ≡ Some folder
+
+-- the keeper is not called where the source or the shelf failed, and bad rows are those of FILE
+abbrev pub StoreAt : End → List ℕ → Option (List ℕ) → Option (List ℕ) → Type 0
+StoreAt (K.Build E.Source) file old new = new ≡ old
+StoreAt (K.Build E.Shelf) file old new = new ≡ old
+StoreAt K.BadRows file old new = new ≡ Some file
+StoreAt e file old new = session.IsPerhapsOpened file old new

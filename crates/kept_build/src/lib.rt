@@ -13,4 +13,5 @@ mod run;
 
 pub use ends::End;
 pub use handed::{KeptDevices, KeptWork};
+pub use opening::{Found, open};
 pub use run::build_kept;

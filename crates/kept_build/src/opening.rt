@@ -2,14 +2,13 @@ ghost use Rattle.std.specs.Prelude.{◌≡◌, IfErr, IfOk, OnOk, Some};
 ghost use Rattle.compiler.specs.Standing.{Counts};
 ghost use Rattle.keepers.specs.Keeping.{Follows, unchanged};
 ghost use Rattle.kept_build.specs.Builds.{Opens, Unbegun};
-ghost use Rattle.kept_build.specs.Ends.{IsKeeperFailure, IsLoading};
+ghost use Rattle.kept_build.specs.Ends.{IsKeeperFailure, IsLoading, StoreAt};
 ghost use Rattle.kept_build.specs.Stores.{HoldsBadRows, Loads, store_of};
 ghost use Rattle.kept_build.specs.declared.ends.End.TheVariants.{BadRows};
 ghost use Rattle.kept_state.specs.Stored.{stored};
 ghost use Rattle.outside.specs.Causes.{Caused};
 ghost use Rattle.publication.specs.Listings.{Lists};
 ghost use Rattle.site_build.specs.Scenes.{seen};
-ghost use Rattle.site_build.specs.Session.{IsPerhapsOpened};
 
 use crate::ends::End;
 use crate::handed::{KeptDevices, KeptWork};
@@ -22,9 +21,9 @@ use state_file::{LoadError, Loaded, load};
 use std::alloc::Global;
 use stored_rows::StoredRow;
 
-/// What a build found before it began.
+/// What stands on the shelf and in the keeper before a call begins its work.
 #[derive(Drop)]
-pub(crate) struct Found {
+pub struct Found {
     /// The names on the shelf, in byte order.
     pub listed: Vec<Text>,
     /// The rows that the keeper holds, in byte order of names.
@@ -38,7 +37,7 @@ fn load_rows<K: Keeper>(alloc: Global, keeper: &mut K, file: &str) -> Result<Loa
     ensures rows { IfOk result (λ l. Loads l.rows.items (stored l.kept) (K.cell keeper.new)) }
     ensures bad { IfErr result (λ e. e ≡ BadRows → HoldsBadRows (K.cell keeper.new)) }
     ensures opened { OnOk result (K.opened keeper.new ≡ Some file.now) }
-    ensures perhaps { IsPerhapsOpened file.now (K.opened keeper.old) (K.opened keeper.new) }
+    ensures at { IfErr result (λ e. StoreAt e file.now (K.opened keeper.old) (K.opened keeper.new)) }
     ensures same { Follows unchanged (K.cell keeper.old) (K.cell keeper.new) }
     ensures kind { IfErr result IsLoading }
     ensures cause { Caused IsKeeperFailure (K.fault_count keeper.old) (K.fault_count keeper.new)
@@ -52,8 +51,8 @@ fn load_rows<K: Keeper>(alloc: Global, keeper: &mut K, file: &str) -> Result<Loa
     }
 }
 
-/// Opens SOURCE, OUT and the file of the rows, and reads what stands there.
-pub(crate) fn open<S: Source, H: Shelf, K: Keeper, N: Lines, O: Sink>(
+/// Opens SOURCE, OUT and the file of the rows, in this order, and reads what stands there. Nothing is changed, taken or run.
+pub fn open<S: Source, H: Shelf, K: Keeper, N: Lines, O: Sink>(
     alloc: Global,
     request: &KeptWork<'_>,
     devices: &mut KeptDevices<S, H, K, N, O>,

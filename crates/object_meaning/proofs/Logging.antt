@@ -44,7 +44,7 @@ use Rattle.runner.specs.Logged.{LogItsTrees, IsLogFor, put_no_null}
 use Rattle.runner.specs.declared.ends.Built.{Built}
 use Rattle.object_meaning.specs.Rest.{Rest}
 use Rattle.object_meaning.specs.Builds.{site_at, store_of, with_store, in_store, defaults_run, built_run, build_ending, build_told}
-use Rattle.object_meaning.specs.Meanings.{log_of, meaning_of}
+use Rattle.object_meaning.specs.Meanings.{meaning_of}
 
 -- the log of a program gives its tree
 abbrev IsLogged : Program → Type 0
@@ -296,5 +296,5 @@ told_logged : (r : Rest) (tree : Plain) (b : Bool) → put_no_null r.log ≡ b �
 told_logged r tree true e log = record { values = e; gives = log }
 told_logged r tree false e log = tt
 
-pub logs_its_trees : (dirs : List (List ℕ)) (limits : Limits) → LogItsTrees (meaning_of dirs limits) log_of
+pub logs_its_trees : (dirs : List (List ℕ)) (limits : Limits) → LogItsTrees (meaning_of dirs limits)
 logs_its_trees dirs limits object pairs b is = told_logged b.rest b.tree (put_no_null b.rest.log) refl (ends_logged (site_at dirs limits object) (build_told (site_at dirs limits object) pairs) b ((built_keeps (site_at dirs limits object)).ends (answer_in pairs) no_program whole refl) is)

@@ -1,4 +1,4 @@
-ghost use Rattle.object_meaning.specs.Meanings.{log_of, meaning_of};
+ghost use Rattle.object_meaning.specs.Meanings.{meaning_of};
 ghost use Rattle.object_meaning.proofs.BothLawful.{is_lawful};
 ghost use Rattle.object_meaning.proofs.Logging.{logs_its_trees};
 ghost use Rattle.object_meaning.proofs.Looking.{looks_for_template};
@@ -79,8 +79,6 @@ impl Runner for Library {
     ghost meaning = { meaning_of };
 
     ghost promises = { PromisesSound };
-
-    ghost log_of = { log_of };
 
     ghost files_of = { λ l. l.picture };
 

@@ -62,7 +62,7 @@ fn run<L: Ledger>(rt: &HostRuntime, blank: Blank) -> Result<Status, AllocError>
         shelf: devices.shelf.trouble(),
         faults: devices.out.fault_lines(),
     };
-    write_notes(rt, status, &told);
+    write_notes(rt, status, &told, keeper.trouble());
     // What is not copied back stays in the log beside the file, which the next opening reads.
     let _ = keeper.close();
     Ok(status)

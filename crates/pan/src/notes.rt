@@ -1,7 +1,7 @@
 use base::limits::MAX_FILE_BYTES;
 use base::{Bytes, Text};
 use command_words::{Command, read_command};
-use end_notes::{Wrong, removals_note, trouble_note, usage_note, wrong_of};
+use end_notes::{Wrong, bad_rows_note, removals_note, trouble_note, usage_note, wrong_of};
 use fault_notes::{
     Colours, Repeated, compiler_lines, file_in, json_lines, note_of, report_of, rest_of,
 };
@@ -143,6 +143,23 @@ fn removals_notes(
     }
 }
 
+/// The note on a file whose rows no build has kept.
+fn state_note(rt: &HostRuntime, state: &Option<Text>) -> Result<Vec<u8>, AllocError> {
+    let Some(file) = state else {
+        return Ok(Vec::new(rt.alloc()));
+    };
+    bad_rows_note(rt.alloc(), file.as_str())
+}
+
+/// The note on the file of the rows that the words name, where no build has kept them.
+fn bad_rows_notes(rt: &HostRuntime, words: &[Text]) -> Result<Vec<u8>, AllocError> {
+    match read_command(rt.alloc(), words)? {
+        Some(Command::Build(work)) => state_note(rt, &work.state),
+        Some(Command::Watch(work)) => state_note(rt, &work.state),
+        _ => Ok(Vec::new(rt.alloc())),
+    }
+}
+
 /// What is wrong with words that are no command.
 fn wrong_in(rt: &HostRuntime, words: Option<&Vec<Text>>) -> Result<Wrong, AllocError> {
     match words {
@@ -156,11 +173,14 @@ fn notes_on(
     form: Form,
     status: Status,
     told: &Told<'_>,
+    keeper: Option<&Trouble>,
 ) -> Result<Vec<u8>, AllocError> {
     match (status, told.words) {
         (Status::Usage, words) => usage_note(rt.alloc(), &wrong_in(rt, words)?),
         (Status::SourceFault, _) => trouble_notes(rt, told.source),
         (Status::ShelfFault, _) => trouble_notes(rt, told.shelf),
+        (Status::KeeperFault, _) => trouble_notes(rt, keeper),
+        (Status::BadRows, Some(words)) => bad_rows_notes(rt, words),
         (Status::SomeFaults, Some(words)) => report_notes(rt, form, words, told.faults),
         (Status::TooManyRemovals(removals), Some(words)) => removals_notes(rt, words, removals),
         _ => Ok(Vec::new(rt.alloc())),
@@ -181,14 +201,15 @@ fn form_in(rt: &HostRuntime) -> Option<Form> {
 }
 
 /// Writes to standard error what a reader wants to know of a call that ended: of a build the meaning and the place of
-/// each fault, of a failed device the path and the reason, of wrong words the word and the usage, of one that was to take
-/// away too many files how many. Nothing where the variable PAN_NOTES is `off`, and where memory is wanting; the status
-/// stays as it is. With `gcc` or `json` in that variable the faults are told for other programs, all of them.
-pub fn write_notes(rt: &HostRuntime, status: Status, told: &Told<'_>) {
+/// each fault, of a failed device, or of the keeper of rows, the path and the reason, of wrong words the word and the
+/// usage, of one that was to take away too many files how many, of a file with rows that no build has kept what to do.
+/// Nothing where the variable PAN_NOTES is `off`, and where memory is wanting; the status stays as it is. With `gcc` or
+/// `json` in that variable the faults are told for other programs, all of them.
+pub fn write_notes(rt: &HostRuntime, status: Status, told: &Told<'_>, keeper: Option<&Trouble>) {
     let Some(form) = form_in(rt) else {
         return;
     };
-    if let Ok(notes) = notes_on(rt, form, status, told) {
+    if let Ok(notes) = notes_on(rt, form, status, told, keeper) {
         let _ = rt.stderr().write_all(&notes);
     }
 }

@@ -25,10 +25,12 @@ use Rattle.command_words.specs.Commands.{command_of}
 use Rattle.command_words.specs.declared.commands.Work.{Work}
 use Rattle.keepers.specs.Keeping.{Follows, unchanged}
 use Rattle.kept_build.specs.Ends.{IsFailure, IsKeeperFailure}
-use Rattle.kept_build.specs.Stores.{Store}
+use Rattle.kept_build.specs.Builds.{Unbegun}
+use Rattle.row_changes.specs.Stores.{Store}
 use Rattle.kept_build.specs.declared.ends.End.TheVariants as K
 use Rattle.pan_top.specs.Calls.{CallBy, CallOf, PlainCall}
 use Rattle.pan_top.specs.KeptBuilds.{KeptCall}
+use Rattle.pan_top.specs.KeptWatches.{KeptWatchCall}
 use Rattle.pan_top.specs.Demos.{shown_by, text_after}
 use Rattle.site_build.specs.Scenes.{Scene}
 use Rattle.pan_top.specs.declared.status.Status.{Status}
@@ -42,9 +44,10 @@ uncounted n = counted_same (S.Memory ≡ S.OutFault) n n refl (λ is. cc)
 still : (shelf : List ℕ → Stand) (cell : List ℕ → Cell) → Stopped E.Memory shelf cell cell
 still shelf cell = ([], record { others = λ n other. refl; own = λ n closed. inl refl })
 
-pub nothing_done : {T : Type 0} (M : Meanings T) (command : Option Command) (s : Scene) → PlainCall M command S.Memory s s
-nothing_done M None s = record { only = refl; spent = refl; line = inr (inr refl, none_of (codes "usage fault\n") s.held); out_count = uncounted s.out_count }
-nothing_done M (Some (Build w)) s = record {
+pub nothing_done : {T : Type 0} (M : Meanings T) (command : Option Command) (s : Scene)
+    (store : Store) → PlainCall M command S.Memory s s store
+nothing_done M None s store = record { only = refl; spent = refl; line = inr (inr refl, none_of (codes "usage fault\n") s.held); out_count = uncounted s.out_count }
+nothing_done M (Some (Build w)) s store = record {
   session = inr (record {
     end = E.Memory;
     is = inl refl;
@@ -64,7 +67,7 @@ nothing_done M (Some (Build w)) s = record {
   lines = refl;
   lines_count = refl;
 }
-nothing_done M (Some (Watch w)) s = inr (record {
+nothing_done M (Some (Watch w)) s store = inr (record {
   end = E.Memory;
   opening = tt;
   text = memory_wrote s.held;
@@ -80,8 +83,8 @@ nothing_done M (Some (Watch w)) s = inr (record {
   shelf_count = counted_same (IsFailureOf D.Shelf E.Memory) s.shelf_count s.shelf_count refl (λ is. cc);
   out_count = uncounted s.out_count;
 })
-nothing_done M (Some (Demo d)) s = record { only = refl; shows = inr (inr refl, none_of (text_after (shown_by M d)) s.held, spent_nothing (state_in (shown_by M d)) s.spent); out_count = uncounted s.out_count }
-nothing_done M (Some (Format p)) s = inr (record {
+nothing_done M (Some (Demo d)) s store = record { only = refl; shows = inr (inr refl, none_of (text_after (shown_by M d)) s.held, spent_nothing (state_in (shown_by M d)) s.spent); out_count = uncounted s.out_count }
+nothing_done M (Some (Format p)) s store = inr (record {
   end = E.Memory;
   is = inl refl;
   text = if_told (λ ps. Wrote (formatting_for ps).text E.Memory S.Memory s.held s.held) s.coming (λ ps told. (refl, none_of (formatting_for ps).text s.held));
@@ -106,35 +109,50 @@ unchanged_cell cell n = inr (same (cell n))
     same None = refl
     same (Some content) = refl
 
--- .. nor anything by a build with a keeper
+-- .. nor anything before a build or a watcher with a keeper began
+not_begun : (w : Work) (file : List ℕ) (s : Scene) (store : Store)
+    → Unbegun w file (K.Build E.Memory) s s store store
+not_begun w file s store = record {
+  opening = tt;
+  bad = λ is. cc;
+  held = refl;
+  coming = refl;
+  shelf = λ n. refl;
+  changes = refl;
+  spent = refl;
+  rows = unchanged_cell store.cell;
+  source_opened = inl refl;
+  shelf_opened = inl refl;
+  store_opened = inl refl;
+  source_count = counted_same (IsFailure D.Source (K.Build E.Memory)) s.source_count s.source_count
+      refl (λ is. cc);
+  shelf_count = counted_same (IsFailure D.Shelf (K.Build E.Memory)) s.shelf_count s.shelf_count
+      refl (λ is. cc);
+  out_count = refl;
+  store_count = counted_same (IsKeeperFailure (K.Build E.Memory)) store.count store.count refl
+      (λ is. is);
+  lines = refl;
+  lines_count = refl;
+}
+
 nothing_kept : {T : Type 0} (M : Meanings T) (w : Work) (file : List ℕ) (s : Scene) (store : Store)
     → KeptCall M w file S.Memory s s store store
 nothing_kept M w file s store = inr (record {
   end = K.Build E.Memory;
   is = inl refl;
   mid = s;
-  broke = inl (record {
-    opening = tt;
-    bad = λ is. cc;
-    held = refl;
-    coming = refl;
-    shelf = λ n. refl;
-    changes = refl;
-    spent = refl;
-    rows = unchanged_cell store.cell;
-    source_opened = inl refl;
-    shelf_opened = inl refl;
-    store_opened = inl refl;
-    source_count = counted_same (IsFailure D.Source (K.Build E.Memory)) s.source_count
-        s.source_count refl (λ is. cc);
-    shelf_count = counted_same (IsFailure D.Shelf (K.Build E.Memory)) s.shelf_count s.shelf_count
-        refl (λ is. cc);
-    out_count = refl;
-    store_count = counted_same (IsKeeperFailure (K.Build E.Memory)) store.count store.count refl
-        (λ is. is);
-    lines = refl;
-    lines_count = refl;
-  });
+  broke = inl (not_begun w file s store);
+  closes = (refl, none_of [] s.held);
+  only = refl;
+  out_count = uncounted s.out_count;
+})
+
+nothing_watched : {T : Type 0} (M : Meanings T) (w : Work) (file : List ℕ) (s : Scene)
+    (store : Store) → KeptWatchCall M w file S.Memory s s store store
+nothing_watched M w file s store = inr (record {
+  end = K.Build E.Memory;
+  mid = s;
+  unbegun = not_begun w file s store;
   closes = (refl, none_of [] s.held);
   only = refl;
   out_count = uncounted s.out_count;
@@ -143,15 +161,19 @@ nothing_kept M w file s store = inr (record {
 -- nothing was done by a call, whatever the command
 pub nothing_called : {T : Type 0} (M : Meanings T) (command : Option Command) (s : Scene)
     (store : Store) → CallOf M command S.Memory s s store store
-nothing_called M None s store = (nothing_done M None s, refl)
+nothing_called M None s store = (nothing_done M None s store, refl)
 nothing_called M (Some (Build w)) s store = by w.state
   where
     by : (file : Option (List ℕ)) → CallBy M (Some (Build w)) file S.Memory s s store store
-    by None = (nothing_done M (Some (Build w)) s, refl)
+    by None = (nothing_done M (Some (Build w)) s store, refl)
     by (Some file) = nothing_kept M w file s store
-nothing_called M (Some (Watch w)) s store = (nothing_done M (Some (Watch w)) s, refl)
-nothing_called M (Some (Demo d)) s store = (nothing_done M (Some (Demo d)) s, refl)
-nothing_called M (Some (Format p)) s store = (nothing_done M (Some (Format p)) s, refl)
+nothing_called M (Some (Watch w)) s store = by w.state
+  where
+    by : (file : Option (List ℕ)) → CallBy M (Some (Watch w)) file S.Memory s s store store
+    by None = (nothing_done M (Some (Watch w)) s store, refl)
+    by (Some file) = nothing_watched M w file s store
+nothing_called M (Some (Demo d)) s store = (nothing_done M (Some (Demo d)) s store, refl)
+nothing_called M (Some (Format p)) s store = (nothing_done M (Some (Format p)) s store, refl)
 
 -- the call of the command that the words are, by a runner that has made as many runs
 pub called : {T : Type 0} (M : Meanings T) (words : List (List ℕ)) (command : Option Command)

@@ -3,14 +3,22 @@ use Rattle.std.proofs.Common.{◌≡◌, ℕ, Bool, false, List, [], Option, Som
 use Rattle.std.specs.Prelude.{Result, Ok, Err, IfErr, IfSome}
 use std.Path.{fun_ext}
 use Rattle.command_words.specs.declared.commands.Work.{Work}
-use Rattle.compiler.specs.Compiler.{nothing}
+use Rattle.compiler.specs.Compiler.{Compiled}
 use Rattle.compiler.specs.Standing.{Counts, IsIn}
 use Rattle.engine_turns.specs.declared.core_data.Core.{Core}
 use Rattle.outside.specs.Causes.{Counted}
 use Rattle.outside.specs.Cells.{Cell, AreSame}
 use Rattle.outside.specs.declared.shelf.Change.{Change}
 use Rattle.outside.specs.declared.source.MemFile.{MemFile}
+use Rattle.keepers.specs.Keeping.{Lists as Lists_rows}
+use Rattle.kept_build.specs.Builds as kept_builds
+use Rattle.kept_build.specs.Builds.{Opens}
+use Rattle.kept_build.specs.Ends.{IsFailure, IsKeeperFailure}
+use Rattle.kept_build.specs.declared.ends.End.TheVariants as K
+use Rattle.kept_state.specs.Stored.{Stored}
 use Rattle.publication.specs.Listings.{Lists}
+use Rattle.row_changes.specs.Stores.{Store}
+use Rattle.stored_rows.specs.declared.row.StoredRow.{StoredRow}
 use Rattle.publication.specs.declared.publisher.Publisher.{Publisher}
 use Rattle.std.specs.List.Sorted.{IsSorted}
 use Rattle.std.specs.Cmp.Lexicographic.{slice_cmp}
@@ -32,7 +40,7 @@ use Rattle.watch.specs.declared.ends.End.TheVariants as ends
 use Rattle.pan_top.specs.Builds.{Wrote}
 use Rattle.site_build.specs.Scenes.{Scene}
 use Rattle.pan_top.specs.Statuses.{status_after}
-use Rattle.pan_top.specs.Watches.{EndsWith, HasListed, IsOpening, IsPlayed, Plays, PlaysAll, PlaysTo, SourceAt, line_at, spot_in, status_at}
+use Rattle.pan_top.specs.Watches.{EndsWith, HasListed, Holds, IsOpening, IsPlayed, Plays, PlaysAll, PlaysTo, SourceAt, line_at, spot_in, status_at, unreported}
 use Rattle.pan_top.specs.declared.status.Status.{Status}
 use Rattle.pan_top.specs.declared.status.Status.TheVariants as S
 use Rattle.pan_top.proofs.Counting.{counted_by, counted_same, not_out_after}
@@ -68,66 +76,185 @@ ready_scene w before coming source out sources shelves cell changes spent pictur
     let cells : cell ≡ before.cell = fun_ext same in
     λ i. record before { coming = pictures i; source_opened = at_source i; source_count = counted i; cell = cells i; changes = kept i; shelf_opened = at_out i; shelf_count = failed i; spent = made i }
 
--- the session came to its end
-pub all_ended : {T : Type 0} (M : Meanings T) (first last : Core T) (publisher publisher_last : Publisher) (status : Status) (before after : Scene) (has_faults : Bool) → sites.Finishes M (reel before.lines after.lines before.held after.held) (spot_in first publisher before false) (spot_in last publisher_last after has_faults) → status ≡ status_after (ended_by has_faults) → after.source_opened ≡ before.source_opened → after.shelf_opened ≡ before.shelf_opened → after.lines_count ≡ before.lines_count → after.out_count ≡ before.out_count → PlaysAll M first publisher status before after
-all_ended M first last publisher publisher_last status before after has_faults played how source shelf lines out = record {
-  end = None;
-  has_faults = has_faults;
-  last = last;
-  publisher_last = publisher_last;
-  held = after.held;
-  played = played;
-  closes = (how, refl);
-  source_opened = source;
-  shelf_opened = shelf;
-  lines_count = counted_same (None ≡ Some ends.Lines) before.lines_count after.lines_count lines (λ is. cc);
-  out_count = counted_same (status ≡ S.OutFault) before.out_count after.out_count out (λ is. not_out_after (ended_by has_faults) (sym how ∙ is));
+module _ {T : Type 0} (M : Meanings T) (ready : Type 0) (first last : Holds T) (status : Status)
+    (before after : Scene) (store store_now : Store)
+    (source : after.source_opened ≡ before.source_opened)
+    (shelf : after.shelf_opened ≡ before.shelf_opened) (opened : store_now.opened ≡ store.opened)
+    (uncalled : first.rows ≡ None → store_now ≡ store) where
+  -- the session came to its end
+  pub all_ended :
+      (ready → sites.Finishes M (reel before.lines after.lines before.held after.held)
+      (spot_in (unreported first) before store) (spot_in last after store_now))
+      → status ≡ status_after (ended_by last.has_faults) → after.lines_count ≡ before.lines_count
+      → after.out_count ≡ before.out_count
+      → PlaysAll M ready first status before after store store_now
+  all_ended played how lines out = record {
+    end = None;
+    last = last;
+    held = after.held;
+    played = played;
+    closes = (how, refl);
+    source_opened = source;
+    shelf_opened = shelf;
+    store_opened = opened;
+    uncalled = uncalled;
+    lines_count = counted_same (None ≡ Some ends.Lines) before.lines_count after.lines_count lines
+        (λ is. cc);
+    out_count = counted_same (status ≡ S.OutFault) before.out_count after.out_count out
+        (λ is. not_out_after (ended_by last.has_faults) (sym how ∙ is));
+  }
+
+  -- it ended before its lines did
+  pub all_halted : (end : End) (held : Option (List ℕ))
+      → (ready → sites.Stops M end (reel before.lines after.lines before.held held)
+      (spot_in (unreported first) before store) (spot_in last after store_now))
+      → EndsWith (status_at end) (line_at end) status held after.held
+      → Counted (end ≡ ends.Lines) before.lines_count after.lines_count
+      → Counted (status ≡ S.OutFault) before.out_count after.out_count
+      → PlaysAll M ready first status before after store store_now
+  all_halted end held played said lines out = record {
+    end = Some end;
+    last = last;
+    held = held;
+    played = played;
+    closes = said;
+    source_opened = source;
+    shelf_opened = shelf;
+    store_opened = opened;
+    uncalled = uncalled;
+    lines_count = counted_by (end ≡ ends.Lines) (Some end ≡ Some ends.Lines) before.lines_count
+        after.lines_count (λ is. ap (λ e. Some e) is) (λ is. cc) lines;
+    out_count = out;
+  }
+
+-- what was played is said where more holds
+pub played_where : {T : Type 0} (M : Meanings T) (P Q : Type 0) → (Q → P) → (first : Holds T)
+    (status : Status) (before after : Scene) (store store_now : Store)
+    → PlaysAll M P first status before after store store_now
+    → PlaysAll M Q first status before after store store_now
+played_where M P Q where_so first status before after store store_now a = record {
+  end = a.end;
+  last = a.last;
+  held = a.held;
+  played = λ q. a.played (where_so q);
+  closes = a.closes;
+  source_opened = a.source_opened;
+  shelf_opened = a.shelf_opened;
+  store_opened = a.store_opened;
+  uncalled = a.uncalled;
+  lines_count = a.lines_count;
+  out_count = a.out_count;
 }
 
--- it ended before its lines did
-pub all_halted : {T : Type 0} (M : Meanings T) (first last : Core T) (publisher publisher_last : Publisher) (status : Status) (before after : Scene) (has_faults : Bool) (end : End) (held : Option (List ℕ)) → sites.Stops M end (reel before.lines after.lines before.held held) (spot_in first publisher before false) (spot_in last publisher_last after has_faults) → EndsWith (status_at end) (line_at end) status held after.held → after.source_opened ≡ before.source_opened → after.shelf_opened ≡ before.shelf_opened → Counted (end ≡ ends.Lines) before.lines_count after.lines_count → Counted (status ≡ S.OutFault) before.out_count after.out_count → PlaysAll M first publisher status before after
-all_halted M first last publisher publisher_last status before after has_faults end held played said source shelf lines out = record {
-  end = Some end;
-  has_faults = has_faults;
-  last = last;
-  publisher_last = publisher_last;
-  held = held;
-  played = played;
-  closes = said;
-  source_opened = source;
-  shelf_opened = shelf;
-  lines_count = counted_by (end ≡ ends.Lines) (Some end ≡ Some ends.Lines) before.lines_count after.lines_count (λ is. ap (λ e. Some e) is) (λ is. cc) lines;
-  out_count = out;
-}
+module _ {T : Type 0} (M : Meanings T) (w : Work) (ready sound : Type 0) (sound_ready : sound → ready)
+    (first : Holds T) (e : Compiled T) (names : List (List ℕ))
+    (is : IsIn w.directories (limits_of w) first.core e) (fresh : first.has_taken ≡ false)
+    (has : HasNames first.publisher names) (mid after : Scene) (store store_now : Store)
+    (listed : IfSome first.rows (Lists_rows store.cell)) where
+  abbrev Begun : Spot T
+  Begun = spot_in (unreported first) mid store
 
-module _ {T : Type 0} (M : Meanings T) (w : Work) (status : Status) (before after : Scene) (publisher : Publisher) (first : Core T) (is : IsIn w.directories (limits_of w) first nothing) (known : HasListed publisher before.cell) where
+  begins_at : (ps : List (List MemFile)) → mid.coming ≡ Some ps
+      → sites.Begins w.directories (limits_of w) e ps names Begun
+  begins_at ps told = record {
+    engine = is;
+    fresh = fresh;
+    coming = told;
+    known = has;
+    listed = listed;
+  }
+
   -- what was played is the session of the words
-  played_to : (end : Option End) (r : Reel) (last : Spot T) → IsPlayed M end r (spot_in first publisher before false) last → IfSome before.coming (λ ps. PlaysTo M w end known.names ps r (spot_in first publisher before false) last)
-  played_to None r last played = if_told (λ ps. PlaysTo M w None known.names ps r (spot_in first publisher before false) last) before.coming (λ ps told. played w.directories (limits_of w) nothing ps known.names is told known.has)
-  played_to (Some end) r last played = if_told (λ ps. PlaysTo M w (Some end) known.names ps r (spot_in first publisher before false) last) before.coming (λ ps told. played w.directories (limits_of w) nothing ps known.names is told known.has)
+  played_to : (end : Option End) (r : Reel) (last : Spot T) → (ready → IsPlayed M end r Begun last)
+      → sound → IfSome mid.coming (λ ps. PlaysTo M w end e names ps r Begun last)
+  played_to None r last played is_sound =
+      if_told (λ ps. PlaysTo M w None e names ps r Begun last) mid.coming
+      (λ ps told. played (sound_ready is_sound) w.directories (limits_of w) e ps names
+      (begins_at ps told))
+  played_to (Some end) r last played is_sound =
+      if_told (λ ps. PlaysTo M w (Some end) e names ps r Begun last) mid.coming
+      (λ ps told. played (sound_ready is_sound) w.directories (limits_of w) e ps names
+      (begins_at ps told))
 
-  pub plays : publisher.most ≡ w.most_removed → (mid : Scene) → mid ≡ record before { source_opened = Some w.source; shelf_opened = Some w.out } → PlaysAll M first publisher status mid after → Plays M w status before after
-  plays bound mid ready all = by (subst (λ s. PlaysAll M first publisher status s after) ready all)
-    where
-      by : PlaysAll M first publisher status (record before { source_opened = Some w.source; shelf_opened = Some w.out }) after → Plays M w status before after
-      by a = record {
-        end = a.end;
-        has_faults = a.has_faults;
-        first = first;
-        last = a.last;
-        publisher = publisher;
-        publisher_last = a.publisher_last;
-        names = known.names;
-        listed = known.listed;
-        bound = bound;
-        held = a.held;
-        session = played_to a.end (reel before.lines after.lines before.held a.held) (spot_in a.last a.publisher_last after a.has_faults) a.played;
-        closes = a.closes;
-        source_opened = a.source_opened;
-        shelf_opened = a.shelf_opened;
-        lines_count = a.lines_count;
-        out_count = a.out_count;
-      }
+  pub plays : (status : Status) → first.publisher.most ≡ w.most_removed
+      → mid.source_opened ≡ Some w.source → mid.shelf_opened ≡ Some w.out
+      → PlaysAll M ready first status mid after store store_now
+      → Plays M w sound e first.rows names status mid after store store_now
+  plays status bound source shelf a = record {
+    end = a.end;
+    first = unreported first;
+    last = a.last;
+    kept = refl;
+    bound = bound;
+    held = a.held;
+    session = played_to a.end (reel mid.lines after.lines mid.held a.held)
+        (spot_in a.last after store_now) a.played;
+    closes = a.closes;
+    source_opened = a.source_opened ∙ source;
+    shelf_opened = a.shelf_opened ∙ shelf;
+    store_opened = a.store_opened;
+    lines_count = a.lines_count;
+    out_count = a.out_count;
+  }
+
+-- .. from before its devices were opened
+pub plays_from : {T : Type 0} (M : Meanings T) (w : Work) (sound : Type 0) (e : Compiled T)
+    (rows : Option (List StoredRow)) (names : List (List ℕ)) (status : Status)
+    (before mid after : Scene) (store store_now : Store)
+    → mid ≡ record before { source_opened = Some w.source; shelf_opened = Some w.out }
+    → Plays M w sound e rows names status mid after store store_now
+    → Plays M w sound e rows names status before after store store_now
+plays_from M w sound e rows names status before mid after store store_now opened p =
+    by (subst (λ s. Plays M w sound e rows names status s after store store_now) opened p)
+  where
+    by : Plays M w sound e rows names status
+        (record before { source_opened = Some w.source; shelf_opened = Some w.out }) after store
+        store_now → Plays M w sound e rows names status before after store store_now
+    by a = record {
+      end = a.end;
+      first = a.first;
+      last = a.last;
+      kept = a.kept;
+      bound = a.bound;
+      held = a.held;
+      session = a.session;
+      closes = a.closes;
+      source_opened = a.source_opened;
+      shelf_opened = a.shelf_opened;
+      store_opened = a.store_opened;
+      lines_count = a.lines_count;
+      out_count = a.out_count;
+    }
+
+-- memory was wanting behind an opening
+pub opened_only : (w : Work) (file : List ℕ) (names : List (List ℕ)) (last : List StoredRow)
+    (found : Stored) (before mid : Scene) (store read : Store)
+    → Opens w file names last found before mid store read
+    → kept_builds.Unbegun w file (K.Build E.Memory) before mid store read
+opened_only w file names last found before mid store read o =
+    subst (λ s. kept_builds.Unbegun w file (K.Build E.Memory) before s store read) (sym o.scene)
+    (record {
+      opening = tt;
+      bad = λ is. cc;
+      held = refl;
+      coming = refl;
+      shelf = λ n. refl;
+      changes = refl;
+      spent = refl;
+      rows = o.told;
+      source_opened = inr refl;
+      shelf_opened = inr refl;
+      store_opened = inr o.store_opened;
+      source_count = counted_same (IsFailure D.Source (K.Build E.Memory)) before.source_count
+          before.source_count refl (λ is. cc);
+      shelf_count = counted_same (IsFailure D.Shelf (K.Build E.Memory)) before.shelf_count
+          before.shelf_count refl (λ is. cc);
+      out_count = refl;
+      store_count = counted_same (IsKeeperFailure (K.Build E.Memory)) store.count read.count
+          o.store_count (λ is. is);
+      lines = refl;
+      lines_count = refl;
+    })
 
 -- an opening that failed calls no sink
 pub not_sinks : (e : early.End) → IsOpening e → IsFailureOf D.Out e → ⊥

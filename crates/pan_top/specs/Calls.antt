@@ -8,7 +8,8 @@ use Rattle.pan_top.specs.Builds.{BuildCall}
 use Rattle.pan_top.specs.Demos.{DemoCall}
 use Rattle.pan_top.specs.Formats.{FormatCall}
 use Rattle.pan_top.specs.KeptBuilds.{KeptCall}
-use Rattle.kept_build.specs.Stores.{Store}
+use Rattle.pan_top.specs.KeptWatches.{KeptWatchCall}
+use Rattle.row_changes.specs.Stores.{Store}
 use Rattle.site_build.specs.Scenes.{Scene, OnlyWrites}
 use Rattle.pan_top.specs.Statuses.{Says}
 use Rattle.pan_top.specs.Watches.{WatchCall}
@@ -22,29 +23,33 @@ pub record UsageCall (status : Status) (before after : Scene) : Type 0 where
   pub line : Says S.Usage (codes "usage fault\n") status before.held after.held
   pub out_count : Counted (status ≡ S.OutFault) before.out_count after.out_count
 
--- the call of the command that the words are, where it has no keeper
-abbrev pub PlainCall : {T : Type 0} → Meanings T → Option Command → Status → Scene → Scene → Type 0
-PlainCall means None = UsageCall
-PlainCall means (Some (Build w)) = BuildCall means w
-PlainCall means (Some (Watch w)) = WatchCall means w
-PlainCall means (Some (Demo d)) = DemoCall means d
-PlainCall means (Some (Format p)) = FormatCall p
+-- the call of the command that the words are, where it keeps no rows
+abbrev pub PlainCall : {T : Type 0} → Meanings T → Option Command → Status → Scene → Scene → Store
+    → Type 0
+PlainCall means None status before after store = UsageCall status before after
+PlainCall means (Some (Build w)) status before after store = BuildCall means w status before after
+PlainCall means (Some (Watch w)) status before after store =
+    WatchCall means w status before after store
+PlainCall means (Some (Demo d)) status before after store = DemoCall means d status before after
+PlainCall means (Some (Format p)) status before after store = FormatCall p status before after
 
 -- the file of the rows that a command keeps
 abbrev pub file_of : Option Command → Option (List ℕ)
 file_of None = None
 file_of (Some (Build w)) = w.state
-file_of (Some (Watch w)) = None
+file_of (Some (Watch w)) = w.state
 file_of (Some (Demo d)) = None
 file_of (Some (Format p)) = None
 
--- a build keeps its rows in that file; no other command does anything with the keeper
+-- a build and a watcher keep their rows in that file; no other command does anything with the keeper
 abbrev pub CallBy : {T : Type 0} → Meanings T → Option Command → Option (List ℕ) → Status → Scene
     → Scene → Store → Store → Type 0
 CallBy means (Some (Build w)) (Some file) status before after store store_now =
     KeptCall means w file status before after store store_now
+CallBy means (Some (Watch w)) (Some file) status before after store store_now =
+    KeptWatchCall means w file status before after store store_now
 CallBy means command file status before after store store_now =
-    PlainCall means command status before after × (store_now ≡ store)
+    PlainCall means command status before after store × (store_now ≡ store)
 
 abbrev pub CallOf : {T : Type 0} → Meanings T → Option Command → Status → Scene → Scene → Store
     → Store → Type 0

@@ -1,7 +1,7 @@
 -- How a watcher ends.
-use Rattle.std.specs.Prelude.{◌≡◌, ◌⊎◌, ℕ, Bool, false, List, [], Option, Some, None, IfSome, codes}
+use Rattle.std.specs.Prelude.{◌≡◌, ◌⊎◌, ℕ, Bool, false, List, [], Option, Some, None, IfSome, codes, option_map, vec_items}
 use Rattle.command_words.specs.declared.commands.Work.{Work}
-use Rattle.compiler.specs.Compiler.{nothing}
+use Rattle.compiler.specs.Compiler.{Compiled, nothing}
 use Rattle.engine_turns.specs.declared.core_data.Core.{Core}
 use Rattle.outside.specs.Causes.{Counted}
 use Rattle.outside.specs.Cells.{Cell, AreSame}
@@ -9,15 +9,19 @@ use Rattle.outside.specs.declared.source.MemFile.{MemFile}
 use Rattle.publication.specs.Changing.{AreListed}
 use Rattle.publication.specs.declared.publisher.Publisher.{Publisher}
 use Rattle.rebuild.specs.Engines.{Meanings}
+use Rattle.row_changes.specs.Stores.{Store}
+use Rattle.runner.specs.declared.runner.Runner as runner
 use Rattle.session.specs.Sessions.{started, ended_by}
 use Rattle.site_build.specs.Ends.{IsFailureOf, OfSource, OfShelf, caller_of}
 use Rattle.site_build.specs.Session.{IsPerhapsOpened, engine_for, limits_of}
 use Rattle.site_build.specs.declared.ends.Device.TheVariants as D
 use Rattle.site_build.specs.declared.ends.End as early
 use Rattle.site_build.specs.declared.ends.End.TheVariants as E
+use Rattle.stored_rows.specs.declared.row.StoredRow.{StoredRow}
 use Rattle.watch.specs.Sites as sites
 use Rattle.watch.specs.Played.{Finished, HasNames, Reel, Stopped, reel}
 use Rattle.watch.specs.Steps.{Spot}
+use Rattle.watch.specs.declared.site.Site.{Site}
 use Rattle.watch.specs.declared.ends.End.{End}
 use Rattle.watch.specs.declared.ends.End.TheVariants as W
 use Rattle.pan_top.specs.Builds.{Wrote}
@@ -50,17 +54,41 @@ abbrev pub EndsWith : Status → Option (List ℕ) → Status → Option (List �
 EndsWith own None status old new = (status ≡ own) × (new ≡ old)
 EndsWith own (Some line) status old new = Says own line status old new
 
--- what a watcher's lines find there, beside the engine, whether the last report had a fault, and the
--- publisher
-abbrev pub spot_in : {T : Type 0} → Core T → Publisher → Scene → Bool → Spot T
-spot_in core publisher s has_faults = record {
-  core = core;
+-- what a watcher holds beside its devices: its engine, whether that has taken a picture, what it knows
+-- of the shelf, the rows that the keeper holds, where rows are kept, and whether the last report had a
+-- fault
+pub record Holds (T : Type 0) : Type 0 where
+  pub core : Core T
+  pub has_taken : Bool
+  pub publisher : Publisher
+  pub rows : Option (List StoredRow)
+  pub has_faults : Bool
+
+abbrev pub held_by : {R S H K T : Type 0} {M : runner.Ghosts R T} → Site R S H K T M → Holds T
+held_by site = record {
+  core = site.works.engine.core;
+  has_taken = site.has_taken;
+  publisher = site.publisher;
+  rows = option_map vec_items site.rows;
+  has_faults = site.has_faults;
+}
+
+-- before its first line no report had a fault
+abbrev pub unreported : {T : Type 0} → Holds T → Holds T
+unreported holds = record holds { has_faults = false }
+
+-- what a watcher's lines find there
+abbrev pub spot_in : {T : Type 0} → Holds T → Scene → Store → Spot T
+spot_in holds s store = record {
+  core = holds.core;
+  has_taken = holds.has_taken;
   coming = s.coming;
-  has_faults = has_faults;
+  has_faults = holds.has_faults;
   spent = s.spent;
   source_count = s.source_count;
   shelf = record { cell = s.cell; changes = s.changes; count = s.shelf_count };
-  publisher = publisher;
+  publisher = holds.publisher;
+  stock = record { store = store; rows = holds.rows };
 }
 
 -- the publisher knows the names on the shelf, and no other
@@ -110,54 +138,62 @@ abbrev pub IsPlayed : {T : Type 0} → Meanings T → Option End → Reel → Sp
 IsPlayed means None r first last = sites.Finishes means r first last
 IsPlayed means (Some end) r first last = sites.Stops means end r first last
 
--- .. over devices that are open, by an engine and a publisher, and the line of its end was written
-pub record PlaysAll {T : Type 0} (means : Meanings T) (first : Core T) (publisher : Publisher)
-    (status : Status) (before after : Scene) : Type 0 where
+-- .. over devices that are open, and the line of its end was written. What was played is said where
+-- this holds of what it began with. A keeper that keeps no rows was not called.
+pub record PlaysAll {T : Type 0} (means : Meanings T) (ready : Type 0) (first : Holds T)
+    (status : Status) (before after : Scene) (store store_now : Store) : Type 0 where
   pub end : Option End
-  pub has_faults : Bool
-  pub last : Core T
-  pub publisher_last : Publisher
+  pub last : Holds T
   pub held : Option (List ℕ)
-  pub played : IsPlayed means end (reel before.lines after.lines before.held held)
-      (spot_in first publisher before false) (spot_in last publisher_last after has_faults)
-  pub closes : Closes end has_faults status held after.held
+  pub played : ready → IsPlayed means end (reel before.lines after.lines before.held held)
+      (spot_in (unreported first) before store) (spot_in last after store_now)
+  pub closes : Closes end last.has_faults status held after.held
   pub source_opened : after.source_opened ≡ before.source_opened
   pub shelf_opened : after.shelf_opened ≡ before.shelf_opened
+  pub store_opened : store_now.opened ≡ store.opened
+  pub uncalled : first.rows ≡ None → store_now ≡ store
   pub lines_count : Counted (end ≡ Some W.Lines) before.lines_count after.lines_count
   pub out_count : Counted (status ≡ S.OutFault) before.out_count after.out_count
 
 module _ {T : Type 0} (means : Meanings T) (w : Work) where
-  -- the session was played from one spot to another, to its end or to this one, over a shelf with
-  -- these names
-  abbrev pub PlaysTo : Option End → List (List ℕ) → List (List MemFile) → Reel → Spot T → Spot T
-      → Type 0
-  PlaysTo None names ps r first last = Finished (engine_for means w) w.directories (limits_of w)
-      (started nothing ps names) r first last
-  PlaysTo (Some end) names ps r first last = Stopped (engine_for means w) w.directories
-      (limits_of w) (started nothing ps names) end r first last
+  -- the session that begins with this engine was played from one spot to another, to its end or to
+  -- this one, over a shelf with these names
+  abbrev pub PlaysTo : Option End → Compiled T → List (List ℕ) → List (List MemFile) → Reel
+      → Spot T → Spot T → Type 0
+  PlaysTo None e names ps r first last = Finished (engine_for means w) means w.directories
+      (limits_of w) (started e ps names) r first last
+  PlaysTo (Some end) e names ps r first last = Stopped (engine_for means w) means w.directories
+      (limits_of w) (started e ps names) end r first last
 
-  -- A session was played, with the pictures that the source had to give, over the names on the shelf.
-  -- Its publisher may remove as many names as the words allow. The roots are those that the words
-  -- name, and the lines and the sink have counted the failure that ended it, and no other.
-  pub record Plays (status : Status) (before after : Scene) : Type 0 where
+  -- A session was played, with the pictures that the source had to give, over the names on the shelf,
+  -- that begins with this engine and with these rows; what was played is said where this is sound. Its
+  -- publisher may remove as many names as the words allow. The roots are those that the words name,
+  -- and the lines and the sink have counted the failure that ended it, and no other.
+  pub record Plays (sound : Type 0) (e : Compiled T) (rows : Option (List StoredRow))
+      (names : List (List ℕ)) (status : Status) (before after : Scene) (store store_now : Store)
+      : Type 0 where
     pub end : Option End
-    pub has_faults : Bool
-    pub first : Core T
-    pub last : Core T
-    pub publisher : Publisher
-    pub publisher_last : Publisher
-    pub names : List (List ℕ)
-    pub listed : AreListed names before.cell
-    pub bound : publisher.most ≡ w.most_removed
+    pub first : Holds T
+    pub last : Holds T
+    pub kept : first.rows ≡ rows
+    pub bound : first.publisher.most ≡ w.most_removed
     pub held : Option (List ℕ)
-    pub session : IfSome before.coming (λ ps. PlaysTo end names ps
-        (reel before.lines after.lines before.held held) (spot_in first publisher before false)
-        (spot_in last publisher_last after has_faults))
-    pub closes : Closes end has_faults status held after.held
+    pub session : sound → IfSome before.coming (λ ps. PlaysTo end e names ps
+        (reel before.lines after.lines before.held held) (spot_in first before store)
+        (spot_in last after store_now))
+    pub closes : Closes end last.has_faults status held after.held
     pub source_opened : after.source_opened ≡ Some w.source
     pub shelf_opened : after.shelf_opened ≡ Some w.out
+    pub store_opened : store_now.opened ≡ store.opened
     pub lines_count : Counted (end ≡ Some W.Lines) before.lines_count after.lines_count
     pub out_count : Counted (status ≡ S.OutFault) before.out_count after.out_count
 
-  abbrev pub WatchCall : Status → Scene → Scene → Type 0
-  WatchCall status before after = Plays status before after ⊎ Unbegun w status before after
+  -- one that keeps no rows: it begins with an engine that has taken no picture
+  pub record PlaysUnkept (status : Status) (before after : Scene) (store : Store) : Type 0 where
+    pub names : List (List ℕ)
+    pub listed : AreListed names before.cell
+    pub plays : Plays (Unit {0}) nothing None names status before after store store
+
+  abbrev pub WatchCall : Status → Scene → Scene → Store → Type 0
+  WatchCall status before after store =
+      PlaysUnkept status before after store ⊎ Unbegun w status before after

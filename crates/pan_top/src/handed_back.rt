@@ -2,6 +2,7 @@ ghost use Rattle.std.specs.Prelude.{◌≡◌};
 
 use crate::status::Status;
 use compiler::Works;
+use kept_build::KeptDevices;
 use runner::Runner;
 use site_build::Devices;
 
@@ -65,4 +66,19 @@ pub(crate) fn beside<R: Runner, S, H, K, N, O>(
         devices,
         keeper,
     }
+}
+
+/// Hands back the runner, without its engine, the devices and the keeper.
+pub(crate) fn hand_back_kept<R: Runner, S, H, K, N, O>(
+    status: Status,
+    works: Works<R>,
+    devices: KeptDevices<S, H, K, N, O>,
+) -> HandedBack<R, S, H, K, N, O>
+    ensures status { result.status ≡ status }
+    ensures runner { result.runner ≡ works.runner }
+    ensures devices { result.devices ≡ devices.devices }
+    ensures keeper { result.keeper ≡ devices.keeper }
+{
+    let KeptDevices { devices, keeper } = devices;
+    beside(hand_back(status, works, devices), keeper)
 }

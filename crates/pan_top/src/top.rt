@@ -17,7 +17,7 @@ ghost use Rattle.pan_top.specs.Profiles.{AreKept};
 use crate::building::build;
 use crate::closing::say;
 use crate::formatting::format_templates;
-use crate::handed_back::{HandedBack, beside, hand_back};
+use crate::handed_back::{HandedBack, beside, hand_back, hand_back_kept};
 use crate::keeping::build_with_rows;
 use crate::showing::show;
 use crate::status::Status;
@@ -59,8 +59,7 @@ fn carry_out_build<R: Runner, S: Source, H: Shelf, K: Keeper, N: Lines, O: Sink,
     };
     let mut kept = KeptDevices { devices, keeper };
     let status = build_with_rows(alloc, &request, &mut works, &mut kept, steps);
-    let KeptDevices { devices, keeper } = kept;
-    beside(hand_back(status, works, devices), keeper)
+    hand_back_kept(status, works, kept)
 }
 
 /// Carries out the command that the words are.
@@ -83,9 +82,7 @@ fn carry_out<R: Runner, S: Source, H: Shelf, K: Keeper, N: Lines, O: Sink, L: Le
         Ok(Some(Command::Build(work))) => {
             carry_out_build(alloc, &work, works, devices, keeper, steps)
         }
-        Ok(Some(Command::Watch(work))) => {
-            beside(watch(alloc, &work, works, devices, steps), keeper)
-        }
+        Ok(Some(Command::Watch(work))) => watch(alloc, &work, works, devices, keeper, steps),
         Ok(Some(Command::Demo(demonstration))) => {
             let status = show(alloc, &demonstration, &mut works, &mut devices.out, steps);
             beside(hand_back(status, works, devices), keeper)
@@ -112,9 +109,9 @@ fn carry_out<R: Runner, S: Source, H: Shelf, K: Keeper, N: Lines, O: Sink, L: Le
 /// of the objects that a watcher's `impact` names (`edits`). A layout keeps the template, its comments and its annotations
 /// (`layouts`), and has itself as its layout (`settled`).
 ///
-/// Where the words name a file of rows, the keeper is opened there: a build goes on from the rows of an earlier one, and
-/// keeps its own. What is said of it stands on these rows being sound, as those are that a build has kept, and as none
-/// are (`unkept`); no other command does anything with the keeper.
+/// Where the words name a file of rows, the keeper is opened there: a build and a watcher go on from the rows of an
+/// earlier run, and keep their own behind each publication. What is said of them stands on the rows at the beginning being
+/// sound, as those are that a build has kept, and as none are (`unkept`); no other command does anything with the keeper.
 ///
 /// The runner, the devices and the keeper are handed back with the status. `steps` rises by the session's steps: one for each file that is taken, for each item that is compared, and the work of
 /// each run.

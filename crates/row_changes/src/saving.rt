@@ -1,5 +1,6 @@
-ghost use Rattle.std.specs.Prelude.{◌≡◌, OnOk, OnErr, map, true};
+ghost use Rattle.std.specs.Prelude.{◌≡◌, IfErr, OnOk, OnErr, map, true};
 ghost use Rattle.outside.specs.Causes.{HasCause};
+ghost use Rattle.outside.specs.declared.error.StoreError.TheVariants.{Failed};
 ghost use Rattle.stored_rows.specs.Rows.{row_name, are_rising};
 ghost use Rattle.keepers.specs.Keeping.{Follows, Lists, unchanged, replaced};
 ghost use Rattle.row_changes.specs.Differing.{gone_from, set_from};
@@ -24,7 +25,7 @@ pub struct Saved {
 /// none stands twice.
 ///
 /// A refused call changes no row, so that the rows last kept are still kept and the next call can
-/// try again. `Failed` is a refusal of the keeper itself.
+/// try again. `Failed` is a refusal of the keeper itself, which rows that are the same do not meet.
 pub fn save<K: Keeper>(
     alloc: Global,
     keeper: &mut K,
@@ -42,6 +43,7 @@ pub fn save<K: Keeper>(
     ensures untouched { OnErr result.result (Follows unchanged (K.cell keeper.old) (K.cell
         keeper.new)) }
     ensures same { last.items ≡ wanted.items → keeper.new ≡ keeper.old }
+    ensures differ { IfErr result.result (λ e. e ≡ Failed → last.items ≡ wanted.items → ⊥) }
     ensures opened { K.opened keeper.new ≡ K.opened keeper.old }
     ensures cause { HasCause (K.fault_count keeper.old) (K.fault_count keeper.new) result.result }
 {
@@ -70,6 +72,7 @@ fn tell_changes<K: Keeper>(
         (set_from last.now wanted.now)) (K.cell keeper.old) (K.cell keeper.new)) }
     ensures untouched { OnErr result (Follows unchanged (K.cell keeper.old) (K.cell keeper.new)) }
     ensures same { last.now ≡ wanted.now → keeper.new ≡ keeper.old }
+    ensures differ { IfErr result (λ e. e ≡ Failed → last.now ≡ wanted.now → ⊥) }
     ensures opened { K.opened keeper.new ≡ K.opened keeper.old }
     ensures cause { HasCause (K.fault_count keeper.old) (K.fault_count keeper.new) result }
 {

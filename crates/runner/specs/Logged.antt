@@ -6,17 +6,11 @@ use Rattle.assign_rules.specs.Profiles.{IsLogOf}
 use Rattle.path_tree.specs.Lists.{is_null}
 use Rattle.path_tree.specs.Plain.{Plain}
 use Rattle.pan_ast.specs.declared.change.Change.{Change}
-use Rattle.pan_ast.specs.declared.place.Place.{Place}
 use Rattle.questions.specs.declared.key.Key.{Key}
 use Rattle.questions.specs.Contents.{Content}
 use Rattle.runner.specs.declared.ends.Built.{Built}
 use Rattle.runner.specs.declared.log.Log.{Log}
-use Rattle.runner.specs.Meaning.{Meaning}
-
--- the place of the header of the object's template, and the changes, in order
-pub record Logged : Type 0 where
-  pub header : Place
-  pub changes : List Change
+use Rattle.runner.specs.Meaning.{Logged, Meaning}
 
 abbrev pub seen_log : Log → Logged
 seen_log l = record { header = l.header.now; changes = l.changes.now }
@@ -38,6 +32,6 @@ pub record IsLogFor (tree : Plain) (l : Logged) : Type 0 where
   pub gives : IsLogOf l.changes tree
 
 -- what is told of what was built is how its tree was made
-abbrev pub LogItsTrees : {T : Type 0} → Meaning T → (T → Option Logged) → Type 0
-LogItsTrees {T} m log_of = (object : List ℕ) (asked : List (Key × Content)) (b : Built T)
-    → m.build object asked ≡ Ends (Ok b) → IfSome (log_of b.rest) (IsLogFor b.tree)
+abbrev pub LogItsTrees : {T : Type 0} → Meaning T → Type 0
+LogItsTrees {T} m = (object : List ℕ) (asked : List (Key × Content)) (b : Built T)
+    → m.build object asked ≡ Ends (Ok b) → IfSome (m.log b.rest) (IsLogFor b.tree)

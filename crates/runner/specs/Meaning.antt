@@ -1,6 +1,8 @@
 -- What a runner's builds and checks ask and give, and their laws.
-use Rattle.std.specs.Prelude.{◌≡◌, ℕ, ◌+◌, List, [], Ok, cond, nat_lt}
+use Rattle.std.specs.Prelude.{◌≡◌, ℕ, ◌+◌, List, [], Option, Ok, cond, nat_lt}
 use Rattle.asking.specs.Asked.{Answer, Ends, Word, Ran, ran, told_in}
+use Rattle.pan_ast.specs.declared.change.Change.{Change}
+use Rattle.pan_ast.specs.declared.place.Place.{Place}
 use Rattle.questions.specs.declared.key.Key.{Key}
 use Rattle.questions.specs.Contents.{Content}
 use Rattle.questions.specs.Laws.{MayAsk}
@@ -8,12 +10,19 @@ use Rattle.questions.specs.Told.{RunLaws, more_than_asked}
 use Rattle.runner.specs.declared.ends.Built.{Built}
 use Rattle.runner.specs.Ends.{End, Verdict, is_circular_end, is_circular_verdict}
 
--- the next question after these answers, the newest first, or the end; and the work used so far
+-- how a tree was made: the place of the header of the object's template, and the changes, in order
+pub record Logged : Type 0 where
+  pub header : Place
+  pub changes : List Change
+
+-- The next question after these answers, the newest first, or the end; and the work used so far. Of
+-- what was built, how its tree was made, if that is kept.
 pub record Meaning (T : Type 0) : Type 0 where
   pub build : List ℕ → List (Key × Content) → Answer Key (End T)
   pub build_work : List ℕ → List (Key × Content) → ℕ
   pub check : Built T → List (Key × Content) → Answer Key Verdict
   pub check_work : Built T → List (Key × Content) → ℕ
+  pub log : T → Option Logged
 
 -- how a build goes that is told these words, and the work that it uses
 abbrev pub build_run : {T : Type 0} → Meaning T → List ℕ → (Key → Word Content) → Ran Key (End T)

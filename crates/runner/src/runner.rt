@@ -20,13 +20,13 @@ use std::sync::ledger::Ledger;
 /// limits, the object's name or what was built, and of the answers so far. Whoever uses a runner knows nothing of that
 /// meaning but its laws, and what a check that gives no fault promises.
 pub trait Runner {
-    ghost use Rattle.std.specs.Prelude.{ℕ, List, Option, None};
+    ghost use Rattle.std.specs.Prelude.{ℕ, List, None};
     ghost use Rattle.asking.specs.Asked.{Ends};
     ghost use Rattle.load_path.specs.declared.picture.PictureFile.{PictureFile};
     ghost use Rattle.pan_ast.specs.declared.work.Limits.{Limits};
     ghost use Rattle.questions.specs.Contents.{Content};
     ghost use Rattle.questions.specs.declared.key.Key.{Key};
-    ghost use Rattle.runner.specs.Logged.{Logged, LogItsTrees};
+    ghost use Rattle.runner.specs.Logged.{LogItsTrees};
     ghost use Rattle.runner.specs.Looking.{LooksForTemplates};
     ghost use Rattle.runner.specs.Meaning.{Meaning, IsLawful, BuildsByName};
     ghost use Rattle.runner.specs.declared.ends.Built.{Built};
@@ -34,14 +34,11 @@ pub trait Runner {
     /// What a build makes besides the tree, for the check.
     type Rest: Drop;
 
-    /// What builds and checks ask and give, by directories and limits.
+    /// What builds and checks ask and give, and what is told of how a tree was made, by directories and limits.
     ghost meaning: { List (List ℕ) → Limits → Meaning Self.Rest };
 
     /// What a check that gives no fault promises of what was built, where files and other objects have these contents.
     ghost promises: { List (List ℕ) → Limits → Built Self.Rest → List (Key × Content) → Type 0 };
-
-    /// What it tells of how a tree was made, if it keeps that.
-    ghost log_of: { Self.Rest → Option Logged };
 
     /// The files of the picture, the directories, and the count of runs.
     ghost files_of: { Self → List PictureFile };
@@ -62,7 +59,8 @@ pub trait Runner {
 
     /// How the tree of a build was made. None of a runner that does not keep it.
     fn log(rest: &Self::Rest) -> Option<Log<'_>>
-        ensures { option_map seen_log result ≡ log_of rest.now };
+        ensures { (dirs : List (List ℕ)) (limits : Limits)
+            → option_map seen_log result ≡ (meaning dirs limits).log rest.now };
 
     /// Runs the build of an object of the picture.
     ///
@@ -128,7 +126,7 @@ pub trait Runner {
 
     /// The changes that it tells give the tree.
     ghost logged: { (dirs : List (List ℕ)) (limits : Limits)
-        → LogItsTrees (meaning dirs limits) log_of };
+        → LogItsTrees (meaning dirs limits) };
 
     /// A check that ends without a fault keeps its promise.
     ghost kept: { (dirs : List (List ℕ)) (limits : Limits) (b : Built Self.Rest)

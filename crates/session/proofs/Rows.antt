@@ -1,15 +1,19 @@
 -- Written sessions.
 use Rattle.std.proofs.Common.{◌≡◌, ℕ, Bool, true, false, List, [], ◌∷◌, ◌++◌, Option, Some, None, refl, codes}
-use Rattle.std.specs.Prelude.{option_map}
+use Rattle.std.specs.Prelude.{option_map, take}
 use Rattle.std.specs.Fmt.{digits}
+use Rattle.std.specs.Str.{chars, is_utf8}
+use lib.Utf8.{encode}
 use Rattle.outside.specs.declared.source.MemFile.{MemFile}
 use Rattle.publication.specs.declared.answer.Publication.{Publication}
 use Rattle.publication.specs.declared.answer.Publication.TheVariants as publication
 use Rattle.publication.specs.declared.trouble.Trouble.{Trouble}
 use Rattle.publication.specs.declared.trouble.Which.TheVariants.{Json}
 use Rattle.publication.specs.declared.trouble.Call.TheVariants.{Put}
+use Rattle.load_path.specs.declared.picture.PictureFile.{PictureFile}
+use Rattle.load_path.specs.declared.picture.Content.TheVariants.{Bytes}
 use Rattle.publication.specs.Stands.{Stand, AtStart, Has, Unspecified}
-use Rattle.session.specs.Sessions.{State, Round, Quits, BrokeOff, Done, next, reached, started}
+use Rattle.session.specs.Sessions.{State, Round, Quits, BrokeOff, Done, NotSaved, IsSaved, SaveFailed, next, reached, started}
 use Rattle.session.proofs.Toy.{Toy, toy, new_toy}
 
 abbrev file : List ℕ → List ℕ → MemFile
@@ -17,7 +21,7 @@ file name text = record { name = name; content = Some text }
 
 -- a round whose devices meet no fault
 abbrev plain : List ℕ → Round
-plain line = record { line = line; scan = Done; publication = publication.Done [] }
+plain line = record { line = line; scan = Done; publication = publication.Done []; saved = NotSaved }
 
 abbrev written : Option (State Toy) → Option (List ℕ)
 written s = option_map (λ (t : State Toy). t.text) s
@@ -68,8 +72,8 @@ abbrev json_not_put : Trouble
 json_not_put = record { object = codes "h"; which = Json; call = Put }
 
 abbrev mending : List Round
-mending = plain (codes "build") ∷ record { line = codes "scan"; scan = BrokeOff; publication = publication.Done [] } ∷ plain (codes "show h")
-    ∷ record { line = codes "build"; scan = Done; publication = publication.Done (json_not_put ∷ []) } ∷ plain (codes "build") ∷ []
+mending = plain (codes "build") ∷ record { line = codes "scan"; scan = BrokeOff; publication = publication.Done []; saved = NotSaved } ∷ plain (codes "show h")
+    ∷ record { line = codes "build"; scan = Done; publication = publication.Done (json_not_put ∷ []); saved = NotSaved } ∷ plain (codes "build") ∷ []
 
 mending_text : written (reached toy mending (started new_toy pictures [])) ≡ Some (codes "run h\nobjects 1 ok 1 faults 0 run 1\nsource fault\nprofile {\"a\":1}\nshelf fault h\nrun h\nobjects 1 ok 1 faults 0 run 1\nobjects 1 ok 1 faults 0 run 0\n")
 unfolding digits
@@ -80,7 +84,7 @@ unfolding digits
 mending_shelf = refl
 
 abbrev troubled : List Round
-troubled = plain (codes "build") ∷ plain (codes "scan") ∷ record { line = codes "build"; scan = Done; publication = publication.Done (json_not_put ∷ []) } ∷ []
+troubled = plain (codes "build") ∷ plain (codes "scan") ∷ record { line = codes "build"; scan = Done; publication = publication.Done (json_not_put ∷ []); saved = NotSaved } ∷ []
 
 troubled_json : stands_at (codes "h.json") (reached toy troubled (started new_toy pictures [])) ≡ Some Unspecified
 unfolding digits
@@ -106,7 +110,7 @@ abbrev losing : List (List MemFile)
 losing = (file (codes "h.pan") (codes "object template h;\n'/v' = 1;\n") ∷ []) ∷ [] ∷ [] ∷ []
 
 abbrev refused : List Round
-refused = plain (codes "build") ∷ record { line = codes "build"; scan = Done; publication = publication.TooManyRemovals 2 } ∷ []
+refused = plain (codes "build") ∷ record { line = codes "build"; scan = Done; publication = publication.TooManyRemovals 2; saved = NotSaved } ∷ []
 
 refused_text : written (reached toy refused (started new_toy losing [])) ≡ Some (codes "run h\nobjects 1 ok 1 faults 0 run 1\ntoo many removals 2\nobjects 0 ok 0 faults 0 run 0\n")
 unfolding digits
@@ -126,3 +130,44 @@ refused_names = refl
 mended : may_stand_at (codes "h.dep") (reached toy (refused ++ plain (codes "build") ∷ []) (started new_toy losing [])) ≡ Some false
 unfolding digits
 mended = refl
+
+-- rows that are kept: the keeper fails at first, and then not
+abbrev saving : List Round
+saving = record { line = codes "build"; scan = Done; publication = publication.Done []; saved = SaveFailed }
+    ∷ record { line = codes "build"; scan = Done; publication = publication.Done []; saved = IsSaved } ∷ []
+
+saving_text : written (reached toy saving (started new_toy pictures [])) ≡ Some (codes "keeper fault\nrun h\nobjects 1 ok 1 faults 0 run 1\nobjects 1 ok 1 faults 0 run 0\n")
+unfolding digits
+saving_text = refl
+
+abbrev kept_of : Option (State Toy) → Option (Option Toy)
+kept_of s = option_map (λ (t : State Toy). t.kept) s
+
+none_kept : kept_of (reached toy (take 1 saving) (started new_toy pictures [])) ≡ Some None
+unfolding digits
+none_kept = refl
+
+all_kept : option_map (option_map (λ (e : Toy). e.ran)) (kept_of (reached toy saving (started new_toy pictures []))) ≡ Some (Some [])
+unfolding digits
+all_kept = refl
+
+-- an engine that goes on from rows knows no object before its first picture
+abbrev restored : Toy
+restored = record { picture = picture; parts = record { name = codes "h"; kept = None; build = true; check = true } ∷ []; opened = false; ran = [] } where
+  picture : List PictureFile
+  picture = record { name = codes "h.pan"; content = Bytes (codes "object template h;\n'/v' = 1;\n") } ∷ []
+
+abbrev unasked : List Round
+unasked = plain (codes "show h") ∷ plain (codes "why h") ∷ plain (codes "deps h") ∷ plain (codes "blame h /v") ∷ plain (codes "impact h.pan") ∷ plain (codes "unused") ∷ plain (codes "turn 9") ∷ plain (codes "scan") ∷ plain (codes "show h") ∷ []
+
+unasked_text : written (reached toy unasked (started restored sites [])) ≡ Some (codes "no object\nno object\nno object\nno object\nend\nend\nturns 0 left 0\nfiles 2 objects 1\npending\n")
+unfolding digits chars is_utf8 encode
+unasked_text = refl
+
+-- who set a value is asked
+abbrev blaming : List Round
+blaming = plain (codes "build") ∷ plain (codes "blame h /v") ∷ plain (codes "blame g /v") ∷ plain (codes "blame h v") ∷ plain (codes "blame h g:/v") ∷ plain (codes "blame h") ∷ plain (codes "blame h ") ∷ plain (codes "scan") ∷ plain (codes "blame h /") ∷ []
+
+blaming_text : written (reached toy blaming (started new_toy pictures [])) ≡ Some (codes "run h\nobjects 1 ok 1 faults 0 run 1\nh line 2\nend\nno object\nbad line\nbad line\nbad line\nbad line\nfiles 3 objects 1\npending\n")
+unfolding digits chars is_utf8 encode
+blaming_text = refl

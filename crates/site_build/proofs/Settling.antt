@@ -6,7 +6,7 @@ use Rattle.engine_turns.specs.declared.core_data.Core.{Core}
 use Rattle.publication.specs.declared.answer.Publication.TheVariants as publication
 use Rattle.rebuild.specs.Engines.{Meanings, turns_left_of}
 use Rattle.session.specs.Machines.{Machine}
-use Rattle.session.specs.Sessions.{State, Next, GoesOn, SpendsNumbers, IsTooMuch, Scanned, NotBegun, BrokeOff, Done, state_in, with_turns, built, reported, started, scanned, writes}
+use Rattle.session.specs.Sessions.{NotSaved, State, Next, GoesOn, SpendsNumbers, IsTooMuch, Scanned, NotBegun, BrokeOff, Done, state_in, with_turns, built, reported, started, scanned, writes}
 use Rattle.engine_turns.specs.Spent.{counted_more}
 use Rattle.compiler.specs.Compiler.{Compiled, compiler}
 use Rattle.compiler.specs.Standing.{Here, Counts, HasSpent, HasSpentAtMost, IsAt, IsIn, IsRising, MakesTurns, TakesNext, has_failed}
@@ -37,12 +37,12 @@ module _ {T : Type 0} (M : Meanings T) (e : Compiled T) (w : Work) (ps : List (L
   first = started e ps []
 
   abbrev pub at_end : Here T → Next (Compiled T)
-  at_end t = GoesOn (reported m (publication.Done []) t)
+  at_end t = GoesOn (reported m (publication.Done []) NotSaved t)
 
   pub end_rises : IsRising at_end
   end_rises t = record { in_runs = omega arith; in_steps = omega arith }
 
-  pub build_rises : IsRising (built m (publication.Done []))
+  pub build_rises : IsRising (built m (publication.Done []) NotSaved)
   build_rises t = turns_rise m at_end end_rises (m.turns_left t.engine) t
 
   pub at_first : (core : Core T) (start : Counts) → IsIn w.directories (limits_of w) core e → IsAt w.directories (limits_of w) first core start start
@@ -52,33 +52,33 @@ module _ {T : Type 0} (M : Meanings T) (e : Compiled T) (w : Work) (ps : List (L
   reports : (names : List (List ℕ)) (s : Here T) → s.text ≡ [] → session_after m w.most_removed names (at_end s) ≡ build_of w.most_removed names m s.engine
   reports names s text = ap (λ before. session_after m w.most_removed names (at_end (record s { text = before }))) text
 
-  round_is : round_from M e w ps ≡ scanned m Done first (built m (publication.Done []))
+  round_is : round_from M e w ps ≡ scanned m Done first (built m (publication.Done []) NotSaved)
   round_is = refl
 
   module _ (core : Core T) (start now : Counts) (coming : Option (List (List MemFile))) (faults faults' : ℕ) where
     pub reaches_spent : TakesNext m w.directories (limits_of w) first took.SpendsNumbers core start now coming faults faults' → Reaches M e w reached.NumbersSpent ps core start now
-    reaches_spent t = let leads : round_from M e w ps ≡ SpendsNumbers t.state = subst (λ scan. scanned m scan first (built m (publication.Done [])) ≡ SpendsNumbers t.state) t.failed (t.leads (built m (publication.Done []))) in record {
+    reaches_spent t = let leads : round_from M e w ps ≡ SpendsNumbers t.state = subst (λ scan. scanned m scan first (built m (publication.Done []) NotSaved) ≡ SpendsNumbers t.state) t.failed (t.leads (built m (publication.Done []) NotSaved)) in record {
       session = λ names. ap (session_after m w.most_removed names) leads;
       spent = subst (λ s. HasSpentAtMost s start now) (sym (ap state_in leads)) t.stands;
       ends = tt;
     }
 
     pub reaches_too_much : TakesNext m w.directories (limits_of w) first took.IsTooMuch core start now coming faults faults' → Reaches M e w reached.TooMuch ps core start now
-    reaches_too_much t = let leads : round_from M e w ps ≡ IsTooMuch t.state = subst (λ scan. scanned m scan first (built m (publication.Done [])) ≡ IsTooMuch t.state) t.failed (t.leads (built m (publication.Done []))) in record {
+    reaches_too_much t = let leads : round_from M e w ps ≡ IsTooMuch t.state = subst (λ scan. scanned m scan first (built m (publication.Done []) NotSaved) ≡ IsTooMuch t.state) t.failed (t.leads (built m (publication.Done []) NotSaved)) in record {
       session = λ names. ap (session_after m w.most_removed names) leads;
       spent = subst (λ s. HasSpentAtMost s start now) (sym (ap state_in leads)) t.stands;
       ends = tt;
     }
 
     -- a scan that failed made no run and no step
-    stands_still : (scan : Scanned) (s : Here T) → has_failed scan ≡ true → scanned m scan first (built m (publication.Done [])) ≡ writes s (codes "source fault\n") → (s.runs ≡ 0) × (s.steps ≡ 0)
+    stands_still : (scan : Scanned) (s : Here T) → has_failed scan ≡ true → scanned m scan first (built m (publication.Done []) NotSaved) ≡ writes s (codes "source fault\n") → (s.runs ≡ 0) × (s.steps ≡ 0)
     stands_still NotBegun s failed leads = (sym (ap (λ n. (state_in n).runs) leads), sym (ap (λ n. (state_in n).steps) leads))
     stands_still BrokeOff s failed leads = (sym (ap (λ n. (state_in n).runs) leads), sym (ap (λ n. (state_in n).steps) leads))
     stands_still Done s failed leads = cc
 
     pub cut_failed : TakesNext m w.directories (limits_of w) first took.Failed core start now coming faults faults' → HasSpentAtMost (state_from M e w ps) start now
     cut_failed t =
-        let still = stands_still t.scan t.state t.failed (t.leads (built m (publication.Done []))) in
+        let still = stands_still t.scan t.state t.failed (t.leads (built m (publication.Done []) NotSaved)) in
         let steps : now.steps ≡ start.steps = (let a = t.stands.spent.in_steps in let b = still.1 in omega (arith, a, b)) in
         let runs : now.runs ≡ start.runs = t.stands.spent.in_runs ∙ ap (λ k. counted_more k start.runs) still.0 in
         let same : now ≡ start = (λ i. record { runs = runs i; steps = steps i }) in
@@ -90,7 +90,7 @@ module _ {T : Type 0} (M : Meanings T) (e : Compiled T) (w : Work) (ps : List (L
       left_is = ap m.turns_left (sym t.stands.engine.is) ∙ sym is_left
 
       turns_are : round_from M e w ps ≡ with_turns m left t.state at_end
-      turns_are = subst (λ scan. scanned m scan first (built m (publication.Done [])) ≡ built m (publication.Done []) t.state) t.failed (t.leads (built m (publication.Done []))) ∙ ap (λ k. with_turns m k t.state at_end) left_is
+      turns_are = subst (λ scan. scanned m scan first (built m (publication.Done []) NotSaved) ≡ built m (publication.Done []) NotSaved t.state) t.failed (t.leads (built m (publication.Done []) NotSaved)) ∙ ap (λ k. with_turns m k t.state at_end) left_is
 
       pub cut_turning : (later : Counts) → HasSpentAtMost (state_in (with_turns m left t.state at_end)) start later → HasSpentAtMost (state_from M e w ps) start later
       cut_turning later most = subst (λ n. HasSpentAtMost (state_in n) start later) (sym turns_are) most

@@ -11,7 +11,7 @@ use Rattle.publication.specs.Wants.{wants_of}
 use Rattle.publication.specs.declared.answer.Publication.TheVariants as publication
 use Rattle.rebuild.specs.Engines.{Meanings}
 use Rattle.session.specs.Machines.{Machine}
-use Rattle.session.specs.Sessions.{State, Next, GoesOn, answers_in, profiles_of, ended_by, reported}
+use Rattle.session.specs.Sessions.{NotSaved, State, Next, GoesOn, answers_in, profiles_of, ended_by, reported}
 use Rattle.session.specs.Texts.{report, faults_in}
 use Rattle.session.specs.declared.Ended.{Ended}
 use Rattle.session.specs.declared.Ended.TheVariants as ended
@@ -56,7 +56,7 @@ SpendsBy reached.TooMuch s before now = HasSpentAtMost s before now
 -- where all is settled, the engine has come to what the round leads to, before its report
 abbrev pub EndsIn : {T : Type 0} → Meanings T → Work → Next (Compiled T) → Reached → Core T → Type 0
 EndsIn {T} means work x reached.All core = (t : State (Compiled T))
-    × (x ≡ GoesOn (reported (engine_for means work) (publication.Done []) t))
+    × (x ≡ GoesOn (reported (engine_for means work) (publication.Done []) NotSaved t))
     × IsIn work.directories (limits_of work) core t.engine
 EndsIn means work x reached.NumbersSpent core = Unit {0}
 EndsIn means work x reached.TooMuch core = Unit {0}

@@ -1,12 +1,14 @@
-ghost use Rattle.std.specs.Prelude.{◌≡◌, Ok, true, OnOk, OnErr, Some, None};
+ghost use Rattle.std.specs.Prelude.{◌≡◌, Ok, Err, true, OnOk, OnErr, Some, None};
 ghost use Rattle.sqlite.specs.Held.{state};
 ghost use Rattle.sqlite.specs.State.{Survives};
 ghost use Rattle.outside.specs.Causes.{HasCause};
 ghost use Rattle.keepers.specs.Keeping.{Follows, Lists, unchanged, replaced};
 ghost use Rattle.row_table.specs.Cells.{cells};
 ghost use Rattle.row_table.specs.Steps.{Holds};
-ghost use Rattle.sqlite_keeper.specs.Refusals.{IsRefusal, store_error_of};
+ghost use Rattle.sqlite_keeper.specs.Refusals.{IsRefusal, store_error_of, refusal_of};
+ghost use Rattle.sqlite_keeper.specs.declared.refusal.Refusal.TheVariants.{NotOpened};
 
+use crate::refusal::Refusal;
 use base::Text;
 use keepers::{Faults, Keeper};
 use outside::StoreError;
@@ -19,13 +21,14 @@ use stored_rows::StoredRow;
 ///
 /// Its rows are those that the last commit left, as long as the connection is open and its disk
 /// returned what was written. A connection with another schema, or within a transaction, is a fault,
-/// and so is a `load` or a `replace` before the first `open_store` that was done.
+/// and so is a `load` or a `replace` before the first `open_store` that was done. Why the last call failed is kept.
 #[derive(Drop)]
 pub struct SqliteKeeper<S: Alter + Drop> {
     alloc: Global,
     connection: Connection<S>,
     opened: Option<Text>,
     faults: Faults,
+    last: Refusal,
 }
 
 /// What an error of the database is to the caller: want of memory, or else a fault.
@@ -38,22 +41,37 @@ pub fn store_error(error: &Error) -> StoreError
     }
 }
 
+/// A call that failed: it is counted, and why it did is kept.
+fn refuse(faults: &mut Faults, last: &mut Refusal, why: Refusal) -> Result<(), StoreError>
+    ensures cause { HasCause faults.old.count faults.new.count result }
+    ensures told { last.new ≡ why }
+    ensures failed { result ≡ Err StoreError.Failed }
+{
+    faults.add();
+    *last = why;
+    Err(StoreError::Failed)
+}
+
 /// What a call on the rows is to the caller, who counts its faults: one that did not do what it is for
-/// is a fault.
-fn judge(faults: &mut Faults, done: Result<bool, Error>) -> Result<(), StoreError>
+/// is a fault, and why it was is kept.
+fn judge(
+    faults: &mut Faults,
+    last: &mut Refusal,
+    done: Result<bool, Error>,
+) -> Result<(), StoreError>
     ensures cause { HasCause faults.old.count faults.new.count result }
     ensures ok { OnOk result (done ≡ Ok true) }
     ensures err { OnErr result (IsRefusal done) }
+    ensures told { result ≡ Err StoreError.Failed → last.new ≡ refusal_of done }
 {
-    let error = match done {
-        Ok(true) => return Ok(()),
-        Ok(false) => StoreError::Failed,
-        Err(error) => store_error(&error),
-    };
-    if error == StoreError::Failed {
-        faults.add();
+    match done {
+        Ok(true) => Ok(()),
+        Ok(false) => refuse(faults, last, Refusal::OtherTables),
+        Err(error) => match store_error(&error) {
+            StoreError::Failed => refuse(faults, last, Refusal::Database(error)),
+            StoreError::Memory => Err(StoreError::Memory),
+        },
     }
-    Err(error)
 }
 
 impl<S: Alter + Drop> SqliteKeeper<S> {
@@ -62,13 +80,22 @@ impl<S: Alter + Drop> SqliteKeeper<S> {
         ensures opened { result.opened ≡ None }
         ensures connection { result.connection ≡ connection }
         ensures faults { result.faults.count ≡ 0 }
+        ensures last { result.last ≡ NotOpened }
     {
         SqliteKeeper {
             alloc,
             connection,
             opened: None,
             faults: Faults::new(),
+            last: Refusal::NotOpened,
         }
+    }
+
+    /// Why the last call that failed did; that no rows were opened, where none has failed.
+    pub fn refusal(&self) -> Refusal
+        ensures { result ≡ self.now.last }
+    {
+        self.last
     }
 
     /// Gives the connection back.
@@ -80,6 +107,7 @@ impl<S: Alter + Drop> SqliteKeeper<S> {
             connection,
             opened: _,
             faults: _,
+            last: _,
         } = self;
         connection
     }
@@ -111,7 +139,11 @@ impl<S: Alter + Drop> Keeper for SqliteKeeper<S> {
             (Holds unchanged (state S.Store self.old.connection)) }
     {
         let file = Text::new(self.alloc, file)?;
-        judge(&mut self.faults, make_ready(&mut self.connection))?;
+        judge(
+            &mut self.faults,
+            &mut self.last,
+            make_ready(&mut self.connection),
+        )?;
         self.opened = Some(file);
         Ok(())
     }
@@ -127,10 +159,13 @@ impl<S: Alter + Drop> Keeper for SqliteKeeper<S> {
         ensures survives { Survives (state S.Store self.old.connection) (state S.Store self.new.connection) (λ _. ⊥) }
     {
         if self.opened.is_none() {
-            self.faults.add();
-            return Err(StoreError::Failed);
+            return refuse(&mut self.faults, &mut self.last, Refusal::NotOpened);
         }
-        judge(&mut self.faults, read_rows(&mut self.connection, into))
+        judge(
+            &mut self.faults,
+            &mut self.last,
+            read_rows(&mut self.connection, into),
+        )
     }
 
     #[tactic(auto, using(crate::proofs::Following::follows_itself, crate::proofs::Following::follows_done, crate::proofs::Following::follows_refused))]
@@ -146,11 +181,11 @@ impl<S: Alter + Drop> Keeper for SqliteKeeper<S> {
             (Holds (replaced gone.now rows.now) (state S.Store self.old.connection)) }
     {
         if self.opened.is_none() {
-            self.faults.add();
-            return Err(StoreError::Failed);
+            return refuse(&mut self.faults, &mut self.last, Refusal::NotOpened);
         }
         judge(
             &mut self.faults,
+            &mut self.last,
             write_rows(&mut self.connection, gone, rows),
         )
     }

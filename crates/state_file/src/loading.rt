@@ -75,6 +75,8 @@ pub fn load<K: Keeper>(alloc: Global, keeper: &mut K, file: &str) -> Result<Load
     ensures gives { IfOk result (λ l. Give l.rows.items (stored l.kept)) }
     ensures bad { IfErr result (λ e. IsBad e (K.cell keeper.new)) }
     ensures opened { OnOk result (K.opened keeper.new ≡ Some file.now) }
+    // Bad rows are those of FILE.
+    ensures read { IfErr result (λ e. e ≡ LoadError.BadRows → K.opened keeper.new ≡ Some file.now) }
     ensures perhaps { (K.opened keeper.new ≡ K.opened keeper.old)
         ⊎ (K.opened keeper.new ≡ Some file.now) }
     ensures same { Follows unchanged (K.cell keeper.old) (K.cell keeper.new) }

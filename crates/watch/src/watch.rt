@@ -4,12 +4,13 @@ ghost use Rattle.outside.specs.Contents.{Appends, AppendsPart};
 ghost use Rattle.outside.specs.Lines.{NextLine};
 ghost use Rattle.publication.specs.Published.{Knows};
 ghost use Rattle.watch.specs.Played.{IsEndOf, reel};
-ghost use Rattle.watch.specs.Sites.{Finishes, Stops, begun, spot_of};
+ghost use Rattle.watch.specs.Sites.{Finishes, IsReady, LeavesUnkept, Stops, begun, spot_of};
 
 use crate::ends::End;
 use crate::site::Site;
 use crate::step::{Step, work_on};
 use base::Steps;
+use keepers::Keeper;
 use outside::{Lines, Shelf, Sink, Source, StoreError};
 use runner::Runner;
 use std::alloc::{AllocError, Global};
@@ -49,24 +50,29 @@ fn write<O: Sink>(out: &mut O, text: &[u8]) -> Result<(), End>
 
 /// Works on the lines, one after the other, until they end or one is `quit`. The text of a line is written before the
 /// next line is asked for. What the site says of the last report is then of these lines alone.
-pub fn play<R: Runner, S: Source, H: Shelf, N: Lines, O: Sink, L: Ledger>(
+///
+/// Where rows are kept, each build has what it came to kept behind its publication. A keeper that fails ends nothing: the
+/// rows kept last are still kept, and the next build tries again.
+pub fn play<R: Runner, S: Source, H: Shelf, K: Keeper, N: Lines, O: Sink, L: Ledger>(
     alloc: Global,
-    site: &mut Site<R, S, H>,
+    site: &mut Site<R, S, H, K>,
     lines: &mut N,
     out: &mut O,
     steps: &mut Steps<L>,
 ) -> Result<(), End>
     requires knows { Knows site.old.publisher (H.cell site.old.shelf) }
-    ensures ok { OnOk result (Finishes R.meaning
+    ensures ok { IsReady R.meaning site.old → OnOk result (Finishes R.meaning
         (reel (N.left lines.old) (N.left lines.new) (O.held out.old) (O.held out.new))
-        (begun (spot_of R.Runner S.Source H.Shelf site.old steps.old))
-        (spot_of R.Runner S.Source H.Shelf site.new steps.new)) }
-    ensures err { IfErr result (λ end. Stops R.meaning end
+        (begun (spot_of R.Runner S.Source H.Shelf K.Keeper site.old steps.old))
+        (spot_of R.Runner S.Source H.Shelf K.Keeper site.new steps.new)) }
+    ensures err { IsReady R.meaning site.old → IfErr result (λ end. Stops R.meaning end
         (reel (N.left lines.old) (N.left lines.new) (O.held out.old) (O.held out.new))
-        (begun (spot_of R.Runner S.Source H.Shelf site.old steps.old))
-        (spot_of R.Runner S.Source H.Shelf site.new steps.new)) }
+        (begun (spot_of R.Runner S.Source H.Shelf K.Keeper site.old steps.old))
+        (spot_of R.Runner S.Source H.Shelf K.Keeper site.new steps.new)) }
     ensures source_opened { S.opened site.new.source ≡ S.opened site.old.source }
     ensures shelf_opened { H.opened site.new.shelf ≡ H.opened site.old.shelf }
+    ensures unkept { LeavesUnkept site.old.keeper site.new.keeper site.old.rows site.new.rows }
+    ensures store_opened { K.opened site.new.keeper ≡ K.opened site.old.keeper }
     ensures lines_cause { Caused (λ e. e ≡ End.Lines) (N.fault_count lines.old)
         (N.fault_count lines.new) result }
     ensures out_cause { Caused (λ e. e ≡ End.Out) (O.fault_count out.old) (O.fault_count out.new)

@@ -44,6 +44,7 @@ meaning dirs = record {
       (object_run dirs built.object (action_of Check) (answer_in asked) undef whole);
   check_work = λ built asked. work_of
       (object_run dirs built.object (action_of Check) (answer_in asked) undef whole);
+  log = λ rest. None;
 }
 
 -- a check of a written object promises nothing

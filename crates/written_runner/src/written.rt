@@ -87,7 +87,6 @@ fn check_end(ran: Ran) -> CheckEnd
 }
 
 impl Runner for Written {
-    ghost use Rattle.std.specs.Prelude.{None};
     ghost use Rattle.written_runner.specs.Meaning.{meaning, PromisesNothing};
     ghost use Rattle.written_runner.specs.Laws.{lawful};
     ghost use Rattle.written_runner.specs.Promised.{builds_by_name, looks_for_template};
@@ -97,8 +96,6 @@ impl Runner for Written {
     ghost meaning = { λ dirs limits. meaning dirs };
 
     ghost promises = { λ dirs limits. PromisesNothing };
-
-    ghost log_of = { λ rest. None };
 
     ghost files_of = { λ r. r.picture };
 

@@ -3,7 +3,7 @@ use Rattle.rebuild.specs.Engines.{turns_left_of}
 use Rattle.outside.specs.Causes.{Rose}
 use Rattle.publication.proofs.Planning.{on_err}
 use Rattle.publication.specs.declared.answer.Publication.TheVariants as publication
-use Rattle.session.specs.Sessions.{built}
+use Rattle.session.specs.Sessions.{NotSaved, built}
 use Rattle.compiler.specs.Compiler.{compiler}
 use Rattle.compiler.specs.Standing.{counts, MakesTurns, TakesNext}
 use Rattle.compiler.proofs.Fits.{begins}
@@ -16,7 +16,7 @@ pub unreachable-requires : goal.unreachable-requires
 unreachable-requires g c = let rose : Rose 0 0 = c.in_ok-take_next.ensures.count.rose (ap Ok c.in-Failed.is) in omega (arith, rose)
 
 pub returns-in_err-take_next-clause-cut : goal.returns-in_err-take_next-clause-cut
-returns-in_err-take_next-clause-cut g c = λ f. on_err c.from_residual.result (λ dirs limits s start at told. c.in_err-take_next.ensures.cut dirs limits s start at (ap Some told) (built (compiler (g.R.Runner.meaning dirs limits) dirs) (publication.Done [])) (build_rises (compiler (g.R.Runner.meaning dirs limits) dirs)))
+returns-in_err-take_next-clause-cut g c = λ f. on_err c.from_residual.result (λ dirs limits s start at told. c.in_err-take_next.ensures.cut dirs limits s start at (ap Some told) (built (compiler (g.R.Runner.meaning dirs limits) dirs) (publication.Done []) NotSaved) (build_rises (compiler (g.R.Runner.meaning dirs limits) dirs)))
 
 pub returns-in-SpendsNumbers-clause-went : goal.returns-in-SpendsNumbers-clause-went
 returns-in-SpendsNumbers-clause-went g c = λ f dirs limits s start at told empty.

@@ -23,17 +23,11 @@ returns-in-Ok-Some-Watch g c =
     let before = scene g.R.Runner g.S.Source g.H.Shelf g.N.Lines g.O.Sink c.args.runner
     c.args.devices c.args.steps.now in
     let store = store_of g.K.Keeper c.args.keeper in
-    rw (
-      c.beside.ensures.status,
-      c.beside.ensures.runner,
-      c.beside.ensures.devices,
-      c.beside.ensures.keeper,
-    )
     (called g.R.Runner.meaning c.args.words.now (Some (Watch c.in-Ok-Some-Watch.work)) c.watch.result.status before _ _ store _
     (ap (λ command. Some command) (sym c.in-Ok-Some-Watch.field-0-0-is) ∙ sym c.in-Ok-Some-Watch.field-0-is
     ∙ c.in-Ok-Some-Watch.ensures)
     (ap (λ n. counts n c.args.steps.now) c.new_works-works.ensures.runs)
-    (c.watch.ensures, refl))
+    c.watch.ensures)
 
 pub returns-in-Ok-Some-Demo : goal.returns-in-Ok-Some-Demo
 returns-in-Ok-Some-Demo g c =
@@ -41,10 +35,10 @@ returns-in-Ok-Some-Demo g c =
     c.args.devices c.args.steps.now in
     let store = store_of g.K.Keeper c.args.keeper in
     rw (
-      c.beside-in-Ok-Some-Demo.ensures.status,
-      c.beside-in-Ok-Some-Demo.ensures.runner,
-      c.beside-in-Ok-Some-Demo.ensures.devices,
-      c.beside-in-Ok-Some-Demo.ensures.keeper,
+      c.beside.ensures.status,
+      c.beside.ensures.runner,
+      c.beside.ensures.devices,
+      c.beside.ensures.keeper,
       c.hand_back.ensures.status,
       c.hand_back.ensures.runner,
       c.hand_back.ensures.devices,

@@ -1,4 +1,16 @@
+use Rattle.compiler.specs.Standing.{IsBegun}
+use Rattle.watch.proofs.Ready.{failed_ready}
+use Rattle.pan_top.proofs.Watched.{played_where}
 use Rattle.pan_top.proofs.watching.play_all.Goals as goal
 
 pub returns : goal.returns
-returns g c = c.play_site-status.ensures
+returns g c =
+    rw (
+      c.leave.ensures.status,
+      c.leave.ensures.runner,
+      c.leave.ensures.devices,
+      c.leave.ensures.keeper,
+    )
+    (played_where g.R.Runner.meaning _ (IsBegun g.R.Runner.meaning c.args.works)
+    (λ begun. failed_ready g.R.Runner.meaning _ begun (λ taken. cc)) _ _ _ _ _ _
+    c.play_site-status.ensures)

@@ -2,7 +2,7 @@ use Rattle.std.proofs.Common.{[], refl, subst}
 use Rattle.rebuild.specs.Engines.{turns_left_of}
 use Rattle.publication.proofs.Planning.{on_err}
 use Rattle.publication.specs.declared.answer.Publication.TheVariants as publication
-use Rattle.session.specs.Sessions.{built}
+use Rattle.session.specs.Sessions.{NotSaved, built}
 use Rattle.compiler.specs.Standing.{counts, HasSpentAtMost, MakesTurns, TakesNext}
 use Rattle.site_build.specs.Rounds.{Reaches}
 use Rattle.site_build.specs.Session.{limits_of, state_from}
@@ -15,7 +15,7 @@ returns-in_err-take_next-clause-cut g c =
     let M = g.R.Runner.meaning in
     let before = counts (g.R.Runner.runs_of c.args.works.now.runner) c.args.steps.now in
     let now = counts (g.R.Runner.runs_of c.take_next.new.works.runner) c.take_next.new.steps in
-    λ begun. on_err c.from_residual.result (λ work e is. if_told (λ ps. HasSpentAtMost (state_from M e work ps) before now) (g.S.Source.coming c.args.source.now) (λ ps told. c.in_err-take_next.ensures.cut work.directories (limits_of work) (first M e work ps) before (at_first M e work ps c.args.works.now.engine.core before is) told (built (m M e work ps) (publication.Done [])) (build_rises M e work ps)))
+    λ begun. on_err c.from_residual.result (λ work e is. if_told (λ ps. HasSpentAtMost (state_from M e work ps) before now) (g.S.Source.coming c.args.source.now) (λ ps told. c.in_err-take_next.ensures.cut work.directories (limits_of work) (first M e work ps) before (at_first M e work ps c.args.works.now.engine.core before is) told (built (m M e work ps) (publication.Done []) NotSaved) (build_rises M e work ps)))
 
 pub returns-in-Failed-clause-cut : goal.returns-in-Failed-clause-cut
 returns-in-Failed-clause-cut g c =

@@ -1,0 +1,4 @@
+pub mod Cases
+pub mod Lines
+pub mod Logs
+pub mod Profiled
