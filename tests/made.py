@@ -5,6 +5,7 @@
 
 - Four hundred objects that read each other in a chain, in a star and in a circle.
 - A long list, each item of which takes defaults, in a time that is no square of its length.
+- A source of more files than a scan takes, and a watcher of more lines than a session has.
 - A watcher writes the text of a line before it reads the next one.
 - Random histories of a watcher: between its builds files come, go and change. After each build the folder has to
   hold what a build from scratch makes of the same source, and the faults have to be the same; an object is compiled
@@ -27,6 +28,8 @@ from program import PROGRAM
 TOP = Path(__file__).resolve().parent.parent
 OBJECTS = 400
 ITEMS = 40_000
+MOST_FILES = 50_000
+MOST_LINES = 1_000_000
 MOST_SECONDS = 5
 BUILDS = 6
 
@@ -86,6 +89,19 @@ bind '/items' = item[];
     item = b'{"name":"x","port":80}'
     yield "each item of a long list", shelf.get("long.json") == b'{"items":[' + b",".join([item] * ITEMS) + b"]}\n"
     yield f"a long list within {MOST_SECONDS} seconds", time.monotonic() - start < MOST_SECONDS
+
+
+def too_many(folder):
+    """One file more than a scan takes, of which none is read; and a line more than a session has."""
+    source, out = folder / "source", folder / "out"
+    write(source, "h.pan", "object template h;\n")
+    for number in range(MOST_FILES):
+        (source / f"{number}.txt").touch()
+    ended = subprocess.run([PROGRAM, "build", source, out], capture_output=True, text=True, timeout=120)
+    yield "too many files", (ended.returncode, ended.stdout, shelf_of(out)) == (11, "too much\n", {})
+    lines = "\n" * MOST_LINES
+    ended = subprocess.run([PROGRAM, "watch", source, out], input=lines, capture_output=True, text=True, timeout=120)
+    yield "too many lines", (ended.returncode, ended.stdout) == (10, "bad line\n" * MOST_LINES + "too many lines\n")
 
 
 class Watcher:
@@ -256,7 +272,7 @@ def history(number):
 
 def main(words):
     passed = failed = 0
-    for part in (chain_star_and_circle, many_defaults, answers_before_it_asks, reads_by_path):
+    for part in (chain_star_and_circle, many_defaults, too_many, answers_before_it_asks, reads_by_path):
         with tempfile.TemporaryDirectory() as room:
             for name, is_well in part(Path(room)):
                 passed, failed = passed + is_well, failed + (not is_well)
