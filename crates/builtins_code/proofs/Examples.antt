@@ -16,16 +16,19 @@ use Rattle.builtins_code.specs.Json.{json_decode_of, json_encode_of}
 
 -- what is unfolded to write and read a written text
 unfoldable codes_on_literals : ⊤
-unfolding digits chars is_utf8 encode groups_bytes groups_error scan_steps encode_symbols escape_byte print_from
+unfolding digits chars is_utf8 encode groups_bytes groups_error scan_steps encode_symbols
+    escape_byte print_from
 codes_on_literals = tt
 
 a_decoded_text : json_decode_of (text (codes "{\"b\":null,\"a\":[1]}") ∷ [])
-    ≡ Ok (dict (field (codes "a") (list (item (long (pos 1)) no_items)) (field (codes "b") undef no_fields)))
+    ≡ Ok (dict (field (codes "a") (list (item (long (pos 1)) no_items))
+    (field (codes "b") undef no_fields)))
 unfolding serde_json_on_literals
 a_decoded_text = refl
 
 -- the later of two equal names stays
-a_name_twice : json_decode_of (text (codes "{\"a\":1,\"a\":true}") ∷ []) ≡ Ok (dict (field (codes "a") (boolean true) no_fields))
+a_name_twice : json_decode_of (text (codes "{\"a\":1,\"a\":true}") ∷ [])
+    ≡ Ok (dict (field (codes "a") (boolean true) no_fields))
 unfolding serde_json_on_literals
 a_name_twice = refl
 
@@ -41,7 +44,8 @@ minus_zero : json_decode_of (text (codes "-0") ∷ []) ≡ Err BadArgument
 unfolding serde_json_on_literals
 minus_zero = refl
 
-the_least_long : json_decode_of (text (codes "-9223372036854775808") ∷ []) ≡ Ok (long (negsuc 9223372036854775807))
+the_least_long : json_decode_of (text (codes "-9223372036854775808") ∷ [])
+    ≡ Ok (long (negsuc 9223372036854775807))
 unfolding serde_json_on_literals
 the_least_long = refl
 
@@ -59,7 +63,9 @@ an_undef_inside = refl
 a_null : json_encode_of (null ∷ []) ≡ Err BadArgument
 a_null = refl
 
-an_encoded_dict : json_encode_of (dict (field (codes "a") (list (item (long (negsuc 0)) no_items)) (field (codes "b") (boolean true) no_fields)) ∷ [])
+an_encoded_dict : json_encode_of
+    (dict (field (codes "a") (list (item (long (negsuc 0)) no_items))
+    (field (codes "b") (boolean true) no_fields)) ∷ [])
     ≡ Ok (text (codes "{\"a\":[-1],\"b\":true}"))
 unfolding codes_on_literals
 an_encoded_dict = refl

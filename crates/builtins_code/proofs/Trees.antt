@@ -38,66 +38,83 @@ never_null (object ms) = refl
 
 no_null : (vs : List Value) → list_any is_null (map (λ v. tree_of (view v)) vs) ≡ false
 no_null [] = refl
-no_null (v ∷ vs) = ap (λ b. b || list_any is_null (map (λ w. tree_of (view w)) vs)) (never_null (view v)) ∙ no_null vs
+no_null (v ∷ vs) = ap (λ b. b || list_any is_null (map (λ w. tree_of (view w)) vs))
+    (never_null (view v)) ∙ no_null vs
 
-items_are : (vs : List Value) → items_of (map (λ v. tree_of (view v)) vs) ≡ items_trees (items_view vs)
+items_are : (vs : List Value) → items_of (map (λ v. tree_of (view v)) vs)
+    ≡ items_trees (items_view vs)
 items_are [] = refl
 items_are (v ∷ vs) = rw (items_are vs) refl
 
 -- the list of the trees of values
-pub listed : (vs : List Value) → list_of (map (λ v. tree_of (view v)) vs) ≡ within_limits (list (items_trees (items_view vs)))
+pub listed : (vs : List Value) → list_of (map (λ v. tree_of (view v)) vs)
+    ≡ within_limits (list (items_trees (items_view vs)))
 listed vs =
-    ap (λ b. cond b (Err BadArgument) (within_limits (list (items_of (map (λ v. tree_of (view v)) vs))))) (no_null vs)
+    ap (λ b. cond b (Err BadArgument) (within_limits
+    (list (items_of (map (λ v. tree_of (view v)) vs))))) (no_null vs)
     ∙ ap (λ ts. within_limits (list ts)) (items_are vs)
 
-by_order : (o : Ordering) (a b c : Members) → members_trees (match_ordering o a b c) ≡ match_ordering o (members_trees a) (members_trees b) (members_trees c)
+by_order : (o : Ordering) (a b c : Members) → members_trees (match_ordering o a b c)
+    ≡ match_ordering o (members_trees a) (members_trees b) (members_trees c)
 by_order Less a b c = refl
 by_order Equal a b c = refl
 by_order Greater a b c = refl
 
-put_member : (k : List ℕ) (d : Data) (ms : Members) → members_trees (js.put k d ms) ≡ put_field k (tree_of d) (members_trees ms)
+put_member : (k : List ℕ) (d : Data) (ms : Members) → members_trees (js.put k d ms)
+    ≡ put_field k (tree_of d) (members_trees ms)
 put_member k d no_members = refl
-put_member k d (member l e ms) = by_order (slice_cmp nat_cmp k l) _ _ _ ∙ rw (put_member k d ms) refl
+put_member k d (member l e ms) =
+    by_order (slice_cmp nat_cmp k l) _ _ _ ∙ rw (put_member k d ms) refl
 
 -- a member that is put behind the others
-pub dict_more : (done : List Entry) (e : Entry) (more : List Entry) → IsStrictlySortedBy string_cmp (keys_of (done ++ e ∷ more)) →
-    with_field (string_bytes e.0) (tree_of (view e.1)) (dict_of done) ≡ within_limits (dict_of (done ++ e ∷ []))
+pub dict_more : (done : List Entry) (e : Entry) (more : List Entry)
+    → IsStrictlySortedBy string_cmp (keys_of (done ++ e ∷ more)) →
+    with_field (string_bytes e.0) (tree_of (view e.1)) (dict_of done)
+    ≡ within_limits (dict_of (done ++ e ∷ []))
 dict_more done e more rising =
     ap (λ fs. within_limits (dict fs))
-    (sym (put_member (string_bytes e.0) (view e.1) (members_view done)) ∙ ap members_trees (put_last done e more rising))
+    (sym (put_member (string_bytes e.0) (view e.1) (members_view done))
+    ∙ ap members_trees (put_last done e more rising))
 
 -- what a walk of one key into a dict gives
 below_is : (k : List ℕ) (v : Plain) (fs : Fields) (o : Option Plain) →
-    over (λ c. dict (put_field k c fs)) (option_map_or (walk 1 [] v) o (Ok v)) ≡ Ok (dict (put_field k v fs))
+    over (λ c. dict (put_field k c fs)) (option_map_or (walk 1 [] v) o (Ok v))
+    ≡ Ok (dict (put_field k v fs))
 below_is k v fs None = refl
 below_is k v fs (Some c) = refl
 
 in_turn : (w : Plain) (large : Bool) → within_height (cond large (Err put_error.TooLarge) (Ok w))
-    ≡ cond large (Err put_error.TooLarge) (cond (nat_lt MAX_TREE_HEIGHT (tree_height w)) (Err put_error.TooHigh) (Ok w))
+    ≡ cond large (Err put_error.TooLarge) (cond (nat_lt MAX_TREE_HEIGHT (tree_height w))
+    (Err put_error.TooHigh) (Ok w))
 in_turn w true = refl
 in_turn w false = refl
 
 put_is : (k : List ℕ) (v : Plain) (fs : Fields) → let w = dict (put_field k v fs) in
     put (term.Key k ∷ []) v (dict fs)
-    ≡ cond (nat_lt MAX_TREE_SIZE (tree_size w)) (Err put_error.TooLarge) (cond (nat_lt MAX_TREE_HEIGHT (tree_height w)) (Err put_error.TooHigh) (Ok w))
+    ≡ cond (nat_lt MAX_TREE_SIZE (tree_size w)) (Err put_error.TooLarge)
+    (cond (nat_lt MAX_TREE_HEIGHT (tree_height w)) (Err put_error.TooHigh) (Ok w))
 put_is k v fs =
     let w = dict (put_field k v fs) in
-    ap (λ r. within_height (within_size r)) (below_is k v fs (find_field k fs)) ∙ in_turn w (nat_lt MAX_TREE_SIZE (tree_size w))
+    ap (λ r. within_height (within_size r)) (below_is k v fs (find_field k fs))
+    ∙ in_turn w (nat_lt MAX_TREE_SIZE (tree_size w))
 
-fits : (large high : Bool) (w x : Plain) → cond large (Err put_error.TooLarge) (cond high (Err put_error.TooHigh) (Ok w)) ≡ Ok x →
+fits : (large high : Bool) (w x : Plain) → cond large (Err put_error.TooLarge)
+    (cond high (Err put_error.TooHigh) (Ok w)) ≡ Ok x →
     cond (large || high) (Err TooLarge) (Ok w) ≡ Ok x
 fits true high w x h = absurd cc
 fits false true w x h = absurd cc
 fits false false w x h = let same : w ≡ x = cc in ap (λ y. Ok y) same
 
-fails : (large high : Bool) (w : Plain) (e : PutError) → cond large (Err put_error.TooLarge) (cond high (Err put_error.TooHigh) (Ok w)) ≡ Err e →
+fails : (large high : Bool) (w : Plain) (e : PutError)
+    → cond large (Err put_error.TooLarge) (cond high (Err put_error.TooHigh) (Ok w)) ≡ Err e →
     cond (large || high) (Err TooLarge) (Ok w) ≡ Err TooLarge
 fails true high w e h = refl
 fails false true w e h = refl
 fails false false w e h = absurd cc
 
 -- a put of one key into a dict that went through
-pub put_fits : (k : List ℕ) (v t x : Plain) → kind_of t ≡ kind.Dict → put (term.Key k ∷ []) v t ≡ Ok x → with_field k v t ≡ Ok x
+pub put_fits : (k : List ℕ) (v t x : Plain) → kind_of t ≡ kind.Dict → put (term.Key k ∷ []) v t
+    ≡ Ok x → with_field k v t ≡ Ok x
 put_fits k v (dict fs) x is h = fits _ _ _ x (sym (put_is k v fs) ∙ h)
 put_fits k v (list ts) x is h = absurd cc
 put_fits k v (text b) x is h = absurd cc
@@ -107,7 +124,8 @@ put_fits k v undef x is h = absurd cc
 put_fits k v null x is h = absurd cc
 
 -- and one that was refused
-pub put_fails : (k : List ℕ) (v t : Plain) (e : PutError) → kind_of t ≡ kind.Dict → put (term.Key k ∷ []) v t ≡ Err e → with_field k v t ≡ Err TooLarge
+pub put_fails : (k : List ℕ) (v t : Plain) (e : PutError) → kind_of t ≡ kind.Dict
+    → put (term.Key k ∷ []) v t ≡ Err e → with_field k v t ≡ Err TooLarge
 put_fails k v (dict fs) e is h = fails _ _ _ e (sym (put_is k v fs) ∙ h)
 put_fails k v (list ts) e is h = absurd cc
 put_fails k v (text b) e is h = absurd cc

@@ -11,14 +11,16 @@ use Rattle.path_tree.specs.declared.kind.Kind.{Kind}
 use Rattle.path_tree.specs.declared.kind.Kind.TheVariants as kind
 use Rattle.builtins_code.specs.Json.{holds_undef, item_holds_undef, field_holds_undef}
 
-drop_step : {X : Type 0} (i : ℕ) (xs : List X) (x : X) → slice_get xs i ≡ Some x → drop i xs ≡ x ∷ drop (suc i) xs
+drop_step : {X : Type 0} (i : ℕ) (xs : List X) (x : X) → slice_get xs i ≡ Some x → drop i xs
+    ≡ x ∷ drop (suc i) xs
 drop_step i [] x e = absurd cc
 drop_step zero (y ∷ ys) x e = ap (λ z. z ∷ ys) (same_Some _ _ e)
 drop_step (suc i) (y ∷ ys) x e = drop_step i ys x e
 
 -- the children from one on: that one, and those behind it
 pub undef_step : (t c : Plain) (i : ℕ) → Some c ≡ child_at i t →
-    list_any holds_undef (drop i (children t)) ≡ (holds_undef c || list_any holds_undef (drop (i + 1) (children t)))
+    list_any holds_undef (drop i (children t)) ≡ (holds_undef c
+    || list_any holds_undef (drop (i + 1) (children t)))
 undef_step t c i e =
     let next : suc i ≡ i + 1 = omega arith in
     ap (list_any holds_undef) (drop_step i (children t) c (sym (child_get i t) ∙ sym e))
@@ -57,12 +59,16 @@ holds_by_kind t k is = let P : Kind → Type 0 = λ q. by_kind q t in subst P (s
 
 -- the child at i holds one
 pub undef_found : (t c : Plain) (i : ℕ) → Some c ≡ child_at i t → true ≡ holds_undef c →
-    list_any holds_undef (drop i (children t)) ≡ list_any holds_undef (children t) → true ≡ list_any holds_undef (children t)
+    list_any holds_undef (drop i (children t)) ≡ list_any holds_undef (children t) → true
+    ≡ list_any holds_undef (children t)
 undef_found t c i e holds all =
-    ap (λ b. b || list_any holds_undef (drop (i + 1) (children t))) holds ∙ sym (undef_step t c i e) ∙ all
+    ap (λ b. b || list_any holds_undef (drop (i + 1) (children t))) holds ∙ sym (undef_step t c i e)
+    ∙ all
 
 -- it holds none
 pub undef_passed : (t c : Plain) (i : ℕ) → Some c ≡ child_at i t → false ≡ holds_undef c →
-    list_any holds_undef (drop i (children t)) ≡ list_any holds_undef (children t) → list_any holds_undef (drop (i + 1) (children t)) ≡ list_any holds_undef (children t)
+    list_any holds_undef (drop i (children t)) ≡ list_any holds_undef (children t)
+    → list_any holds_undef (drop (i + 1) (children t)) ≡ list_any holds_undef (children t)
 undef_passed t c i e holds all =
-    ap (λ b. b || list_any holds_undef (drop (i + 1) (children t))) holds ∙ sym (undef_step t c i e) ∙ all
+    ap (λ b. b || list_any holds_undef (drop (i + 1) (children t))) holds ∙ sym (undef_step t c i e)
+    ∙ all

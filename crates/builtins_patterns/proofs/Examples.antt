@@ -13,7 +13,8 @@ use Rattle.builtins_patterns.specs.Calls.{match_of, matches_of, replace_of, spli
 
 -- what is unfolded to search a written text
 unfoldable searches : ⊤
-unfolding regex_on_literals replaced_by find_str first_from matches_from slot_of holds holds_between attempt rounds byte_before char_at char_before has_bytes_at is_boundary
+unfolding regex_on_literals replaced_by find_str first_from matches_from slot_of holds holds_between
+    attempt rounds byte_before char_at char_before has_bytes_at is_boundary
 searches = tt
 
 no_pattern : match_of (text (codes "a") ∷ text (codes "(?=a)") ∷ []) ≡ Err BadPattern
@@ -30,7 +31,8 @@ no_match = refl
 
 -- the second group takes no part
 the_groups : matches_of (text (codes "xb") ∷ text (codes "(x)(a)?(b)") ∷ [])
-    ≡ Ok (list (item (text (codes "xb")) (item (text (codes "x")) (item (text []) (item (text (codes "b")) no_items)))))
+    ≡ Ok (list (item (text (codes "xb")) (item (text (codes "x"))
+    (item (text []) (item (text (codes "b")) no_items)))))
 unfolding searches
 the_groups = refl
 
@@ -59,13 +61,16 @@ unfolding searches
 no_limit = refl
 
 -- an empty match that touches the match before it is passed over
-empty_matches : replace_of (text (codes "b?") ∷ text (codes "-") ∷ text (codes "ab") ∷ []) ≡ Ok (text (codes "-a-"))
+empty_matches : replace_of (text (codes "b?") ∷ text (codes "-") ∷ text (codes "ab") ∷ [])
+    ≡ Ok (text (codes "-a-"))
 unfolding searches
 empty_matches = refl
 
-a_template : replace_of (text (codes "(a)(?<n>b)") ∷ text (codes "${n}$1$$$9") ∷ text (codes "xabx") ∷ []) ≡ Ok (text (codes "xba$x"))
+a_template : replace_of (text (codes "(a)(?<n>b)") ∷ text (codes "${n}$1$$$9") ∷ text
+    (codes "xabx") ∷ []) ≡ Ok (text (codes "xba$x"))
 unfolding searches
 a_template = refl
 
-kinds_before_the_pattern : replace_of (text (codes "(") ∷ text [] ∷ long (pos 1) ∷ []) ≡ Err BadArgument
+kinds_before_the_pattern : replace_of (text (codes "(") ∷ text [] ∷ long (pos 1) ∷ [])
+    ≡ Err BadArgument
 kinds_before_the_pattern = refl

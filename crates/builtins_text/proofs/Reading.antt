@@ -9,7 +9,8 @@ use Rattle.base.specs.Ascii.{is_digit}
 use Rattle.builtins_text.specs.Formats.{behind_flag, digit_count, flag_length, flag_of, form_length}
 
 -- what is behind a flag, digits and a letter is what is behind the form
-pub form_rest : (text r1 r2 r3 : List ℕ) → r1 ≡ behind_flag text → r2 ≡ drop (digit_count r1) r1 → r3 ≡ drop 1 r2 → r3 ≡ drop (form_length text) text
+pub form_rest : (text r1 r2 r3 : List ℕ) → r1 ≡ behind_flag text → r2 ≡ drop (digit_count r1) r1
+    → r3 ≡ drop 1 r2 → r3 ≡ drop (form_length text) text
 form_rest text r1 r2 r3 e1 e2 e3 =
     let f : ℕ = flag_length (flag_of text) in
     let d : ℕ = digit_count (behind_flag text) in

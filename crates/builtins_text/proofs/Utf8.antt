@@ -9,7 +9,8 @@ use Rattle.std.proofs.lemmas.Str.{IsUtf8-from_is_utf8, is_utf8-from_IsUtf8}
 
 -- the text of bytes that are UTF-8 is theirs
 pub utf8_text : (bs : List ℕ) → IsUtf8 bs → text_value bs ≡ if_utf8 bs
-utf8_text bs u = sym (cond-true (is_utf8 bs) (text_value bs) (Err BadArgument) (is_utf8-from_IsUtf8 bs u))
+utf8_text bs u = sym (cond-true (is_utf8 bs) (text_value bs) (Err BadArgument)
+    (is_utf8-from_IsUtf8 bs u))
 
 pub fails_utf8 : (bs : List ℕ) → ¬ (IsUtf8 bs) → is_utf8 bs ≡ false
 fails_utf8 bs h = by (is_utf8 bs) refl where

@@ -24,7 +24,8 @@ plain s = Known s None h None
 
 -- long(1..65535) = 80
 abbrev port : Resolved
-port = Known (Ranged (plain (OfBase base.Long)) (record { low = Some (pos 1); high = Some (pos 65535) })) None h (Some (long (pos 80)))
+port = Known (Ranged (plain (OfBase base.Long))
+    (record { low = Some (pos 1); high = Some (pos 65535) })) None h (Some (long (pos 80)))
 
 -- type t = { 'p' : long(1..65535) = 80 };
 abbrev server : Resolved
@@ -42,7 +43,12 @@ bound_s = record { terms = s; resolved = plain (Named server); place = at 3 1 }
 
 -- bind '/s' = t = dict(); in line 3
 abbrev bound_with_default : Bound
-bound_with_default = record { terms = s; resolved = Known (Named server) None h (Some (dict no_fields)); place = at 3 1 }
+bound_with_default = record {
+  terms = s;
+  resolved =
+      Known (Named server) None h (Some (dict no_fields));
+  place = at 3 1;
+}
 
 abbrev with_s : Plain → Plain
 with_s v = dict (field (codes "s") v no_fields)
@@ -60,18 +66,24 @@ store t log = record { tree = t; log = log }
 abbrev fill : Bound → Plain → ℕ → Outcome Store (Unit {0})
 fill b t n = all_filled (b ∷ []) (λ k. None) (store t []) (left n)
 
--- '/s' = dict(); gives {"s":{"p":80}} and one change; the name, the record, the range and the long are visited
-one_default : fill bound_s (with_s (dict no_fields)) 10 ≡ Done tt (store (with_p (long (pos 80))) (default_change (at 3 1) s_p (long (pos 80)) ∷ [])) (left 6)
+-- '/s' = dict(); gives {"s":{"p":80}} and one change; the name, the record, the range and the long
+-- are visited
+one_default : fill bound_s (with_s (dict no_fields)) 10
+    ≡ Done tt (store (with_p (long (pos 80))) (default_change (at 3 1) s_p (long (pos 80)) ∷ []))
+    (left 6)
 unfolding defaulted visit items_filled values_filled
 one_default = refl
 
 -- a value that is there stays
-nothing_missing : fill bound_s (with_p (long (pos 0))) 10 ≡ Done tt (store (with_p (long (pos 0))) []) (left 6)
+nothing_missing : fill bound_s (with_p (long (pos 0))) 10
+    ≡ Done tt (store (with_p (long (pos 0))) []) (left 6)
 unfolding defaulted visit items_filled values_filled
 nothing_missing = refl
 
 -- an undef takes the default
-undef_filled : fill bound_s (with_p undef) 10 ≡ Done tt (store (with_p (long (pos 80))) (default_change (at 3 1) s_p (long (pos 80)) ∷ [])) (left 6)
+undef_filled : fill bound_s (with_p undef) 10
+    ≡ Done tt (store (with_p (long (pos 80))) (default_change (at 3 1) s_p (long (pos 80)) ∷ []))
+    (left 6)
 unfolding defaulted visit items_filled values_filled
 undef_filled = refl
 
@@ -81,26 +93,40 @@ unfolding defaulted visit items_filled values_filled
 absent = refl
 
 -- a value of another kind is left: the name and the record are visited
-other_kind : fill bound_s (with_s (long (pos 5))) 10 ≡ Done tt (store (with_s (long (pos 5))) []) (left 8)
+other_kind : fill bound_s (with_s (long (pos 5))) 10
+    ≡ Done tt (store (with_s (long (pos 5))) []) (left 8)
 unfolding defaulted visit items_filled values_filled
 other_kind = refl
 
 -- a default is put, and filled inside
-inside_a_default : fill bound_with_default (dict no_fields) 10 ≡ Done tt (store (with_p (long (pos 80))) (default_change (at 3 1) s (dict no_fields) ∷ default_change (at 3 1) s_p (long (pos 80)) ∷ [])) (left 6)
+inside_a_default : fill bound_with_default (dict no_fields) 10
+    ≡ Done tt (store (with_p (long (pos 80))) (default_change (at 3 1) s
+    (dict no_fields) ∷ default_change (at 3 1) s_p (long (pos 80)) ∷ [])) (left 6)
 unfolding defaulted visit items_filled values_filled
 inside_a_default = refl
 
 -- the walk of a put is refused by a property: the place is left as it is
-refused_walk : fill (record { terms = term.Key (codes "s") ∷ term.Key (codes "t") ∷ []; resolved = port; place = at 3 1 }) (with_s (long (pos 5))) 10 ≡ Done tt (store (with_s (long (pos 5))) []) (left 10)
+refused_walk : fill (record {
+  terms = term.Key (codes "s") ∷ term.Key (codes "t") ∷ [];
+  resolved =
+      port;
+  place = at 3 1;
+}) (with_s (long (pos 5))) 10
+    ≡ Done tt (store (with_s (long (pos 5))) []) (left 10)
 unfolding defaulted visit items_filled values_filled
 refused_walk = refl
 
 -- an undef among the items of a list
-in_a_list : fill (record { terms = s; resolved = plain (ListOf port open_range); place = at 3 1 }) (with_s (list (item undef (item (long (pos 7)) no_items)))) 10 ≡ Done tt (store (with_s (list (item (long (pos 80)) (item (long (pos 7)) no_items)))) (default_change (at 3 1) (term.Key (codes "s") ∷ term.Index 0 ∷ []) (long (pos 80)) ∷ [])) (left 5)
+in_a_list : fill (record { terms = s; resolved = plain (ListOf port open_range); place = at 3 1 })
+    (with_s (list (item undef (item (long (pos 7)) no_items)))) 10
+    ≡ Done tt (store (with_s (list (item (long (pos 80)) (item (long (pos 7)) no_items))))
+    (default_change (at 3 1) (term.Key (codes "s") ∷ term.Index 0 ∷ []) (long (pos 80)) ∷ []))
+    (left 5)
 unfolding defaulted visit items_filled values_filled
 in_a_list = refl
 
 -- work that is spent, at the binding
-spent : fill bound_s (with_s (dict no_fields)) 2 ≡ Failed (fault_at code.WorkSpent (at 3 1)) (left 0)
+spent : fill bound_s (with_s (dict no_fields)) 2
+    ≡ Failed (fault_at code.WorkSpent (at 3 1)) (left 0)
 unfolding defaulted visit items_filled values_filled
 spent = refl

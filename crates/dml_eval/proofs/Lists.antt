@@ -14,34 +14,55 @@ use Rattle.dml_meaning.specs.Around.{Around}
 use Rattle.dml_meaning.specs.Meaning.{Means, block_from, values_from, while_turn, while_turns, for_turn, for_turns, after_turn, pairs_of, pairs_of_items, pairs_of_fields, pair_at, pair_turn, pair_turns}
 
 -- the item at i, and those after it
-pub block_more : (go : Means) (a : Around) (is : List RItem) (i : ℕ) (x : RItem) (last : Plain) (o : Answers) (e : Env) (m : Meter) → i < length is → x ≡ get_or is i x → block_from go a (items_seen (drop i is)) last o e m ≡ then (go.opens a (item_seen x) o e m) (λ t. block_from go a (items_seen (drop (i + 1) is)) t o)
+pub block_more : (go : Means) (a : Around) (is : List RItem) (i : ℕ) (x : RItem) (last : Plain)
+    (o : Answers) (e : Env) (m : Meter) → i < length is → x ≡ get_or is i x
+    → block_from go a (items_seen (drop i is)) last o e m
+    ≡ then (go.opens a (item_seen x) o e m) (λ t. block_from go a (items_seen (drop (i + 1) is)) t
+    o)
 unfolding block_from
-block_more go a is i x last o e m h is_x = ap (λ xs. block_from go a (items_seen xs) last o e m) (drop_more is i x h ∙ ap (λ y. y ∷ drop (i + 1) is) (sym is_x))
+block_more go a is i x last o e m h is_x =
+    ap (λ xs. block_from go a (items_seen xs) last o e m)
+    (drop_more is i x h ∙ ap (λ y. y ∷ drop (i + 1) is) (sym is_x))
 
-pub values_more : (go : Means) (a : Around) (is : List RItem) (i : ℕ) (x : RItem) (done : List Plain) (o : Answers) (e : Env) (m : Meter) → i < length is → x ≡ get_or is i x → values_from go a (items_seen (drop i is)) done o e m ≡ then (go.opens a (item_seen x) o e m) (λ t. values_from go a (items_seen (drop (i + 1) is)) (done ++ t ∷ []) o)
+pub values_more : (go : Means) (a : Around) (is : List RItem) (i : ℕ) (x : RItem)
+    (done : List Plain) (o : Answers) (e : Env) (m : Meter) → i < length is → x ≡ get_or is i x
+    → values_from go a (items_seen (drop i is)) done o e m
+    ≡ then (go.opens a (item_seen x) o e m) (λ t. values_from go a (items_seen (drop (i + 1) is))
+    (done ++ t ∷ []) o)
 unfolding values_from
-values_more go a is i x done o e m h is_x = ap (λ xs. values_from go a (items_seen xs) done o e m) (drop_more is i x h ∙ ap (λ y. y ∷ drop (i + 1) is) (sym is_x))
+values_more go a is i x done o e m h is_x =
+    ap (λ xs. values_from go a (items_seen xs) done o e m)
+    (drop_more is i x h ∙ ap (λ y. y ∷ drop (i + 1) is) (sym is_x))
 
 pub ruleset items = (block_more, values_more)
 
 -- a turn, and those after it
-pub while_more : (n : ℕ) (go : Means) (a : Around) (p : Place) (c b : Item) (last : Plain) (o : Answers) (e : Env) (m : Meter) → 0 < n → while_turns n go a p c b last o e m ≡ then (while_turn n go a p c b o e m) (λ t. after_turn (while_turns (n - 1) go a p c b) last t o)
+pub while_more : (n : ℕ) (go : Means) (a : Around) (p : Place) (c b : Item) (last : Plain)
+    (o : Answers) (e : Env) (m : Meter) → 0 < n → while_turns n go a p c b last o e m
+    ≡ then (while_turn n go a p c b o e m) (λ t. after_turn (while_turns (n - 1) go a p c b) last t
+    o)
 unfolding while_turns
 while_more zero go a p c b last o e m h = absurd (omega arith)
 while_more (suc n) go a p c b last o e m h = let k : suc n - 1 ≡ n = omega arith in rw k refl
 
-pub for_more : (n : ℕ) (go : Means) (a : Around) (p : Place) (c s b : Item) (last : Plain) (o : Answers) (e : Env) (m : Meter) → 0 < n → for_turns n go a p c s b last o e m ≡ then (for_turn n go a p c s b o e m) (λ t. after_turn (for_turns (n - 1) go a p c s b) last t o)
+pub for_more : (n : ℕ) (go : Means) (a : Around) (p : Place) (c s b : Item) (last : Plain)
+    (o : Answers) (e : Env) (m : Meter) → 0 < n → for_turns n go a p c s b last o e m
+    ≡ then (for_turn n go a p c s b o e m) (λ t. after_turn (for_turns (n - 1) go a p c s b) last t
+    o)
 unfolding for_turns
 for_more zero go a p c s b last o e m h = absurd (omega arith)
 for_more (suc n) go a p c s b last o e m h = let k : suc n - 1 ≡ n = omega arith in rw k refl
 
 -- the child at a place, and those after it
-pairs_fields : (fs : Fields) (i : ℕ) → i < field_count fs → drop i (pairs_of_fields fs) ≡ pair_at i (dict fs) ∷ drop (i + 1) (pairs_of_fields fs)
+pairs_fields : (fs : Fields) (i : ℕ) → i < field_count fs → drop i (pairs_of_fields fs)
+    ≡ pair_at i (dict fs) ∷ drop (i + 1) (pairs_of_fields fs)
 pairs_fields no_fields i h = absurd (omega arith)
 pairs_fields (field k t fs) zero h = refl
-pairs_fields (field k t fs) (suc i) h = let e : suc i + 1 ≡ suc (i + 1) = omega arith in rw e (pairs_fields fs i (omega arith))
+pairs_fields (field k t fs) (suc i) h = let e : suc i + 1 ≡ suc (i + 1) = omega arith in
+    rw e (pairs_fields fs i (omega arith))
 
-pairs_items : (ts : Trees) (n i : ℕ) → i < item_count ts → drop i (pairs_of_items n ts) ≡ (long (pos (n + i)), unwrap_or (item_at i ts) undef) ∷ drop (i + 1) (pairs_of_items n ts)
+pairs_items : (ts : Trees) (n i : ℕ) → i < item_count ts → drop i (pairs_of_items n ts)
+    ≡ (long (pos (n + i)), unwrap_or (item_at i ts) undef) ∷ drop (i + 1) (pairs_of_items n ts)
 pairs_items no_items n i h = absurd (omega arith)
 pairs_items (item t ts) n zero h = let e : n + 0 ≡ n = omega arith in rw e refl
 pairs_items (item t ts) n (suc i) h =
@@ -49,10 +70,12 @@ pairs_items (item t ts) n (suc i) h =
     let f : n + suc i ≡ suc n + i = omega arith in
     rw (e, f) (pairs_items ts (suc n) i (omega arith))
 
-pairs_list : (ts : Trees) (i : ℕ) → i < item_count ts → drop i (pairs_of_items 0 ts) ≡ (long (pos i), unwrap_or (item_at i ts) undef) ∷ drop (i + 1) (pairs_of_items 0 ts)
+pairs_list : (ts : Trees) (i : ℕ) → i < item_count ts → drop i (pairs_of_items 0 ts)
+    ≡ (long (pos i), unwrap_or (item_at i ts) undef) ∷ drop (i + 1) (pairs_of_items 0 ts)
 pairs_list ts i h = let f : 0 + i ≡ i = omega arith in pairs_items ts 0 i h ∙ rw f refl
 
-pairs_at : (t : Plain) (i : ℕ) → i < child_count t → drop i (pairs_of t) ≡ pair_at i t ∷ drop (i + 1) (pairs_of t)
+pairs_at : (t : Plain) (i : ℕ) → i < child_count t → drop i (pairs_of t)
+    ≡ pair_at i t ∷ drop (i + 1) (pairs_of t)
 pairs_at (dict fs) i h = pairs_fields fs i h
 pairs_at (list ts) i h = pairs_list ts i h
 pairs_at (text bs) i h = absurd (omega arith)
@@ -61,9 +84,14 @@ pairs_at (boolean b) i h = absurd (omega arith)
 pairs_at undef i h = absurd (omega arith)
 pairs_at null i h = absurd (omega arith)
 
-pub pairs_more : (t : Plain) (i n : ℕ) (go : Means) (a : Around) (p : Place) (k v : List ℕ) (b : Item) (last : Plain) (o : Answers) (e : Env) (m : Meter) → i < child_count t → pair_turns n go a p k v b (drop i (pairs_of t)) last o e m ≡ then (pair_turn n go a p k v b (pair_at i t) o e m) (λ u. pair_turns (n - 1) go a p k v b (drop (i + 1) (pairs_of t)) u o)
+pub pairs_more : (t : Plain) (i n : ℕ) (go : Means) (a : Around) (p : Place) (k v : List ℕ)
+    (b : Item) (last : Plain) (o : Answers) (e : Env) (m : Meter) → i < child_count t
+    → pair_turns n go a p k v b (drop i (pairs_of t)) last o e m
+    ≡ then (pair_turn n go a p k v b (pair_at i t) o e m)
+    (λ u. pair_turns (n - 1) go a p k v b (drop (i + 1) (pairs_of t)) u o)
 unfolding pair_turns
-pairs_more t i n go a p k v b last o e m h = ap (λ ps. pair_turns n go a p k v b ps last o e m) (pairs_at t i h)
+pairs_more t i n go a p k v b last o e m h =
+    ap (λ ps. pair_turns n go a p k v b ps last o e m) (pairs_at t i h)
 
 drop_past : {X : Type 0} → (xs : List X) (i : ℕ) → length xs ≤ i → drop i xs ≡ []
 drop_past [] zero h = refl
@@ -89,10 +117,13 @@ count_pairs undef = refl
 count_pairs null = refl
 
 -- behind the last child
-pub pairs_end : (t : Plain) (i n : ℕ) (go : Means) (a : Around) (p : Place) (k v : List ℕ) (b : Item) (last : Plain) (o : Answers) (e : Env) (m : Meter) → child_count t ≤ i → pair_turns n go a p k v b (drop i (pairs_of t)) last o e m ≡ Done last e m
+pub pairs_end : (t : Plain) (i n : ℕ) (go : Means) (a : Around) (p : Place) (k v : List ℕ)
+    (b : Item) (last : Plain) (o : Answers) (e : Env) (m : Meter) → child_count t ≤ i
+    → pair_turns n go a p k v b (drop i (pairs_of t)) last o e m ≡ Done last e m
 unfolding pair_turns
 pairs_end t i n go a p k v b last o e m h =
     let c = count_pairs t in
-    ap (λ ps. pair_turns n go a p k v b ps last o e m) (drop_past (pairs_of t) i (omega (arith, c, h)))
+    ap (λ ps. pair_turns n go a p k v b ps last o e m)
+    (drop_past (pairs_of t) i (omega (arith, c, h)))
 
 pub ruleset pairs = (pairs_more, pairs_end)

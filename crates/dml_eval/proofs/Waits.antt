@@ -32,39 +32,52 @@ use Rattle.dml_world.specs.Exits.{Ends}
 use Rattle.dml_eval.specs.Waits.{in_role, resume, resumed, turn_run, with_steps, waiting_weight, waits_weight}
 
 -- one more that waits is the first to go on
-pub resumed_more : (go : Means) (a : Around) (answers : Answers) (ws : List Waiting) (w : Waiting) (o : Outcome Env Plain) → resumed go a answers (ws ++ w ∷ []) o ≡ resumed go a answers ws (then o (λ t. resume go a w t answers))
+pub resumed_more : (go : Means) (a : Around) (answers : Answers) (ws : List Waiting) (w : Waiting)
+    (o : Outcome Env Plain) → resumed go a answers (ws ++ w ∷ []) o
+    ≡ resumed go a answers ws (then o (λ t. resume go a w t answers))
 unfolding resumed
 resumed_more go a answers [] w o = refl
-resumed_more go a answers (v ∷ ws) w o = ap (λ n. then n (λ t. resume go a v t answers)) (resumed_more go a answers ws w o)
+resumed_more go a answers (v ∷ ws) w o =
+    ap (λ n. then n (λ t. resume go a v t answers)) (resumed_more go a answers ws w o)
 
 -- the step that is next, and those behind it
-pub steps_more : (go : Means) (a : Around) (p : Place) (ss rest : List Step) (s : Step) (t : Plain) (o : Answers) (e : Env) (m : Meter) → ss ≡ s ∷ rest → steps_run go a p ss t o e m ≡ with_steps go a p rest (step_run go a p t s) o e m
+pub steps_more : (go : Means) (a : Around) (p : Place) (ss rest : List Step) (s : Step) (t : Plain)
+    (o : Answers) (e : Env) (m : Meter) → ss ≡ s ∷ rest → steps_run go a p ss t o e m
+    ≡ with_steps go a p rest (step_run go a p t s) o e m
 unfolding steps_run
 steps_more go a p ss rest s t o e m is = ap (λ xs. steps_run go a p xs t o e m) is
 
 -- no step is next
-pub steps_end : (go : Means) (a : Around) (p : Place) (ss : List Step) (t : Plain) (o : Answers) (e : Env) (m : Meter) → ss ≡ [] → steps_run go a p ss t o e m ≡ Done t e m
+pub steps_end : (go : Means) (a : Around) (p : Place) (ss : List Step) (t : Plain) (o : Answers)
+    (e : Env) (m : Meter) → ss ≡ [] → steps_run go a p ss t o e m ≡ Done t e m
 unfolding steps_run
 steps_end go a p ss t o e m is = ap (λ xs. steps_run go a p xs t o e m) is
 
 -- an early end ends all that wait
-resumed_failed : (go : Means) (a : Around) (answers : Answers) (ws : List Waiting) (f : Fault) (m : Meter) → resumed go a answers ws (Failed f m) ≡ Failed f m
+resumed_failed : (go : Means) (a : Around) (answers : Answers) (ws : List Waiting) (f : Fault)
+    (m : Meter) → resumed go a answers ws (Failed f m) ≡ Failed f m
 unfolding resumed
 resumed_failed go a answers [] f m = refl
-resumed_failed go a answers (w ∷ ws) f m = ap (λ n. then n (λ t. resume go a w t answers)) (resumed_failed go a answers ws f m)
+resumed_failed go a answers (w ∷ ws) f m =
+    ap (λ n. then n (λ t. resume go a w t answers)) (resumed_failed go a answers ws f m)
 
-resumed_asks : (go : Means) (a : Around) (answers : Answers) (ws : List Waiting) (k : Key) (m : Meter) → resumed go a answers ws (Asks k m) ≡ Asks k m
+resumed_asks : (go : Means) (a : Around) (answers : Answers) (ws : List Waiting) (k : Key)
+    (m : Meter) → resumed go a answers ws (Asks k m) ≡ Asks k m
 unfolding resumed
 resumed_asks go a answers [] k m = refl
-resumed_asks go a answers (w ∷ ws) k m = ap (λ n. then n (λ t. resume go a w t answers)) (resumed_asks go a answers ws k m)
+resumed_asks go a answers (w ∷ ws) k m =
+    ap (λ n. then n (λ t. resume go a w t answers)) (resumed_asks go a answers ws k m)
 
-resumed_returned : (go : Means) (a : Around) (answers : Answers) (ws : List Waiting) (t : Plain) (e : Env) (m : Meter) → resumed go a answers ws (Returned t e m) ≡ Returned t e m
+resumed_returned : (go : Means) (a : Around) (answers : Answers) (ws : List Waiting) (t : Plain)
+    (e : Env) (m : Meter) → resumed go a answers ws (Returned t e m) ≡ Returned t e m
 unfolding resumed
 resumed_returned go a answers [] t e m = refl
-resumed_returned go a answers (w ∷ ws) t e m = ap (λ n. then n (λ u. resume go a w u answers)) (resumed_returned go a answers ws t e m)
+resumed_returned go a answers (w ∷ ws) t e m =
+    ap (λ n. then n (λ u. resume go a w u answers)) (resumed_returned go a answers ws t e m)
 
 -- and goes on leaving no more
-in_role_lawful : (may : Key → Type 0) (go : Means) → LawfulMeans may go → (a : Around) → Fits may a → (p : Place) (r : Role) (t : Plain) → Lawful may 0 (in_role go a p r t)
+in_role_lawful : (may : Key → Type 0) (go : Means) → LawfulMeans may go → (a : Around) → Fits may a
+    → (p : Place) (r : Role) (t : Plain) → Lawful may 0 (in_role go a p r t)
 in_role_lawful may go h a w p (role.Left s) t = step_lawful may go h a w p t (step_seen s.now)
 in_role_lawful may go h a w p (role.Right op s) t = apply_binary_lawful may p op s t
 in_role_lawful may go h a w p role.Deciding t = apply_boolean_lawful may p t
@@ -75,35 +88,51 @@ module _ (a : Around) (w : IsReading a.reading) (n : ℕ) where
   turn_leaves (turn.Inner c v) =
       let go = eval_lawful (MayAsk a.object) n in
       let suited = fits a w in
-      left_within (MayAsk a.object) 0 (turn_run (eval n) a (turn.Inner c v)) (search (pieces, node_lawful, in_role_lawful, chain_lawful))
+      left_within (MayAsk a.object) 0 (turn_run (eval n) a (turn.Inner c v))
+      (search (pieces, node_lawful, in_role_lawful, chain_lawful))
 
   resume_leaves : (v : Waiting) (t : Plain) → Leaves (resume (eval n) a v t)
   resume_leaves v t =
       let go = eval_lawful (MayAsk a.object) n in
       let suited = fits a w in
-      left_within (MayAsk a.object) 0 (resume (eval n) a v t) (search (pieces, in_role_lawful, chain_lawful))
+      left_within (MayAsk a.object) 0 (resume (eval n) a v t)
+      (search (pieces, in_role_lawful, chain_lawful))
 
-  resumed_leaves : (answers : Answers) (ws : List Waiting) (k : ℕ) (o : Outcome Env Plain) → LeavesAtMost k o → LeavesAtMost k (resumed (eval n) a answers ws o)
+  resumed_leaves : (answers : Answers) (ws : List Waiting) (k : ℕ) (o : Outcome Env Plain)
+      → LeavesAtMost k o → LeavesAtMost k (resumed (eval n) a answers ws o)
   unfolding resumed
   resumed_leaves answers [] k o h = h
-  resumed_leaves answers (v ∷ ws) k o h = then_leaves k (resumed (eval n) a answers ws o) (λ t. resume (eval n) a v t answers) (λ t. resume_leaves v t answers) (resumed_leaves answers ws k o h)
+  resumed_leaves answers (v ∷ ws) k o h =
+      then_leaves k (resumed (eval n) a answers ws o) (λ t. resume (eval n) a v t answers)
+      (λ t. resume_leaves v t answers) (resumed_leaves answers ws k o h)
 
   -- where what is next has not begun
-  pub turns_leave : (answers : Answers) (ws : List Waiting) (t : Turn) (e : Env) (m : Meter) (p : Outcome Env Plain) → resumed (eval n) a answers ws (turn_run (eval n) a t answers e m) ≡ p → LeavesAtMost m.left p
-  turns_leave answers ws t e m p same = subst (LeavesAtMost m.left) same (resumed_leaves answers ws m.left (turn_run (eval n) a t answers e m) (turn_leaves t answers e m))
+  pub turns_leave : (answers : Answers) (ws : List Waiting) (t : Turn) (e : Env) (m : Meter)
+      (p : Outcome Env Plain) → resumed (eval n) a answers ws (turn_run (eval n) a t answers e m)
+      ≡ p → LeavesAtMost m.left p
+  turns_leave answers ws t e m p same =
+      subst (LeavesAtMost m.left) same (resumed_leaves answers ws m.left
+      (turn_run (eval n) a t answers e m) (turn_leaves t answers e m))
 
-  pub resumed_ends : (answers : Answers) (ws : List Waiting) (x : Exit) (e : Env) (m : Meter) (o p : Outcome Env Plain) → Ends x e m o → resumed (eval n) a answers ws o ≡ p → Ends x e m p
-  resumed_ends answers ws exit.Memory e m o p h k = subst (LeavesAtMost m.left) k (resumed_leaves answers ws m.left o h)
-  resumed_ends answers ws (exit.Fault f) e m o p h k = sym k ∙ ap (resumed (eval n) a answers ws) h ∙ resumed_failed (eval n) a answers ws f.value m
-  resumed_ends answers ws (exit.Need q) e m o p h k = sym k ∙ ap (resumed (eval n) a answers ws) h ∙ resumed_asks (eval n) a answers ws _ m
-  resumed_ends answers ws (exit.Return t) e m o p h k = sym k ∙ ap (resumed (eval n) a answers ws) h ∙ resumed_returned (eval n) a answers ws t e m
+  pub resumed_ends : (answers : Answers) (ws : List Waiting) (x : Exit) (e : Env) (m : Meter)
+      (o p : Outcome Env Plain) → Ends x e m o → resumed (eval n) a answers ws o ≡ p → Ends x e m p
+  resumed_ends answers ws exit.Memory e m o p h k =
+      subst (LeavesAtMost m.left) k (resumed_leaves answers ws m.left o h)
+  resumed_ends answers ws (exit.Fault f) e m o p h k =
+      sym k ∙ ap (resumed (eval n) a answers ws) h ∙ resumed_failed (eval n) a answers ws f.value m
+  resumed_ends answers ws (exit.Need q) e m o p h k =
+      sym k ∙ ap (resumed (eval n) a answers ws) h ∙ resumed_asks (eval n) a answers ws _ m
+  resumed_ends answers ws (exit.Return t) e m o p h k =
+      sym k ∙ ap (resumed (eval n) a answers ws) h ∙ resumed_returned (eval n) a answers ws t e m
 
-pub weight_more : (ws : List Waiting) (w : Waiting) → waits_weight (ws ++ w ∷ []) ≡ waits_weight ws + waiting_weight w
+pub weight_more : (ws : List Waiting) (w : Waiting) → waits_weight (ws ++ w ∷ [])
+    ≡ waits_weight ws + waiting_weight w
 weight_more [] w = omega arith
 weight_more (v ∷ ws) w = let h = weight_more ws w in omega (arith, h)
 
 -- nothing waits
-pub resumed_none : (go : Means) (a : Around) (answers : Answers) (ws : List Waiting) (o p : Outcome Env Plain) → length ws ≡ 0 → o ≡ p → resumed go a answers ws o ≡ p
+pub resumed_none : (go : Means) (a : Around) (answers : Answers) (ws : List Waiting)
+    (o p : Outcome Env Plain) → length ws ≡ 0 → o ≡ p → resumed go a answers ws o ≡ p
 unfolding resumed
 resumed_none go a answers [] o p h is = is
 resumed_none go a answers (w ∷ ws) o p h is = absurd (omega arith)

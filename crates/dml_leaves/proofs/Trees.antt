@@ -18,7 +18,8 @@ use Rattle.dml_meaning.specs.Values.{is_nothing}
 use Rattle.dml_meaning.specs.Meaning.{key_value, no_indexes}
 
 -- what is no text and no long is no index
-pub other_term : (k : Plain) (t : Option Plain) → text_of k ≡ None → long_of k ≡ None → term_for k t ≡ None
+pub other_term : (k : Plain) (t : Option Plain) → text_of k ≡ None → long_of k ≡ None → term_for k t
+    ≡ None
 other_term (text bs) t h g = absurd cc
 other_term (long z) t h g = absurd cc
 other_term (dict fs) t h g = refl
@@ -37,11 +38,13 @@ is_value (long z) h e = absurd cc
 is_value (boolean b) h e = absurd cc
 is_value undef h e = absurd cc
 
-unput_by : (e : PutError) (u : Unchanged) (r : Result Plain PutError) → IsRefusal u (put_code (Err e)) → r ≡ Err e → IsRefusal u (put_code r)
+unput_by : (e : PutError) (u : Unchanged) (r : Result Plain PutError)
+    → IsRefusal u (put_code (Err e)) → r ≡ Err e → IsRefusal u (put_code r)
 unput_by e u r h k = rw k h
 
 -- a put that was refused
-pub unput : (e : PutError) (u : Unchanged) (r : Result Plain PutError) → IsUnput e u → IfSome (put_refusal e) (λ f. r ≡ Err f) → IsRefusal u (put_code r)
+pub unput : (e : PutError) (u : Unchanged) (r : Result Plain PutError) → IsUnput e u
+    → IfSome (put_refusal e) (λ f. r ≡ Err f) → IsRefusal u (put_code r)
 unput put_error.Memory u r h k = rw h tt
 unput (put_error.ThroughProperty n) u r h k = unput_by (put_error.ThroughProperty n) u r h k
 unput put_error.KeyInList u r h k = unput_by put_error.KeyInList u r h k
@@ -66,7 +69,8 @@ no_key no_fields i h e = omega arith
 no_key (field k t fs) zero h e = cc
 no_key (field k t fs) (suc i) h e = no_key fs i (omega arith) e
 
-pub key_none : (i : ℕ) (t : Plain) → key_at i t ≡ None → i < child_count t → key_value i t ≡ long (pos i)
+pub key_none : (i : ℕ) (t : Plain) → key_at i t ≡ None → i < child_count t → key_value i t
+    ≡ long (pos i)
 key_none i (dict fs) h k = absurd (no_key fs i k h)
 key_none i (list ts) h k = refl
 key_none i (text bs) h k = refl
@@ -77,17 +81,25 @@ key_none i null h k = refl
 
 pub ruleset keys = (key_some, key_none, few_children)
 
-terms_more : (done : List Term) (ks : List Plain) (i : ℕ) (k : Plain) (t : Option Plain) → i < length ks → k ≡ get_or ks i k → terms_from done (drop i ks) t ≡ option_and_then (λ m. terms_from (done ++ m ∷ []) (drop (i + 1) ks) (option_and_then (λ u. child m u) t)) (term_for k t)
-terms_more done ks i k t h is = ap (λ ls. terms_from done ls t) (drop_more ks i k h ∙ ap (λ y. y ∷ drop (i + 1) ks) (sym is))
+terms_more : (done : List Term) (ks : List Plain) (i : ℕ) (k : Plain) (t : Option Plain)
+    → i < length ks → k ≡ get_or ks i k → terms_from done (drop i ks) t
+    ≡ option_and_then (λ m. terms_from (done ++ m ∷ []) (drop (i + 1) ks)
+    (option_and_then (λ u. child m u) t)) (term_for k t)
+terms_more done ks i k t h is =
+    ap (λ ls. terms_from done ls t) (drop_more ks i k h ∙ ap (λ y. y ∷ drop (i + 1) ks) (sym is))
 
 -- a term more
-pub terms_step : (done new : List Term) (ks : List Plain) (i : ℕ) (k v : Plain) (m : Term) → i < length ks → k ≡ get_or ks i k → term_for k (get done v) ≡ Some m → new ≡ done ++ m ∷ [] → terms_from new (drop (i + 1) ks) (get new v) ≡ terms_from done (drop i ks) (get done v)
+pub terms_step : (done new : List Term) (ks : List Plain) (i : ℕ) (k v : Plain) (m : Term)
+    → i < length ks → k ≡ get_or ks i k → term_for k (get done v) ≡ Some m → new ≡ done ++ m ∷ []
+    → terms_from new (drop (i + 1) ks) (get new v) ≡ terms_from done (drop i ks) (get done v)
 terms_step done new ks i k v m h is e n =
     rw n (ap (terms_from (done ++ m ∷ []) (drop (i + 1) ks)) (get_push done m v)
     ∙ sym (terms_more done ks i k (get done v) h is ∙ rw e refl))
 
 -- no term
-pub terms_none : (done : List Term) (ks : List Plain) (i : ℕ) (k v : Plain) → i < length ks → k ≡ get_or ks i k → term_for k (get done v) ≡ None → terms_from done (drop i ks) (get done v) ≡ None
+pub terms_none : (done : List Term) (ks : List Plain) (i : ℕ) (k v : Plain) → i < length ks → k
+    ≡ get_or ks i k → term_for k (get done v) ≡ None → terms_from done (drop i ks) (get done v)
+    ≡ None
 terms_none done ks i k v h is e = terms_more done ks i k (get done v) h is ∙ rw e refl
 
 pub ruleset terms = (terms_step, terms_none)

@@ -339,7 +339,8 @@ module _ (May : ℕ → Tokens → Type 0) where
 
   signed_over : {ts rest : Tokens} {m : _} → IsSigned ts m rest → (n : ℕ)
       → found n ts ≡ found n rest
-  signed_over (a_number {t = t} {rest = rest} e) n = over sorts.Int (refl, refl, refl, refl) t rest n e
+  signed_over (a_number {t = t} {rest = rest} e) n =
+      over sorts.Int (refl, refl, refl, refl) t rest n e
   signed_over (a_negative {m = m} {t = t} {rest = rest} e q) n =
       over sorts.Minus (refl, refl, refl, refl) m (t ∷ rest) n e
       ∙ over sorts.Int (refl, refl, refl, refl) t rest n q
@@ -408,8 +409,10 @@ module _ (May : ℕ → Tokens → Type 0) where
         over sorts.Extensible (refl, refl, refl, refl) t (o ∷ ts) n e ∙ open_brace o ts n q
         ∙ fields_over h n ∙ suffixes_over k n
     type_over (a_choice {t = t} {o = o} {x = x} {ts = ts} m e q z h k) n =
-        over sorts.Choice (refl, refl, refl, refl) t (o ∷ x ∷ ts) n e ∙ open_parenthesis o (x ∷ ts) n q
-        ∙ over sorts.Text (refl, refl, refl, refl) x ts (suc n) z ∙ texts_over h n ∙ suffixes_over k n
+        over sorts.Choice (refl, refl, refl, refl) t (o ∷ x ∷ ts) n e
+        ∙ open_parenthesis o (x ∷ ts) n q
+        ∙ over sorts.Text (refl, refl, refl, refl) x ts (suc n) z ∙ texts_over h n
+        ∙ suffixes_over k n
 
     fields_over : {d : ℕ} {ts rest : Tokens} {fs : List Field} → IsFields May d ts fs rest → (n : ℕ)
         → found (suc n) ts ≡ found n rest
@@ -430,28 +433,32 @@ module _ (May : ℕ → Tokens → Type 0) where
       over sorts.Text (refl, refl, refl, refl) t (a ∷ ts) 0 e
       ∙ quiet a ts 0 (quiet_setting (sort a) q) ∙ item_over h 0 ∙ last s rest z
 
-  pub variable_ends : (v w a : Token) {s : Token} {ts rest : Tokens} {i : Item} → sort v ≡ sorts.Variable
+  pub variable_ends : (v w a : Token) {s : Token} {ts rest : Tokens} {i : Item} → sort v
+      ≡ sorts.Variable
       → is_word (sort w) ≡ true → is_setting (sort a) ≡ true → IsItem May 0 ts i (s ∷ rest)
       → sort s ≡ sorts.Semicolon → found 0 (v ∷ w ∷ a ∷ ts) ≡ ending s rest
   variable_ends v w a {s = s} {ts = ts} {rest = rest} e q g h z =
       over sorts.Variable (refl, refl, refl, refl) v (w ∷ a ∷ ts) 0 e ∙ word_over w (a ∷ ts) 0 q
       ∙ quiet a ts 0 (quiet_setting (sort a) g) ∙ item_over h 0 ∙ last s rest z
 
-  pub function_ends : (t w a : Token) {s : Token} {ts rest : Tokens} {i : Item} → sort t ≡ sorts.Function
+  pub function_ends : (t w a : Token) {s : Token} {ts rest : Tokens} {i : Item} → sort t
+      ≡ sorts.Function
       → is_word (sort w) ≡ true → sort a ≡ sorts.Assign → IsItem May 0 ts i (s ∷ rest)
       → sort s ≡ sorts.Semicolon → found 0 (t ∷ w ∷ a ∷ ts) ≡ ending s rest
   function_ends t w a {s = s} {ts = ts} {rest = rest} o e q h z =
       over sorts.Function (refl, refl, refl, refl) t (w ∷ a ∷ ts) 0 o ∙ word_over w (a ∷ ts) 0 e
       ∙ over sorts.Assign (refl, refl, refl, refl) a ts 0 q ∙ item_over h 0 ∙ last s rest z
 
-  pub type_ends : (t w a : Token) {s : Token} {ts rest : Tokens} {f : FullType} → sort t ≡ sorts.«Type»
+  pub type_ends : (t w a : Token) {s : Token} {ts rest : Tokens} {f : FullType} → sort t
+      ≡ sorts.«Type»
       → is_word (sort w) ≡ true → sort a ≡ sorts.Assign → IsFull May 0 ts f (s ∷ rest)
       → sort s ≡ sorts.Semicolon → found 0 (t ∷ w ∷ a ∷ ts) ≡ ending s rest
   type_ends t w a {s = s} {ts = ts} {rest = rest} o e q h z =
       over sorts.«Type» (refl, refl, refl, refl) t (w ∷ a ∷ ts) 0 o ∙ word_over w (a ∷ ts) 0 e
       ∙ over sorts.Assign (refl, refl, refl, refl) a ts 0 q ∙ full_over h 0 ∙ last s rest z
 
-  pub bind_ends : (t x a : Token) {s : Token} {ts rest : Tokens} {f : FullType} → sort t ≡ sorts.Bind
+  pub bind_ends : (t x a : Token) {s : Token} {ts rest : Tokens} {f : FullType} → sort t
+      ≡ sorts.Bind
       → sort x ≡ sorts.Text → sort a ≡ sorts.Assign → IsFull May 0 ts f (s ∷ rest)
       → sort s ≡ sorts.Semicolon → found 0 (t ∷ x ∷ a ∷ ts) ≡ ending s rest
   bind_ends t x a {s = s} {ts = ts} {rest = rest} o e q h z =

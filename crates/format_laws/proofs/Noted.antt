@@ -177,7 +177,8 @@ annotated_front w t body c rest aw at ab nc =
     subst (λ (n : ℕ). IsFront false (annotated w t body c ++ rest) (Skip Annotation n))
     (annotated_length w t body c)
     (subst (λ (x : List ℕ). IsFront false x
-    (Skip Annotation (length w + length t + length body + 3))) (sym (on_seam w t body c rest)) front)
+    (Skip Annotation (length w + length t + length body + 3))) (sym (on_seam w t body c rest))
+    front)
 
 annotated_note : (w t body : List ℕ) (c : ℕ) → list_all is_word_byte w ≡ true
     → list_all is_tab t ≡ true → list_all is_in_annotation body ≡ true

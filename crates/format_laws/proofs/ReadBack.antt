@@ -106,7 +106,8 @@ module _ (file : List ℕ) (May : ℕ → Tokens → Type 0)
   reference_may {e = e} (a_reference {t = t} {ts = ts} q h) m us = alike e t ts us m
 
   mutual
-    unfolding item_text block_lines reference_text indexes_text node_text arguments_text further_arguments
+    unfolding item_text block_lines reference_text indexes_text node_text arguments_text
+        further_arguments
 
     pub item_again : {d : ℕ} {ts rest : Tokens} {x : Item} {t : List ℕ} {P : Follows}
         → IsItem May d ts x rest → (k : ℕ) → item_words x → Apart t

@@ -129,7 +129,8 @@ module _ (May : ℕ → Tokens → Type 0) where
       (ps : List Piece) → Holding sorts.Text v
       (Behind (setting_of b) (ItemThen May 0 i (Stop n P))) us ps
       → SettingThen n last (statements.Assign last v b i) P us ps
-  path_so last v b i us ps (holding {t = x} s q (behind {t = a} e (so h c (stop {t = k} z w r)))) p =
+  path_so last v b i us ps (holding {t = x} s q (behind {t = a} e (so h c (stop {t = k} z w r)))) p
+      =
       let m = ap is_setting e ∙ setting_again b in
       so (sets k (of_path s m h z) (path_ends May x a s m h z) w)
       (ap (stated nowhere) (assign_bare last _ _ _ _ _ _ q
@@ -202,7 +203,8 @@ module _ (May : ℕ → Tokens → Type 0) where
       so (stands k (a_type o u e h z) (type_ends May l x a o u e h z) w)
       (ap (stated nowhere) (define_bare _ _ _ _ q c)) r
 
-  bind_so : (q : Place) (v : List ℕ) (f : FullType) {P : Follows} {n : ℕ} (us : Tokens) (ps : List Piece)
+  bind_so : (q : Place) (v : List ℕ) (f : FullType) {P : Follows} {n : ℕ} (us : Tokens)
+      (ps : List Piece)
       → Behind sorts.Bind (Holding sorts.Text v
       (Behind sorts.Assign (FullThen May 0 f (Stop n P)))) us ps
       → StatementThen n (stated q (statements.Bind v f)) P us ps
@@ -211,7 +213,8 @@ module _ (May : ℕ → Tokens → Type 0) where
       so (stands k (a_bind o s e h z) (bind_ends May l x a o s e h z) w)
       (ap (stated nowhere) (bind_bare _ _ _ _ q c)) r
 
-  valid_so : (q : Place) (v : List ℕ) (i : Item) {P : Follows} {n : ℕ} (us : Tokens) (ps : List Piece)
+  valid_so : (q : Place) (v : List ℕ) (i : Item) {P : Follows} {n : ℕ} (us : Tokens)
+      (ps : List Piece)
       → Behind sorts.Valid (Holding sorts.Text v
       (Behind sorts.Assign (ItemThen May 0 i (Stop n P)))) us ps
       → StatementThen n (stated q (statements.Valid v i)) P us ps

@@ -1,4 +1,5 @@
--- What is laid out of a template with its notes is read and parsed back to the same template but for
+-- What is laid out of a template with its notes is read and parsed back to the same template but
+-- for
 -- places, and the notes fall to the same statements again.
 use Rattle.std.proofs.Common.{◌≡◌, ◌∙◌, ℕ, ◌≤◌, true, false, List, [], ◌∷◌, ◌++◌, Some, zero, suc, map, take, drop, length, refl, sym, ap, subst, arith, append_assoc, length-append}
 use Rattle.std.specs.Prelude.{codes}

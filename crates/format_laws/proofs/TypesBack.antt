@@ -197,7 +197,8 @@ module _ (May : ℕ → Tokens → Type 0) where
         same : (v w : List ℕ) (a b : Option Bounds) (ss rr : List Suffix) → v ≡ w
             → option_map bare_bounds a ≡ option_map bare_bounds b
             → map bare_suffix ss ≡ map bare_suffix rr
-            → Formed (types.Named v nowhere (option_map bare_bounds a)) (map bare_suffix ss) ≡ Formed
+            → Formed (types.Named v nowhere (option_map bare_bounds a)) (map bare_suffix ss)
+            ≡ Formed
             (types.Named w nowhere (option_map bare_bounds b)) (map bare_suffix rr)
         same v w a b ss rr e1 e2 e3 = cc
 

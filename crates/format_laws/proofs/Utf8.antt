@@ -118,7 +118,8 @@ binary_text binary.More = closed_text (codes " > ") refl
 binary_text binary.MoreEqual = closed_text (codes " >= ") refl
 
 mutual
-  unfolding item_text block_lines reference_text indexes_text node_text arguments_text further_arguments
+  unfolding item_text block_lines reference_text indexes_text node_text arguments_text
+      further_arguments
 
   pub item_utf8 : (k : ℕ) (x : Item) → item_words x → IsUtf8 (item_text k x)
   item_utf8 k (Block p is) w = braced_text k (block_lines (suc k) is) (lines_utf8 (suc k) is w)

@@ -45,24 +45,32 @@ built_lawful may site w = search (pieces, object_lawful, filled_lawful)
 
 -- checks
 
-means_lawful : (may : Key → Type 0) (site : Site) → Suits may site → (b : Built Rest) → LawfulMeans may (means_of site b)
+means_lawful : (may : Key → Type 0) (site : Site) → Suits may site → (b : Built Rest)
+    → LawfulMeans may (means_of site b)
 means_lawful may site w b =
     let go = eval_lawful may MAX_OPEN_ITEMS in
     record {
       dml = λ template i v. search (pieces, dml_lawful);
-      look = λ p path. look_at_lawful may (around_built site b site.object) w p (path_text path) path.anchor path.terms;
+      look = λ p path. look_at_lawful may (around_built site b site.object) w p (path_text path)
+          path.anchor path.terms;
     }
 
--- and leave no more work than they began with, wherever no file's fault is that of a circular object
-pub tests_leave : (site : Site) → IsReading site.reading → (b : Built Rest) → LeaveNoMore (means_of site b)
+-- and leave no more work than they began with, wherever no file's fault is that of a circular
+-- object
+pub tests_leave : (site : Site) → IsReading site.reading → (b : Built Rest)
+    → LeaveNoMore (means_of site b)
 tests_leave site w b = record {
   dml = λ template i v. dml_leaves (around_built site b template) w MAX_OPEN_ITEMS true v i;
-  look = λ p path. look_at_leaves (around_built site b site.object) w p (path_text path) path.anchor path.terms;
+  look = λ p path. look_at_leaves (around_built site b site.object) w p (path_text path) path.anchor
+      path.terms;
 }
 
-tested_lawful : (may : Key → Type 0) (site : Site) → Suits may site → (b : Built Rest) → Lawful may 0 (check_run site b)
+tested_lawful : (may : Key → Type 0) (site : Site) → Suits may site → (b : Built Rest)
+    → Lawful may 0 (check_run site b)
 unfolding check_run
-tested_lawful may site w b = checked_lawful may (means_of site b) (means_lawful may site w b) b.rest.header b.tree b.rest.bindings b.rest.valids
+tested_lawful may site w b =
+    checked_lawful may (means_of site b) (means_lawful may site w b) b.rest.header b.tree
+    b.rest.bindings b.rest.valids
 
 -- the laws of both
 
@@ -74,7 +82,8 @@ module _ (dirs : List (List ℕ)) (limits : Limits) where
   build_is_lawful object = built_lawful (MayAsk object) (site object) (suits (site object) reading)
 
   pub check_is_lawful : (b : Built Rest) → Lawful (MayAsk b.object) 0 (check_run (site b.object) b)
-  check_is_lawful b = tested_lawful (MayAsk b.object) (site b.object) (suits (site b.object) reading) b
+  check_is_lawful b = tested_lawful (MayAsk b.object) (site b.object)
+      (suits (site b.object) reading) b
 
   build_ends : (object : List ℕ) → IsEnd (build_ending (site object)) is_circular_end
   build_ends object = record { done = λ p s. refl; returned = λ t s. refl; failed = λ f. refl }
@@ -84,18 +93,26 @@ module _ (dirs : List (List ℕ)) (limits : Limits) where
 
   pub is_lawful : IsLawful (meaning_of dirs limits)
   is_lawful = record {
-    builds = λ object. run_laws (MayAsk object) (built_run (site object)) no_program (build_ending (site object)) (build_is_lawful object) is_circular_end (build_ends object);
-    checks = λ b. run_laws (MayAsk b.object) (check_run (site b.object) b) tt check_ending (check_is_lawful b) is_circular_verdict check_ends;
+    builds = λ object. run_laws (MayAsk object) (built_run (site object)) no_program
+        (build_ending (site object)) (build_is_lawful object) is_circular_end (build_ends object);
+    checks = λ b. run_laws (MayAsk b.object) (check_run (site b.object) b) tt check_ending
+        (check_is_lawful b) is_circular_verdict check_ends;
   }
 
-  pub build_ran : (object : List ℕ) → IsRanBy (build_ending (site object)) (built_run (site object)) no_program
-  build_ran object = ran_is (MayAsk object) (built_run (site object)) no_program (build_ending (site object)) (build_is_lawful object)
+  pub build_ran : (object : List ℕ) → IsRanBy (build_ending (site object)) (built_run (site object))
+      no_program
+  build_ran object = ran_is (MayAsk object) (built_run (site object)) no_program
+      (build_ending (site object)) (build_is_lawful object)
 
-  pub build_work : (object : List ℕ) → IsWorkOf (build_ending (site object)) (built_run (site object)) no_program
-  build_work object = work_is (MayAsk object) (built_run (site object)) no_program (build_ending (site object)) (build_is_lawful object)
+  pub build_work : (object : List ℕ) → IsWorkOf (build_ending (site object))
+      (built_run (site object)) no_program
+  build_work object = work_is (MayAsk object) (built_run (site object)) no_program
+      (build_ending (site object)) (build_is_lawful object)
 
   pub check_ran : (b : Built Rest) → IsRanBy check_ending (check_run (site b.object) b) tt
-  check_ran b = ran_is (MayAsk b.object) (check_run (site b.object) b) tt check_ending (check_is_lawful b)
+  check_ran b = ran_is (MayAsk b.object) (check_run (site b.object) b) tt check_ending
+      (check_is_lawful b)
 
   pub check_work : (b : Built Rest) → IsWorkOf check_ending (check_run (site b.object) b) tt
-  check_work b = work_is (MayAsk b.object) (check_run (site b.object) b) tt check_ending (check_is_lawful b)
+  check_work b = work_is (MayAsk b.object) (check_run (site b.object) b) tt check_ending
+      (check_is_lawful b)

@@ -25,12 +25,15 @@ use Rattle.object_meaning.specs.Meanings.{meaning_of}
 some_left : (n : ℕ) → 0 < n → nat_eq n 0 ≡ false
 some_left n h = grind (arith, nat_tests)
 
-module _ (p : Place) (n : List ℕ) (names : List (List ℕ)) (o : Answers) (m : Meter) (left : nat_eq m.left 0 ≡ false) where
-  file_asked : o (File n) ≡ None → (k : Meter) × (first_present p (n ∷ names) o tt m ≡ Asks (File n) k)
+module _ (p : Place) (n : List ℕ) (names : List (List ℕ)) (o : Answers) (m : Meter)
+    (left : nat_eq m.left 0 ≡ false) where
+  file_asked : o (File n) ≡ None → (k : Meter) × (first_present p (n ∷ names) o tt m
+      ≡ Asks (File n) k)
   unfolding first_present
   file_asked new = (record { left = m.left - 1; asked = m.asked }, rw left (rw new refl))
 
-  file_missing : o (File n) ≡ Some Missing → first_present p (n ∷ names) o tt m ≡ first_present p names o tt (spent n m)
+  file_missing : o (File n) ≡ Some Missing → first_present p (n ∷ names) o tt m
+      ≡ first_present p names o tt (spent n m)
   unfolding first_present
   file_missing missing = rw left (rw missing refl)
 
@@ -45,24 +48,36 @@ module _ (site : Site) where
 
   abbrev built_by : Look (Option Present) → Run Place
   built_by look =
-      still (look >>= (λ file. on_bytes p site.object (λ f bs. or_fault (a.reading f bs)) file >>= (λ z. named_so site.object z)))
+      still (look >>= (λ file. on_bytes p site.object (λ f bs. or_fault (a.reading f bs)) file >>=
+      (λ z. named_so site.object z)))
       >>= (λ z. run_top site z >>= (λ u. give z.place))
       >>= (λ header. defaults_run >>= (λ u. give header))
 
-  built_is : built_run site ≡ built_by (cond (is_name site.object) (first_present p (candidates_of a site.object (codes ".pan"))) (give None))
+  built_is : built_run site
+      ≡ built_by (cond (is_name site.object) (first_present p
+      (candidates_of a site.object (codes ".pan"))) (give None))
   unfolding built_run object_run template_named
   built_is = refl
 
   through : GoesThrough (λ names o m. built_by (first_present p names) o no_program m)
   through = record {
-    asks = λ n names o m left new. let found = file_asked p n names o m (some_left m.left left) new in (found.0, ap (λ z. built_by (λ o s m. z) o no_program m) found.1);
-    passes = λ n names o m left missing. ap (λ z. built_by (λ o s m. z) o no_program m) (file_missing p n names o m (some_left m.left left) missing);
+    asks = λ n names o m left new. let found =
+        file_asked p n names o m (some_left m.left left) new in
+        (found.0, ap (λ z. built_by (λ o s m. z) o no_program m) found.1);
+    passes = λ n names o m left missing. ap (λ z. built_by (λ o s m. z) o no_program m)
+        (file_missing p n names o m (some_left m.left left) missing);
   }
 
-pub looks_for_template : (dirs : List (List ℕ)) (limits : Limits) → LooksForTemplates (meaning_of dirs limits) dirs
+pub looks_for_template : (dirs : List (List ℕ)) (limits : Limits)
+    → LooksForTemplates (meaning_of dirs limits) dirs
 looks_for_template dirs limits o name within =
     let site = site_at dirs limits o in
-    let named : built_run site ≡ built_by site (first_present (top_place o) (candidates o (codes ".pan") [] dirs)) = built_is site ∙ ap (λ b. built_by site (cond b (first_present (top_place o) (candidates o (codes ".pan") [] dirs)) (give None))) name in
-    subst (λ (r : Run Place). Looks (λ qs. answer_by (build_ending site) (r (answer_in qs) no_program whole)) (candidates o (codes ".pan") [] dirs) [])
+    let named : built_run site
+    ≡ built_by site (first_present (top_place o) (candidates o (codes ".pan") [] dirs)) =
+    built_is site ∙ ap (λ b. built_by site (cond b
+    (first_present (top_place o) (candidates o (codes ".pan") [] dirs)) (give None))) name in
+    subst (λ (r : Run Place). Looks (λ qs. answer_by (build_ending site)
+    (r (answer_in qs) no_program whole)) (candidates o (codes ".pan") [] dirs) [])
     (sym named)
-    (looks_through (λ names o' m. built_by site (first_present (top_place o) names) o' no_program m) (through site) (build_ending site) o (codes ".pan") dirs within)
+    (looks_through (λ names o' m. built_by site (first_present (top_place o) names) o' no_program m)
+    (through site) (build_ending site) o (codes ".pan") dirs within)

@@ -17,7 +17,8 @@ use Rattle.pan_grammar.specs.Depths.{holders}
 use Rattle.pan_grammar.specs.Waiting.{IsOne, IsElse, no_else, IsChainFrom, ReferenceGoes, FullWaits, HoleWaits, ItemWaits, NodeWaits, PrimaryWaits, Completes}
 use Rattle.pan_grammar.proofs.Complete.{down_node}
 
-high_some : {p : Place} {n : ℤ} {b : Bounds} {s : Sort} {r q : Tokens} → IsHigh p n [] b r → IsOne s r q → ⊥
+high_some : {p : Place} {n : ℤ} {b : Bounds} {s : Sort} {r q : Tokens} → IsHigh p n [] b r
+    → IsOne s r q → ⊥
 high_some exactly o = elim o [ ]
 
 range_some : {s : Sort} {b : Option Bounds} {r : Tokens} → IsRange s [] b r → ⊥
@@ -32,13 +33,16 @@ module _ (May : ℕ → Tokens → Type 0) where
   item_some (an_assign m h e y) = elim h [ ]
   item_some (a_chain {x = x} m c) = chain_some 9 x _ c
 
-  else_nil : {d : ℕ} {r : Tokens} {b : Option Item} (P : Option Item → Tokens → Type 0) → IsElse May d [] b r → P b r → P None []
+  else_nil : {d : ℕ} {r : Tokens} {b : Option Item} (P : Option Item → Tokens → Type 0)
+      → IsElse May d [] b r → P b r → P None []
   else_nil P (no_else w) p = p
 
-  tail_nil : {d l : ℕ} {a x : Node} {r : Tokens} (P : Node → Tokens → Type 0) → IsTail May d l a [] x r → P x r → P a []
+  tail_nil : {d l : ℕ} {a x : Node} {r : Tokens} (P : Node → Tokens → Type 0)
+      → IsTail May d l a [] x r → P x r → P a []
   tail_nil P tail_ends p = p
 
-  suffix_nil : {d : ℕ} {a x : Node} {r : Tokens} (P : Node → Tokens → Type 0) → IsSuffix May d a [] x r → P x r → P a []
+  suffix_nil : {d : ℕ} {a x : Node} {r : Tokens} (P : Node → Tokens → Type 0)
+      → IsSuffix May d a [] x r → P x r → P a []
   suffix_nil P suffix_ends p = p
 
   full_goes_on : (s : FullStack) (f : FullType) (z : Template) → FullWaits May s f [] z → ⊥
@@ -65,7 +69,8 @@ module _ (May : ℕ → Tokens → Type 0) where
     item_goes_on (InBlock p is s) i z w = elim w.2 [ ]
     item_goes_on (InParts (Last make) s) i z w = item_goes_on s (make i) z w
     item_goes_on (InParts (Further k next) s) i z w = elim w.3 [ ]
-    item_goes_on (InParts (MayElse make) s) i z w = item_goes_on s (make i None) z (else_nil (λ b r. ItemWaits May s (make i b) r z) w.2 w.3)
+    item_goes_on (InParts (MayElse make) s) i z w =
+        item_goes_on s (make i None) z (else_nil (λ b r. ItemWaits May s (make i b) r z) w.2 w.3)
     item_goes_on (InReference f is x s) i z w = elim w.1 [ ]
     item_goes_on (InIndex x n) i z w = elim w.3 [ ]
     item_goes_on (InParens p n) i z w = elim w.3 [ ]
@@ -74,8 +79,10 @@ module _ (May : ℕ → Tokens → Type 0) where
     node_goes_on : {l : ℕ} (n : NodeStack l) (x : Node) (z : Template) → NodeWaits May n x [] z → ⊥
     node_goes_on (Chained s) x z w = item_goes_on s (plain x) z w
     node_goes_on (Signed op p n) x z w = node_goes_on n (nodes.Unary p op x) z w
-    node_goes_on (First {l} n) x z w = node_goes_on n x z (tail_nil (λ y r. NodeWaits May n y r z) w.2 w.3)
-    node_goes_on (Operand {l} op a n) x z w = node_goes_on n (joined op a x) z (tail_nil (λ y r. NodeWaits May n y r z) w.2 w.3)
+    node_goes_on (First {l} n) x z w =
+        node_goes_on n x z (tail_nil (λ y r. NodeWaits May n y r z) w.2 w.3)
+    node_goes_on (Operand {l} op a n) x z w =
+        node_goes_on n (joined op a x) z (tail_nil (λ y r. NodeWaits May n y r z) w.2 w.3)
 
   primary_goes_on : (n : NodeStack zero) (x : Node) (z : Template) → PrimaryWaits May n x [] z → ⊥
   primary_goes_on n x z w = node_goes_on n x z (suffix_nil (λ y r. NodeWaits May n y r z) w.2 w.3)
@@ -89,14 +96,19 @@ module _ (May : ℕ → Tokens → Type 0) where
   unary_some : {d : ℕ} {x : Node} {r : Tokens} → IsUnary May d [] x r → ⊥
   unary_some (a_primary p s) = elim p [ ]
 
-  indexes_nil : {d : ℕ} {js : List Item} {r q : Tokens} → IsIndexes May d [] js r → IsOne sorts.Assign r q → ⊥
+  indexes_nil : {d : ℕ} {js : List Item} {r q : Tokens} → IsIndexes May d [] js r
+      → IsOne sorts.Assign r q → ⊥
   indexes_nil no_index h = elim h [ ]
 
-  reference_goes_on : (f : Token) (is : List Item) (x : Node) (s : ItemStack) (z : Template) → ReferenceGoes May (suc (holders s)) (λ j r. ItemWaits May s j r z) f is x [] → ⊥
+  reference_goes_on : (f : Token) (is : List Item) (x : Node) (s : ItemStack) (z : Template)
+      → ReferenceGoes May (suc (holders s)) (λ j r. ItemWaits May s j r z) f is x [] → ⊥
   reference_goes_on f is x s z w =
       elim w [
-        | inl r ↦ let h = suffix_nil (λ x1 ts1. (y : Node) × (rest : Tokens) × IsChainFrom May (suc (holders s)) 9 x1 ts1 y rest × ItemWaits May s (plain y) rest z) r.4 (r.1, r.3, r.5, r.6) in
-            node_goes_on (down 9 (Chained s)) x z (down_node May 9 (Chained s) x h.0 [] h.1 z h.2 h.3)
+        | inl r ↦ let h = suffix_nil (λ x1 ts1. (y : Node) × (rest : Tokens)
+            × IsChainFrom May (suc (holders s)) 9 x1 ts1 y rest × ItemWaits May s (plain y) rest z)
+            r.4 (r.1, r.3, r.5, r.6) in
+            node_goes_on (down 9 (Chained s)) x z (down_node May 9 (Chained s) x h.0 [] h.1 z h.2
+            h.3)
         | inr r ↦ indexes_nil r.5 r.6
       ]
 
@@ -119,8 +131,10 @@ module _ (May : ℕ → Tokens → Type 0) where
   only_done (NeedItem s) z w = absurd (item_some w.2)
   only_done (NeedUnary n) z w = absurd (unary_some w.2)
   only_done (BlockOpen p is s) z w = absurd (items_some w.2)
-  only_done (WordRead f n) z w = elim w [ inl g ↦ elim g.1 [ ] | inr g ↦ absurd (primary_goes_on n (name f) z g) ]
-  only_done (ItemWord f s) z w = elim w [ inl g ↦ elim g.1 [ ] | inr g ↦ absurd (reference_goes_on f [] (name f) s z g) ]
+  only_done (WordRead f n) z w =
+      elim w [ inl g ↦ elim g.1 [ ] | inr g ↦ absurd (primary_goes_on n (name f) z g) ]
+  only_done (ItemWord f s) z w =
+      elim w [ inl g ↦ elim g.1 [ ] | inr g ↦ absurd (reference_goes_on f [] (name f) s z g) ]
   only_done (HasReference f is x s) z w = absurd (reference_goes_on f is x s z w)
   only_done (CallOpen f n) z w = absurd (args_some w.4)
   only_done (HasItem i s) z w = absurd (item_goes_on s i z w)

@@ -15,7 +15,14 @@ use Rattle.pan_grammar.specs.States.{FullStack, StatementType, InField, Hole, St
 
 -- a token of a kind and a value
 written : TokenKind → List ℕ → Token
-written kind value = record { kind = kind; start = 0; end = 0; place = record { file = []; line = 0; column = 0 }; value = value }
+written kind value = record {
+  kind = kind;
+  start = 0;
+  end = 0;
+  place =
+      record { file = []; line = 0; column = 0 };
+  value = value;
+}
 
 pub an_int : Token
 an_int = written kinds.Int (codes "0")
@@ -141,7 +148,8 @@ sample AMark = a_colon
 sample (Closes c) = close_by c
 
 pub sample_fits : (w : Wanted) → fits w (sample w) ≡ true
-unfolding sample the_template a_name_token a_semicolon an_equals a_text_token a_word an_int an_open an_open_brace a_colon written
+unfolding sample the_template a_name_token a_semicolon an_equals a_text_token a_word an_int an_open
+    an_open_brace a_colon written
 sample_fits ATemplate = refl
 sample_fits AName = refl
 sample_fits ASemicolon = refl
@@ -205,7 +213,9 @@ fill (TextsOpen xs s) = a_close ∷ full_fill s
 fill (FieldsOpen x fs s) = a_close_brace ∷ full_fill s
 fill (HasHead a ss s) = full_fill s
 fill (NeedSigned next) = an_int ∷ fill (next (number an_int))
-fill (NeedBounds c next) = an_int ∷ close_by c ∷ fill (next (bounds an_int.place (Some (number an_int)) (Some (number an_int))))
+fill (NeedBounds c next) =
+    an_int ∷ close_by c ∷ fill
+    (next (bounds an_int.place (Some (number an_int)) (Some (number an_int))))
 fill (HasLow c p n next) = close_by c ∷ fill (next (bounds p (Some n) (Some n)))
 fill (RangeRead c p n next) = close_by c ∷ fill (next (bounds p (Some n) None))
 fill (RangeOpen c next) = close_by c ∷ fill (next None)
@@ -225,20 +235,25 @@ fill (Done z) = []
 
 full_no_else : (s : FullStack) → NotElse (full_fill s)
 unfolding full_fill
-full_no_else (StatementType h ss make) = λ e. let k : sorts.Semicolon ≡ sorts.Else = sym sort_a_semicolon ∙ e in absurd cc
-full_no_else (InField k c x fs s) = λ e. let k : sorts.CloseBrace ≡ sorts.Else = sym sort_a_close_brace ∙ e in absurd cc
+full_no_else (StatementType h ss make) = λ e. let k : sorts.Semicolon ≡ sorts.Else =
+    sym sort_a_semicolon ∙ e in absurd cc
+full_no_else (InField k c x fs s) = λ e. let k : sorts.CloseBrace ≡ sorts.Else =
+    sym sort_a_close_brace ∙ e in absurd cc
 
 hole_no_else : (o : Hole) → NotElse (hole_fill o)
 unfolding hole_fill
-hole_no_else (StatementItem h ss make) = λ e. let k : sorts.Semicolon ≡ sorts.Else = sym sort_a_semicolon ∙ e in absurd cc
+hole_no_else (StatementItem h ss make) = λ e. let k : sorts.Semicolon ≡ sorts.Else =
+    sym sort_a_semicolon ∙ e in absurd cc
 hole_no_else (AfterEquals f s) = full_no_else s
 hole_no_else (AfterWith f d s) = full_no_else s
 
 divide_no_else : (k : Divider) → sort (divide k) ≢ sorts.Else
-divide_no_else AtSemicolon e = let q : sorts.Semicolon ≡ sorts.Else = sym (divides AtSemicolon) ∙ e in absurd cc
+divide_no_else AtSemicolon e = let q : sorts.Semicolon ≡ sorts.Else =
+    sym (divides AtSemicolon) ∙ e in absurd cc
 divide_no_else AtClose e = let q : sorts.Close ≡ sorts.Else = sym (divides AtClose) ∙ e in absurd cc
 
-parts_no_else : (parts : Parts) (i : Item) (go : Item → Tokens) → ((j : Item) → NotElse (go j)) → NotElse (parts_fill parts i go)
+parts_no_else : (parts : Parts) (i : Item) (go : Item → Tokens) → ((j : Item) → NotElse (go j))
+    → NotElse (parts_fill parts i go)
 unfolding parts_fill
 parts_no_else (Last make) i go h = h (make i)
 parts_no_else (Further k next) i go h = divide_no_else k
@@ -247,9 +262,14 @@ parts_no_else (MayElse make) i go h = h (make i None)
 pub not_else : (s : ItemStack) (i : Item) → NotElse (item_fill s i)
 unfolding item_fill
 not_else (Out o) i = hole_no_else o
-not_else (InBlock p is s) i = λ e. let k : sorts.CloseBrace ≡ sorts.Else = sym sort_a_close_brace ∙ e in absurd cc
+not_else (InBlock p is s) i = λ e. let k : sorts.CloseBrace ≡ sorts.Else =
+    sym sort_a_close_brace ∙ e in absurd cc
 not_else (InParts parts s) i = parts_no_else parts i (λ j. item_fill s j) (λ j. not_else s j)
-not_else (InReference f is x s) i = λ e. let k : sorts.CloseBracket ≡ sorts.Else = sym sort_a_close_bracket ∙ e in absurd cc
-not_else (InIndex x n) i = λ e. let k : sorts.CloseBracket ≡ sorts.Else = sym sort_a_close_bracket ∙ e in absurd cc
-not_else (InParens p n) i = λ e. let k : sorts.Close ≡ sorts.Else = sym sort_a_close ∙ e in absurd cc
-not_else (InCall f is n) i = λ e. let k : sorts.Close ≡ sorts.Else = sym sort_a_close ∙ e in absurd cc
+not_else (InReference f is x s) i = λ e. let k : sorts.CloseBracket ≡ sorts.Else =
+    sym sort_a_close_bracket ∙ e in absurd cc
+not_else (InIndex x n) i = λ e. let k : sorts.CloseBracket ≡ sorts.Else =
+    sym sort_a_close_bracket ∙ e in absurd cc
+not_else (InParens p n) i = λ e. let k : sorts.Close ≡ sorts.Else = sym sort_a_close ∙ e in
+    absurd cc
+not_else (InCall f is n) i = λ e. let k : sorts.Close ≡ sorts.Else = sym sort_a_close ∙ e in
+    absurd cc

@@ -111,7 +111,8 @@ bare_not_plain sorts.Not e = refl
 bare_not_plain sorts.Flip e = refl
 bare_not_plain _ e = absurd cc
 
-pub literal_bare : (s : Sort) (t : Token) (x : Node) → literal s t ≡ Some x → (bare_start s ≡ true) × (signed s ≡ false)
+pub literal_bare : (s : Sort) (t : Token) (x : Node) → literal s t ≡ Some x → (bare_start s ≡ true)
+    × (signed s ≡ false)
 literal_bare sorts.Int t x e = (refl, refl)
 literal_bare sorts.Text t x e = (refl, refl)
 literal_bare sorts.True t x e = (refl, refl)
@@ -127,7 +128,8 @@ sign_bare sorts.Not op e = refl
 sign_bare sorts.Flip op e = refl
 sign_bare _ op e = absurd cc
 
-pub sign_no_literal : (s : Sort) (t : Token) (op : UnaryOp) → unary_of s ≡ Some op → literal s t ≡ None
+pub sign_no_literal : (s : Sort) (t : Token) (op : UnaryOp) → unary_of s ≡ Some op → literal s t
+    ≡ None
 sign_no_literal sorts.Plus t op e = refl
 sign_no_literal sorts.Minus t op e = refl
 sign_no_literal sorts.Not t op e = refl

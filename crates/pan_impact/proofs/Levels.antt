@@ -28,22 +28,27 @@ count_most f (x ∷ xs) = at (f x) (count_most f xs)
     at true le = omega (arith, le)
     at false le = omega (arith, le)
 
-counts_more : {X : Type 0} (f g : X → Bool) → ((x : X) → f x ≡ true → g x ≡ true) → (xs : List X) → count f xs ≤ count g xs
+counts_more : {X : Type 0} (f g : X → Bool) → ((x : X) → f x ≡ true → g x ≡ true) → (xs : List X)
+    → count f xs ≤ count g xs
 counts_more f g more [] = omega arith
 counts_more f g more (x ∷ xs) = at (f x) refl (g x) refl (counts_more f g more xs)
   where
-    at : (a : Bool) → f x ≡ a → (b : Bool) → g x ≡ b → count f xs ≤ count g xs → count f (x ∷ xs) ≤ count g (x ∷ xs)
+    at : (a : Bool) → f x ≡ a → (b : Bool) → g x ≡ b → count f xs ≤ count g xs
+        → count f (x ∷ xs) ≤ count g (x ∷ xs)
     at true e true h le = rw (e, h) (omega (arith, le))
     at true e false h le = absurd (let clash : true ≡ false = sym (more x e) ∙ h in cc)
     at false e true h le = rw (e, h) (omega (arith, le))
     at false e false h le = rw (e, h) (omega (arith, le))
 
 -- a test that holds of more answers alike, or counts more
-same_or_more : {X : Type 0} (f g : X → Bool) → ((x : X) → f x ≡ true → g x ≡ true) → (xs : List X) → AreSame f g xs ⊎ (count f xs + 1 ≤ count g xs)
+same_or_more : {X : Type 0} (f g : X → Bool) → ((x : X) → f x ≡ true → g x ≡ true) → (xs : List X)
+    → AreSame f g xs ⊎ (count f xs + 1 ≤ count g xs)
 same_or_more f g more [] = inl tt
 same_or_more {X} f g more (x ∷ xs) = at (f x) refl (g x) refl (same_or_more f g more xs)
   where
-    at : (a : Bool) → f x ≡ a → (b : Bool) → g x ≡ b → AreSame f g xs ⊎ (count f xs + 1 ≤ count g xs) → AreSame f g (x ∷ xs) ⊎ (count f (x ∷ xs) + 1 ≤ count g (x ∷ xs))
+    at : (a : Bool) → f x ≡ a → (b : Bool) → g x ≡ b → AreSame f g xs
+        ⊎ (count f xs + 1 ≤ count g xs) → AreSame f g (x ∷ xs)
+        ⊎ (count f (x ∷ xs) + 1 ≤ count g (x ∷ xs))
     at true e false h rest = absurd (let clash : true ≡ false = sym (more x e) ∙ h in cc)
     at false e true h rest = inr (rw (e, h) (let le = counts_more f g more xs in omega (arith, le)))
     at true e true h (inl same) = inl (h ∙ sym e, same)
@@ -51,7 +56,8 @@ same_or_more {X} f g more (x ∷ xs) = at (f x) refl (g x) refl (same_or_more f 
     at false e false h (inl same) = inl (h ∙ sym e, same)
     at false e false h (inr le) = inr (rw (e, h) (omega (arith, le)))
 
-any_same : (f g h : List ℕ → Bool) (xs : List (List ℕ)) → AreSame f g xs → list_any (λ n. h n && g n) xs ≡ list_any (λ n. h n && f n) xs
+any_same : (f g h : List ℕ → Bool) (xs : List (List ℕ)) → AreSame f g xs
+    → list_any (λ n. h n && g n) xs ≡ list_any (λ n. h n && f n) xs
 any_same f g h [] same = refl
 any_same f g h (x ∷ xs) same = ap₂ (λ a b. (h x && a) || b) same.0 (any_same f g h xs same.1)
 
@@ -76,7 +82,9 @@ module _ (starts : List ℕ → Bool) (reads : List ℕ → List ℕ → Bool) (
 
   -- .. nor do two
   still_on : (k : ℕ) → IsStill k → IsStill (suc k)
-  still_on k still = all_same (at_most (suc k)) (at_most (suc (suc k))) (λ n. ap (λ b. at_most (suc k) n || b) (any_same (at_most k) (at_most (suc k)) (reads n) names still) ∙ twice (at_most k n) _) names
+  still_on k still = all_same (at_most (suc k)) (at_most (suc (suc k)))
+      (λ n. ap (λ b. at_most (suc k) n || b) (any_same (at_most k) (at_most (suc k)) (reads n) names
+      still) ∙ twice (at_most k n) _) names
     where
       twice : (a b : Bool) → ((a || b) || b) ≡ (a || b)
       twice true b = refl
@@ -92,16 +100,22 @@ module _ (starts : List ℕ → Bool) (reads : List ℕ → List ℕ → Bool) (
       (λ still. inl (still_on k still))
       (λ (so_far : suc k ≤ count (at_most (suc k)) names). ⊎_elim
       (λ same. inl same)
-      (λ (le : count (at_most (suc k)) names + 1 ≤ count (at_most (suc (suc k))) names). inr (omega (arith, so_far, le)))
+      (λ (le : count (at_most (suc k)) names + 1 ≤ count (at_most (suc (suc k))) names). inr
+      (omega (arith, so_far, le)))
       (same_or_more (at_most (suc k)) (at_most (suc (suc k))) (up (suc k)) names))
       (still_or_more k)
 
   pub settled : IsStill (length names)
   settled = ⊎_elim
       (λ still. still)
-      (λ (le : suc (length names) ≤ count (at_most (suc (length names))) names). absurd (let most = count_most (at_most (suc (length names))) names in omega (arith, le, most)))
+      (λ (le : suc (length names) ≤ count (at_most (suc (length names))) names). absurd
+      (let most = count_most (at_most (suc (length names))) names in omega (arith, le, most)))
       (still_or_more (length names))
 
 -- rising lists of the same names are one
-pub sorted_one : (xs ys : List (List ℕ)) → IsStrictlySortedBy (slice_cmp nat_cmp) xs → IsStrictlySortedBy (slice_cmp nat_cmp) ys → ((n : List ℕ) → stands_in n xs ≡ stands_in n ys) → xs ≡ ys
-sorted_one xs ys p q same = btree_set_from_contains nat_list_cmp_total (record { keys = xs }) (record { keys = ys }) p q (λ n. found_same n xs ∙ same n ∙ sym (found_same n ys)) exact_bytes
+pub sorted_one : (xs ys : List (List ℕ)) → IsStrictlySortedBy (slice_cmp nat_cmp) xs
+    → IsStrictlySortedBy (slice_cmp nat_cmp) ys → ((n : List ℕ) → stands_in n xs ≡ stands_in n ys)
+    → xs ≡ ys
+sorted_one xs ys p q same =
+    btree_set_from_contains nat_list_cmp_total (record { keys = xs }) (record { keys = ys }) p q
+    (λ n. found_same n xs ∙ same n ∙ sym (found_same n ys)) exact_bytes

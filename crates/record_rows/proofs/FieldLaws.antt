@@ -23,11 +23,13 @@ use Rattle.record_rows.specs.Fields.{is_asked, file_text, name_text, term_of, of
 use Rattle.record_rows.proofs.Laws.{IsForm, some_is, is_nothing, is_one_of, is_number32, is_number64, is_bytes_form, is_only, is_seen_as, is_seen_where, is_pair, is_either, is_list, is_text}
 
 -- what is found passes the test
-pub find_passes : {X : Type 0} (test : X → Bool) (xs : List X) (x : X) → find test xs ≡ Some x → test x ≡ true
+pub find_passes : {X : Type 0} (test : X → Bool) (xs : List X) (x : X) → find test xs ≡ Some x
+    → test x ≡ true
 find_passes {X} test [] x e = absurd (let clash : ◌≡◌ {A = Option X} None (Some x) = e in cc)
 find_passes {X} test (y ∷ ys) x e = at (find_passes test ys x) (test y) refl e
   where
-    at : (find test ys ≡ Some x → test x ≡ true) → (b : Bool) → test y ≡ b → cond b (Some y) (find test ys) ≡ Some x → test x ≡ true
+    at : (find test ys ≡ Some x → test x ≡ true) → (b : Bool) → test y ≡ b
+        → cond b (Some y) (find test ys) ≡ Some x → test x ≡ true
     at later true is e = ap test (sym (some_is y x e)) ∙ is
     at later false is e = later e
 
@@ -40,7 +42,9 @@ pub is_name_text : IsForm name_text
 is_name_text = is_only is_name text is_text
 
 pub is_term : IsForm a_term
-is_term = is_seen_as term_of of_term _ back forth (is_either _ _ (is_only is_key text is_text) (is_only (λ i. nat_le i MAX_INDEX) number32 is_number32))
+is_term = is_seen_as term_of of_term _ back forth
+    (is_either _ _ (is_only is_key text is_text) (is_only (λ i. nat_le i MAX_INDEX) number32
+    is_number32))
   where
     back : (x : List ℕ ⊎ ℕ) → of_term (term_of x) ≡ x
     back (inl k) = refl
@@ -62,10 +66,13 @@ key_forth (File f) = refl
 key_forth (Under p ts) = refl
 
 pub is_key_form : IsForm key
-is_key_form = is_seen_as key_of of_key _ key_back key_forth (is_either _ _ is_file_text (is_pair _ _ is_name_text are_terms))
+is_key_form = is_seen_as key_of of_key _ key_back key_forth
+    (is_either _ _ is_file_text (is_pair _ _ is_name_text are_terms))
 
 pub is_whole_key : IsForm whole_key
-is_whole_key = is_seen_as key_of of_key _ key_back key_forth (is_either _ _ is_file_text (is_seen_where has_no_terms no_terms of_no_terms name_text (λ x. refl) (λ x. refl) forth is_name_text))
+is_whole_key = is_seen_as key_of of_key _ key_back key_forth
+    (is_either _ _ is_file_text (is_seen_where has_no_terms no_terms of_no_terms name_text
+    (λ x. refl) (λ x. refl) forth is_name_text))
   where
     forth : (p : List ℕ × List Term) → has_no_terms p ≡ true → no_terms (of_no_terms p) ≡ p
     forth (o, []) e = refl
@@ -77,7 +84,9 @@ is_key_in Second = is_key_form
 is_key_in Third = is_key_form
 
 pub is_item_in : (format : Format) (counter : ℕ) → IsForm (item_in format counter)
-is_item_in format counter = is_only (is_item counter) _ (is_seen_as item_of of_item _ (λ x. refl) (λ x. refl) (is_pair _ _ (is_key_in format) is_number64))
+is_item_in format counter =
+    is_only (is_item counter) _ (is_seen_as item_of of_item _ (λ x. refl) (λ x. refl)
+    (is_pair _ _ (is_key_in format) is_number64))
 
 pub is_trace_in : (format : Format) (counter : ℕ) → IsForm (trace_in format counter)
 is_trace_in format counter = is_only is_trace _ (is_list _ (is_item_in format counter))
@@ -133,16 +142,20 @@ code_found code.IncludeDepth = refl
 code_found code.FileTooLong = refl
 
 pub is_code : IsForm (one_of code_number code_by)
-is_code = is_one_of code_number code_by code_found (λ n c e. sym (eqb-true (code_number c) n (find_passes (λ d. code_number d == n) all_codes c e)))
+is_code = is_one_of code_number code_by code_found
+    (λ n c e. sym (eqb-true (code_number c) n (find_passes (λ d. code_number d == n) all_codes c
+    e)))
 
 pub is_place_number : IsForm place_number
 is_place_number = is_only (λ n. nat_lt 0 n) number32 is_number32
 
 pub is_place : IsForm place
-is_place = is_seen_as place_of of_place _ (λ x. refl) (λ p. refl) (is_pair _ _ is_file_text (is_pair _ _ is_place_number is_place_number))
+is_place = is_seen_as place_of of_place _ (λ x. refl) (λ p. refl)
+    (is_pair _ _ is_file_text (is_pair _ _ is_place_number is_place_number))
 
 pub is_fault : IsForm fault
-is_fault = is_seen_as fault_of of_fault _ (λ x. refl) (λ f. refl) (is_pair _ _ is_code (is_pair _ _ is_place (is_only is_detail text is_text)))
+is_fault = is_seen_as fault_of of_fault _ (λ x. refl) (λ f. refl)
+    (is_pair _ _ is_code (is_pair _ _ is_place (is_only is_detail text is_text)))
 
 pub is_verdict : IsForm verdict
 is_verdict = is_seen_as verdict_of of_verdict _ back forth (is_either _ _ is_nothing is_fault)
@@ -158,7 +171,9 @@ is_verdict = is_seen_as verdict_of of_verdict _ back forth (is_either _ _ is_not
 -- ---- files
 
 pub is_content : IsForm content
-is_content = is_seen_as content_of of_content _ back forth (is_either _ _ is_nothing (is_only (λ bytes. nat_le (length bytes) MAX_FILE_BYTES) bytes_form is_bytes_form))
+is_content = is_seen_as content_of of_content _ back forth
+    (is_either _ _ is_nothing (is_only (λ bytes. nat_le (length bytes) MAX_FILE_BYTES) bytes_form
+    is_bytes_form))
   where
     back : (x : Unit {0} ⊎ List ℕ) → of_content (content_of x) ≡ x
     back (inl x) = refl
@@ -176,7 +191,13 @@ format_found Second = refl
 format_found Third = refl
 
 pub is_format : IsForm (one_of format_number format_by)
-is_format = is_one_of format_number format_by format_found (λ n f e. sym (eqb-true (format_number f) n (find_passes (λ g. format_number g == n) all_formats f e)))
+is_format = is_one_of format_number format_by format_found
+    (λ n f e. sym (eqb-true (format_number f) n (find_passes (λ g. format_number g == n) all_formats
+    f e)))
 
 pub is_header : IsForm header
-is_header = is_seen_as header_of of_header _ (λ x. refl) (λ h. refl) (is_pair _ _ is_format (is_pair _ _ (is_only is_counter number64 is_number64) (is_pair _ _ (is_only (is_limit MAX_ITERATIONS) number64 is_number64) (is_pair _ _ (is_only (is_limit MAX_RECURSION) number64 is_number64) (is_only are_directories _ (is_list _ (is_only is_directory text is_text)))))))
+is_header = is_seen_as header_of of_header _ (λ x. refl) (λ h. refl)
+    (is_pair _ _ is_format (is_pair _ _ (is_only is_counter number64 is_number64)
+    (is_pair _ _ (is_only (is_limit MAX_ITERATIONS) number64 is_number64)
+    (is_pair _ _ (is_only (is_limit MAX_RECURSION) number64 is_number64)
+    (is_only are_directories _ (is_list _ (is_only is_directory text is_text)))))))

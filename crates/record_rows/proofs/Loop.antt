@@ -11,19 +11,25 @@ abbrev pub with_front : {X : Type 0} → List X → Option (List X × List ℕ) 
 with_front front read = read >>= λ x. Some (front ++ x.0, x.1)
 
 module _ {X : Type 0} (read : List ℕ → Option (X × List ℕ)) where
-  regroup : (front : List X) (n : X) (r : Option (List X × List ℕ)) → with_front front (r >>= λ x. Some (n ∷ x.0, x.1)) ≡ with_front (front ++ n ∷ []) r
+  regroup : (front : List X) (n : X) (r : Option (List X × List ℕ))
+      → with_front front (r >>= λ x. Some (n ∷ x.0, x.1)) ≡ with_front (front ++ n ∷ []) r
   regroup front n (Some x) = ap (λ (ns : List X). Some (ns, x.1)) (simp append_assoc)
   regroup front n None = refl
 
-  pub goes_on : (front : List X) (count i : ℕ) (bytes : List ℕ) (n : X) (after : List ℕ) (total : Option (List X × List ℕ)) → i < count → read bytes ≡ Some (n, after)
-      → with_front front (some_at read (count - i) bytes) ≡ total → with_front (front ++ n ∷ []) (some_at read (count - (i + 1)) after) ≡ total
+  pub goes_on : (front : List X) (count i : ℕ) (bytes : List ℕ) (n : X) (after : List ℕ)
+      (total : Option (List X × List ℕ)) → i < count → read bytes ≡ Some (n, after)
+      → with_front front (some_at read (count - i) bytes) ≡ total
+      → with_front (front ++ n ∷ []) (some_at read (count - (i + 1)) after) ≡ total
   unfolding some_at
   goes_on front count i bytes n after total lt h so_far =
       let k : count - i ≡ suc (count - (i + 1)) = omega arith in
-      let one : with_front front (some_at read (count - i) bytes) ≡ with_front (front ++ n ∷ []) (some_at read (count - (i + 1)) after) = rw (k, h) (regroup front n (some_at read (count - (i + 1)) after)) in
+      let one : with_front front (some_at read (count - i) bytes)
+      ≡ with_front (front ++ n ∷ []) (some_at read (count - (i + 1)) after) =
+      rw (k, h) (regroup front n (some_at read (count - (i + 1)) after)) in
       sym one ∙ so_far
 
-  pub ends : (e : RowsError) (front : List X) (count i : ℕ) (bytes : List ℕ) (total : Option (List X × List ℕ)) → i < count → Fails e (read bytes)
+  pub ends : (e : RowsError) (front : List X) (count i : ℕ) (bytes : List ℕ)
+      (total : Option (List X × List ℕ)) → i < count → Fails e (read bytes)
       → with_front front (some_at read (count - i) bytes) ≡ total → Fails e total
   unfolding some_at
   ends errors.Memory front count i bytes total lt h so_far = tt
@@ -32,9 +38,12 @@ module _ {X : Type 0} (read : List ℕ → Option (X × List ℕ)) where
       let one : with_front front (some_at read (count - i) bytes) ≡ None = rw (k, h) refl in
       sym so_far ∙ one
 
-  pub is_done : (front : List X) (count i : ℕ) (bytes : List ℕ) (total : Option (List X × List ℕ)) → count ≤ i → with_front front (some_at read (count - i) bytes) ≡ total → total ≡ Some (front, bytes)
+  pub is_done : (front : List X) (count i : ℕ) (bytes : List ℕ) (total : Option (List X × List ℕ))
+      → count ≤ i → with_front front (some_at read (count - i) bytes) ≡ total → total
+      ≡ Some (front, bytes)
   unfolding some_at
   is_done front count i bytes total le so_far =
       let k : count - i ≡ 0 = omega arith in
-      let one : with_front front (some_at read (count - i) bytes) ≡ Some (front, bytes) = rw k (ap (λ (ns : List X). Some (ns, bytes)) (append-nil front)) in
+      let one : with_front front (some_at read (count - i) bytes) ≡ Some (front, bytes) =
+      rw k (ap (λ (ns : List X). Some (ns, bytes)) (append-nil front)) in
       sym so_far ∙ one

@@ -25,7 +25,8 @@ pub some_rest : (rest : List ℕ) → (length rest == 0) ≡ false → rest ≡ 
 some_rest rest e is = let clash : true ≡ false = sym (ap (λ r. length r == 0) is) ∙ e in cc
 
 -- an object's parts, one behind the other
-pub record ObjectRead (format : Format) (counter : ℕ) (bytes : List ℕ) (p : ObjectParts) (rest : List ℕ) : Type 0 where
+pub record ObjectRead (format : Format) (counter : ℕ) (bytes : List ℕ) (p : ObjectParts)
+    (rest : List ℕ) : Type 0 where
   pub r1 : List ℕ
   pub r2 : List ℕ
   pub r3 : List ℕ
@@ -36,21 +37,33 @@ pub record ObjectRead (format : Format) (counter : ℕ) (bytes : List ℕ) (p : 
   pub verdict_is : verdict.read r3 ≡ Some (p.verdict, r4)
   pub check_reads : (trace_in format counter).read r4 ≡ Some (p.check_reads, rest)
 
-object_read : (format : Format) (counter : ℕ) (bytes : List ℕ) (p : ObjectParts) (rest : List ℕ) → ObjectRead format counter bytes p rest → (object_parts format counter).read bytes ≡ if_passes (are_object_parts counter) (p, rest)
-object_read format counter bytes p rest o = rw (o.number, o.built_is, o.build_reads, o.verdict_is, o.check_reads) refl
+object_read : (format : Format) (counter : ℕ) (bytes : List ℕ) (p : ObjectParts) (rest : List ℕ)
+    → ObjectRead format counter bytes p rest → (object_parts format counter).read bytes
+    ≡ if_passes (are_object_parts counter) (p, rest)
+object_read format counter bytes p rest o =
+    rw (o.number, o.built_is, o.build_reads, o.verdict_is, o.check_reads) refl
 
-pub object_done : (format : Format) (counter : ℕ) (name bytes : List ℕ) (p : ObjectParts) (rest : List ℕ) → ObjectRead format counter bytes p rest → are_object_parts counter p ≡ true → rest ≡ [] → object_by format counter name bytes ≡ Some (object_with name p)
+pub object_done : (format : Format) (counter : ℕ) (name bytes : List ℕ) (p : ObjectParts)
+    (rest : List ℕ) → ObjectRead format counter bytes p rest → are_object_parts counter p ≡ true
+    → rest ≡ [] → object_by format counter name bytes ≡ Some (object_with name p)
 object_done format counter name bytes p rest o parts e =
-    ap (λ r. (r >>= if_ended) >>= λ q. Some (object_with name q)) (object_read format counter bytes p rest o ∙ ap (λ b. cond b (Some (p, rest)) None) parts)
+    ap (λ r. (r >>= if_ended) >>= λ q. Some (object_with name q))
+    (object_read format counter bytes p rest o ∙ ap (λ b. cond b (Some (p, rest)) None) parts)
     ∙ ap (λ r. r >>= λ q. Some (object_with name q)) (ended p rest e)
 
-pub object_bad : (format : Format) (counter : ℕ) (name bytes : List ℕ) (p : ObjectParts) (rest : List ℕ) → ObjectRead format counter bytes p rest → are_object_parts counter p ≡ false → object_by format counter name bytes ≡ None
+pub object_bad : (format : Format) (counter : ℕ) (name bytes : List ℕ) (p : ObjectParts)
+    (rest : List ℕ) → ObjectRead format counter bytes p rest → are_object_parts counter p ≡ false
+    → object_by format counter name bytes ≡ None
 object_bad format counter name bytes p rest o parts =
-    ap (λ r. (r >>= if_ended) >>= λ q. Some (object_with name q)) (object_read format counter bytes p rest o ∙ ap (λ b. cond b (Some (p, rest)) None) parts)
+    ap (λ r. (r >>= if_ended) >>= λ q. Some (object_with name q))
+    (object_read format counter bytes p rest o ∙ ap (λ b. cond b (Some (p, rest)) None) parts)
 
-pub object_long : (format : Format) (counter : ℕ) (name bytes : List ℕ) (p : ObjectParts) (rest : List ℕ) → ObjectRead format counter bytes p rest → are_object_parts counter p ≡ true → (rest ≡ [] → ⊥) → object_by format counter name bytes ≡ None
+pub object_long : (format : Format) (counter : ℕ) (name bytes : List ℕ) (p : ObjectParts)
+    (rest : List ℕ) → ObjectRead format counter bytes p rest → are_object_parts counter p ≡ true
+    → (rest ≡ [] → ⊥) → object_by format counter name bytes ≡ None
 object_long format counter name bytes p rest o parts e =
-    ap (λ r. (r >>= if_ended) >>= λ q. Some (object_with name q)) (object_read format counter bytes p rest o ∙ ap (λ b. cond b (Some (p, rest)) None) parts)
+    ap (λ r. (r >>= if_ended) >>= λ q. Some (object_with name q))
+    (object_read format counter bytes p rest o ∙ ap (λ b. cond b (Some (p, rest)) None) parts)
     ∙ ap (λ r. r >>= λ q. Some (object_with name q)) (not_ended p rest e)
 
 -- a header's
@@ -65,11 +78,16 @@ pub record HeaderRead (bytes : List ℕ) (h : Header) (rest : List ℕ) : Type 0
   pub recursion : (limit_number MAX_RECURSION).read r3 ≡ Some (h.limits.max_recursion, r4)
   pub dirs : directories.read r4 ≡ Some (h.dirs, rest)
 
-header_read : (bytes : List ℕ) (h : Header) (rest : List ℕ) → HeaderRead bytes h rest → header.read bytes ≡ Some (h, rest)
+header_read : (bytes : List ℕ) (h : Header) (rest : List ℕ) → HeaderRead bytes h rest
+    → header.read bytes ≡ Some (h, rest)
 header_read bytes h rest o = rw (o.format, o.counter, o.iterations, o.recursion, o.dirs) refl
 
-pub header_done : (bytes : List ℕ) (h : Header) (rest : List ℕ) → HeaderRead bytes h rest → rest ≡ [] → whole header bytes ≡ Some h
-header_done bytes h rest o e = ap (λ r. r >>= if_ended) (header_read bytes h rest o) ∙ ended h rest e
+pub header_done : (bytes : List ℕ) (h : Header) (rest : List ℕ) → HeaderRead bytes h rest → rest
+    ≡ [] → whole header bytes ≡ Some h
+header_done bytes h rest o e =
+    ap (λ r. r >>= if_ended) (header_read bytes h rest o) ∙ ended h rest e
 
-pub header_long : (bytes : List ℕ) (h : Header) (rest : List ℕ) → HeaderRead bytes h rest → (rest ≡ [] → ⊥) → whole header bytes ≡ None
-header_long bytes h rest o e = ap (λ r. r >>= if_ended) (header_read bytes h rest o) ∙ not_ended h rest e
+pub header_long : (bytes : List ℕ) (h : Header) (rest : List ℕ) → HeaderRead bytes h rest
+    → (rest ≡ [] → ⊥) → whole header bytes ≡ None
+header_long bytes h rest o e =
+    ap (λ r. r >>= if_ended) (header_read bytes h rest o) ∙ not_ended h rest e

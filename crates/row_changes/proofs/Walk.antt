@@ -187,7 +187,8 @@ passes_by a b olds news gone set Greater is p q =
     (passes_new b (a ∷ olds) news gone set (absent b.name (a ∷ olds) above)
     (gone_skips (a ∷ olds) b news above))
 
-pub above_first : (a : StoredRow) (rows : List StoredRow) → are_rising (map row_name (a ∷ rows)) ≡ true
+pub above_first : (a : StoredRow) (rows : List StoredRow) → are_rising (map row_name (a ∷ rows))
+    ≡ true
     → names_rise (Some a.name) rows ≡ true
 above_first a rows h = above_none (a ∷ rows) ∙ h
 

@@ -44,25 +44,45 @@ query_over filter project = record {
   offset = lit (Int (pos 0));
 }
 
-pub make_is : (command_of (understood no_schema make_text) ≡ CreateTable) × (statement_of make_text (understood no_schema make_text) ≡ make_text) × (table_defined_by make_text ≡ Ok row_table)
+pub make_is : (command_of (understood no_schema make_text) ≡ CreateTable)
+    × (statement_of make_text (understood no_schema make_text) ≡ make_text)
+    × (table_defined_by make_text ≡ Ok row_table)
 unfolding understood everything
 make_is = (refl, refl, refl)
 
 pub made_is : created no_schema row_table ≡ row_schema
 made_is = refl
 
-pub add_is : command_of (understood row_schema add_text) ≡ Insert 0 (Values (lit Null ∷ col 0 0 ∷ col 0 1 ∷ []) 3)
+pub add_is : command_of (understood row_schema add_text)
+    ≡ Insert 0 (Values (lit Null ∷ col 0 0 ∷ col 0 1 ∷ []) 3)
 unfolding understood everything
 add_is = refl
 
-pub ids_is : (command_of (understood row_schema ids_text) ≡ Select (record { lets = []; body = record (query_over [] (col 1 0 ∷ [])) { order = (col 1 0, ascending Binary) ∷ [] } }) (codes "rowid" ∷ [])) × (reads_listing row_schema ids_text ≡ false)
+pub ids_is : (command_of (understood row_schema ids_text)
+    ≡ Select (record {
+      lets = [];
+      body =
+          record (query_over [] (col 1 0 ∷ [])) { order = (col 1 0, ascending Binary) ∷ [] };
+    })
+    (codes "rowid" ∷ [])) × (reads_listing row_schema ids_text ≡ false)
 unfolding understood everything
 ids_is = (refl, refl)
 
-pub drop_is : command_of (understood row_schema drop_text) ≡ Delete 0 (record { lets = []; body = query_over (op2 (Compare Eq Binary) (col 1 1) (col 0 0) ∷ []) (col 1 0 ∷ []) })
+pub drop_is : command_of (understood row_schema drop_text)
+    ≡ Delete 0 (record {
+      lets = [];
+      body =
+          query_over (op2 (Compare Eq Binary) (col 1 1) (col 0 0) ∷ []) (col 1 0 ∷ []);
+    })
 unfolding understood everything
 drop_is = refl
 
-pub all_is : (command_of (understood row_schema all_text) ≡ Select (record { lets = []; body = record (query_over [] (col 1 1 ∷ col 1 2 ∷ [])) { order = (col 1 1, ascending Binary) ∷ [] } }) (codes "name" ∷ codes "bytes" ∷ [])) × (reads_listing row_schema all_text ≡ false)
+pub all_is : (command_of (understood row_schema all_text)
+    ≡ Select (record {
+      lets = [];
+      body =
+          record (query_over [] (col 1 1 ∷ col 1 2 ∷ [])) { order = (col 1 1, ascending Binary) ∷ [] };
+    })
+    (codes "name" ∷ codes "bytes" ∷ [])) × (reads_listing row_schema all_text ≡ false)
 unfolding understood everything
 all_is = (refl, refl)

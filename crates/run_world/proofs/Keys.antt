@@ -13,11 +13,15 @@ or_false true = refl
 or_false false = refl
 
 -- a key among those of a list with one item more
-among_more : (k : Key) (items : List Item) (x : Item) → is_among k (keys_in (items ++ x ∷ [])) ≡ (is_among k (keys_in items) || key_eq x.key k)
+among_more : (k : Key) (items : List Item) (x : Item) → is_among k (keys_in (items ++ x ∷ []))
+    ≡ (is_among k (keys_in items) || key_eq x.key k)
 among_more k [] x = or_false (key_eq x.key k)
 among_more k (i ∷ items) x = at (key_eq i.key k) (among_more k items x)
   where
-    at : (b : Bool) → is_among k (keys_in (items ++ x ∷ [])) ≡ (is_among k (keys_in items) || key_eq x.key k) → (b || is_among k (keys_in (items ++ x ∷ []))) ≡ ((b || is_among k (keys_in items)) || key_eq x.key k)
+    at : (b : Bool) → is_among k (keys_in (items ++ x ∷ []))
+        ≡ (is_among k (keys_in items) || key_eq x.key k)
+        → (b || is_among k (keys_in (items ++ x ∷ [])))
+        ≡ ((b || is_among k (keys_in items)) || key_eq x.key k)
     at true e = refl
     at false e = e
 
@@ -27,9 +31,12 @@ either_way true false = refl
 either_way false true = refl
 either_way false false = refl
 
-pub noted_key : {S : Type 0} → (old new : HashSet Key S) (items : List Item) (key : Key) (number : ℕ) → HasKeys old items →
-    ((k : Key) → contains key_eq new k ≡ cond (key_eq key k) true (contains key_eq old k)) → HasKeys new (items ++ item_of key number ∷ [])
+pub noted_key : {S : Type 0} → (old new : HashSet Key S) (items : List Item) (key : Key)
+    (number : ℕ) → HasKeys old items →
+    ((k : Key) → contains key_eq new k ≡ cond (key_eq key k) true (contains key_eq old k))
+    → HasKeys new (items ++ item_of key number ∷ [])
 noted_key old new items key number h added k =
-    added k ∙ either_way (key_eq key k) (contains key_eq old k) ∙ ap (λ b. b || key_eq key k) (h k) ∙ sym (among_more k items (item_of key number))
+    added k ∙ either_way (key_eq key k) (contains key_eq old k) ∙ ap (λ b. b || key_eq key k) (h k)
+    ∙ sym (among_more k items (item_of key number))
 
 pub ruleset noted = (noted_key)

@@ -30,17 +30,20 @@ IsNoReturn z = Unit {0}
 pub record Stays {S X : Type 0} (r : Run S X) : Type 0 where
   pub ends : (o : Answers) (s : S) (m : Meter) → IsNoReturn (r o s m)
 
-then_stays : {S X Y : Type 0} → (z : Outcome S X) (f : X → S → Meter → Outcome S Y) → ((x : X) (s : S) (m : Meter) → IsNoReturn (f x s m)) → IsNoReturn z → IsNoReturn (then z f)
+then_stays : {S X Y : Type 0} → (z : Outcome S X) (f : X → S → Meter → Outcome S Y)
+    → ((x : X) (s : S) (m : Meter) → IsNoReturn (f x s m)) → IsNoReturn z → IsNoReturn (then z f)
 then_stays (Done x s m) f h e = h x s m
 then_stays (Returned t s m) f h e = absurd e
 then_stays (Failed d m) f h e = tt
 then_stays (Asks k m) f h e = tt
 
-stepped_stays : {S : Type 0} → (b : Bool) (p : Place) (s : S) (m : Meter) → IsNoReturn (stepped b p s m)
+stepped_stays : {S : Type 0} → (b : Bool) (p : Place) (s : S) (m : Meter)
+    → IsNoReturn (stepped b p s m)
 stepped_stays true p s m = tt
 stepped_stays false p s m = tt
 
-answered_stays : {S : Type 0} → (a : Option Content) (k : Key) (s : S) (m : Meter) → IsNoReturn (answered a k s m)
+answered_stays : {S : Type 0} → (a : Option Content) (k : Key) (s : S) (m : Meter)
+    → IsNoReturn (answered a k s m)
 answered_stays None k s m = tt
 answered_stays (Some c) k s m = tt
 
@@ -61,8 +64,12 @@ module _ {S : Type 0} where
   cond_stays true r r' h k = h
   cond_stays false r r' h k = k
 
-  bind_stays : {X Y : Type 0} → (r : Run S X) (f : X → Run S Y) → Stays r → ((x : X) → Stays (f x)) → Stays (r >>= f)
-  bind_stays r f a b = record { ends = λ o s m. then_stays (r o s m) (λ x. f x o) (λ x. (b x).ends o) (a.ends o s m) }
+  bind_stays : {X Y : Type 0} → (r : Run S X) (f : X → Run S Y) → Stays r → ((x : X) → Stays (f x))
+      → Stays (r >>= f)
+  bind_stays r f a b = record {
+    ends =
+        λ o s m. then_stays (r o s m) (λ x. f x o) (λ x. (b x).ends o) (a.ends o s m);
+  }
 
   step_stays : (p : Place) → Stays {S = S} (step p)
   step_stays p = record { ends = λ o s m. stepped_stays (nat_eq m.left 0) p s m }
@@ -70,12 +77,14 @@ module _ {S : Type 0} where
   ask_stays : (k : Key) → Stays {S = S} (ask k)
   ask_stays k = record { ends = λ o s m. answered_stays (o k) k s m }
 
-scoped_stays : {S T : Type 0} → (inner : S → T) (outer : S → T → S) (r : Run T Plain) → Stays (scoped inner outer r)
+scoped_stays : {S T : Type 0} → (inner : S → T) (outer : S → T → S) (r : Run T Plain)
+    → Stays (scoped inner outer r)
 scoped_stays inner outer r = record { ends = λ o s m. ended_stays (outer s) (r o (inner s) m) }
 
 -- what a check takes of the language
 
-pub dml_stays : {S : Type 0} → (go : Opens) (a : Around) (fixed : Bool) (v : Plain) (i : Item) → Stays {S = S} (dml_run go a fixed v i)
+pub dml_stays : {S : Type 0} → (go : Opens) (a : Around) (fixed : Bool) (v : Plain) (i : Item)
+    → Stays {S = S} (dml_run go a fixed v i)
 unfolding dml_run
 dml_stays go a fixed v i = search scoped_stays
 
@@ -88,7 +97,8 @@ under_stays p o content.NoValue = search runs
 under_stays p o (content.Value t) = search runs
 under_stays p o _ = search runs
 
-pub look_stays : (a : Around) (p : Place) (t : List ℕ) (from : Anchor) (ms : List Term) → Stays (look_at a p t from ms)
+pub look_stays : (a : Around) (p : Place) (t : List ℕ) (from : Anchor) (ms : List Term)
+    → Stays (look_at a p t from ms)
 look_stays a p t anchor.Absolute ms = search runs
 look_stays a p t anchor.Relative ms = search runs
 look_stays a p t (anchor.External o) ms = search (runs, under_stays)
@@ -99,13 +109,15 @@ pub record StayingMeans (e : Means) : Type 0 where
   pub dml : (template : List ℕ) (i : Item) (v : Plain) → Stays (e.dml template i v)
   pub look : (p : Place) (path : Path) → Stays (e.look p path)
 
-test_stays : (e : Means) → StayingMeans e → (template : List ℕ) (i : Item) (v : Plain) → Stays (e.dml template i v)
+test_stays : (e : Means) → StayingMeans e → (template : List ℕ) (i : Item) (v : Plain)
+    → Stays (e.dml template i v)
 test_stays e h = h.dml
 
 there_stays : (e : Means) → StayingMeans e → (p : Place) (path : Path) → Stays (e.look p path)
 there_stays e h = h.look
 
-unless_stays : {X Y : Type 0} → (f : X → Checks Y) (x : Result X Refusal) → ((y : X) → Stays (f y)) → Stays (unless_refused f x)
+unless_stays : {X Y : Type 0} → (f : X → Checks Y) (x : Result X Refusal) → ((y : X) → Stays (f y))
+    → Stays (unless_refused f x)
 unless_stays f (Ok y) h = h y
 unless_stays f (Err r) h = give_stays (Err r)
 
@@ -120,7 +132,8 @@ truth_stays p (Some b) = search runs
 ruleset pieces = (runs, unless_stays, test_stays, there_stays, refuse_stays, truth_stays)
 
 module _ (e : Means) (h : StayingMeans e) where
-  condition_stays : (p : Place) (c : Option Item) (template : List ℕ) (v : Plain) → Stays (condition_run e p c template v)
+  condition_stays : (p : Place) (c : Option Item) (template : List ℕ) (v : Plain)
+      → Stays (condition_run e p c template v)
   unfolding condition_run
   condition_stays p None template v = search pieces
   condition_stays p (Some i) template v = search pieces
@@ -130,17 +143,20 @@ module _ (e : Means) (h : StayingMeans e) where
   target_stays p None = search pieces
   target_stays p (Some path) = search pieces
 
-  items_stay : (f : Plain → Checks (Unit {0})) → ((v : Plain) → Stays (f v)) → (i : ℕ) (ts : Items) → Stays (items_run f i ts)
+  items_stay : (f : Plain → Checks (Unit {0})) → ((v : Plain) → Stays (f v)) → (i : ℕ) (ts : Items)
+      → Stays (items_run f i ts)
   unfolding items_run
   items_stay f k i no_items = search pieces
   items_stay f k i (item t ts) = let next = items_stay f k (i + 1) ts in search pieces
 
-  values_stay : (f : Plain → Checks (Unit {0})) → ((v : Plain) → Stays (f v)) → (fs : Values) → Stays (values_run f fs)
+  values_stay : (f : Plain → Checks (Unit {0})) → ((v : Plain) → Stays (f v)) → (fs : Values)
+      → Stays (values_run f fs)
   unfolding values_run
   values_stay f k no_fields = search pieces
   values_stay f k (field l t fs) = let next = values_stay f k fs in search pieces
 
-  field_stays : (f : Plain → Checks (Unit {0})) → ((v : Plain) → Stays (f v)) → (k : List ℕ) (required : Bool) (v : Option Plain) → Stays (field_run k required f v)
+  field_stays : (f : Plain → Checks (Unit {0})) → ((v : Plain) → Stays (f v))
+      → (k : List ℕ) (required : Bool) (v : Option Plain) → Stays (field_run k required f v)
   unfolding field_run
   field_stays f g k required None = search pieces
   field_stays f g k required (Some v) = search pieces
@@ -188,7 +204,8 @@ module _ (e : Means) (h : StayingMeans e) where
   undef_stays header None = search pieces
   undef_stays header (Some ms) = search pieces
 
-  placed_stays : {X : Type 0} → (p : Place) (ms : List Term) (x : Result X Refusal) → Stays (placed p ms x)
+  placed_stays : {X : Type 0} → (p : Place) (ms : List Term) (x : Result X Refusal)
+      → Stays (placed p ms x)
   placed_stays p ms (Ok x) = search pieces
   placed_stays p ms (Err r) = search pieces
 
@@ -212,6 +229,7 @@ module _ (e : Means) (h : StayingMeans e) where
   valids_stay root [] = search pieces
   valids_stay root (s ∷ ss) = let next = valids_stay root ss in search (pieces, valid_stays)
 
-  pub checked_stays : (header : Place) (root : Plain) (bounds : List Bound) (valids : List Valid) → Stays (checked e header root bounds valids)
+  pub checked_stays : (header : Place) (root : Plain) (bounds : List Bound) (valids : List Valid)
+      → Stays (checked e header root bounds valids)
   unfolding checked
   checked_stays header root bounds valids = search (pieces, undef_stays, bounds_stay, valids_stay)

@@ -20,12 +20,14 @@ use Rattle.sound_profiles.proofs.SteadyCreate.{create_steady}
 
 -- lists of items, and references
 
-block_steady : (go : Means) → SteadyMeans go → (a : Around) (is : Items) (last : Plain) → Steady (block_from go a is last)
+block_steady : (go : Means) → SteadyMeans go → (a : Around) (is : Items) (last : Plain)
+    → Steady (block_from go a is last)
 unfolding block_from
 block_steady go h a none last = search pieces
 block_steady go h a (more i is) last = let next = block_steady go h a is in search pieces
 
-values_steady : (go : Means) → SteadyMeans go → (a : Around) (is : Items) (done : List Plain) → Steady (values_from go a is done)
+values_steady : (go : Means) → SteadyMeans go → (a : Around) (is : Items) (done : List Plain)
+    → Steady (values_from go a is done)
 unfolding values_from
 values_steady go h a none done = search pieces
 values_steady go h a (more i is) done = let next = values_steady go h a is in search pieces
@@ -33,12 +35,16 @@ values_steady go h a (more i is) done = let next = values_steady go h a is in se
 index_step_steady : (p : Place) (t : Option Plain) (k : Plain) → Steady (index_step p t k)
 index_step_steady p t k = search pieces
 
-reach_from_steady : (all : Bool) (go : Means) → SteadyMeans go → (a : Around) (p : Place) (is : Items) (ks : List Plain) (t : Option Plain) → Steady (reach_from all go a p is ks t)
+reach_from_steady : (all : Bool) (go : Means) → SteadyMeans go
+    → (a : Around) (p : Place) (is : Items) (ks : List Plain) (t : Option Plain)
+    → Steady (reach_from all go a p is ks t)
 unfolding reach_from
 reach_from_steady all go h a p none ks t = search pieces
-reach_from_steady all go h a p (more i is) ks t = let next = reach_from_steady all go h a p is in search (pieces, index_step_steady)
+reach_from_steady all go h a p (more i is) ks t = let next = reach_from_steady all go h a p is in
+    search (pieces, index_step_steady)
 
-start_steady : (a : Around) (w : Purpose) (x : List ℕ) (whole : Bool) → Steady (start_run a w x whole)
+start_steady : (a : Around) (w : Purpose) (x : List ℕ) (whole : Bool)
+    → Steady (start_run a w x whole)
 start_steady a ToRead x whole = search pieces
 start_steady a ToChange x whole = search pieces
 start_steady a (ToDelete q) x whole = search (pieces, may_change_steady, about_steady)
@@ -46,23 +52,28 @@ start_steady a (ToDelete q) x whole = search (pieces, may_change_steady, about_s
 started_steady : (a : Around) (w : Purpose) (r : Reference) → Steady (started a w r)
 started_steady a w (Refer p x is) = search (pieces, start_steady)
 
-reach_steady : (go : Means) → SteadyMeans go → (a : Around) (w : Purpose) (r : Reference) → Steady (reach_run go a w r)
+reach_steady : (go : Means) → SteadyMeans go → (a : Around) (w : Purpose) (r : Reference)
+    → Steady (reach_run go a w r)
 unfolding reach_run
 reach_steady go h a u (Refer p x is) = search (pieces, started_steady, reach_from_steady)
 
 -- loops
 
-condition_steady : (go : Means) → SteadyMeans go → (a : Around) (c : Item) → Steady (condition_run go a c)
+condition_steady : (go : Means) → SteadyMeans go → (a : Around) (c : Item)
+    → Steady (condition_run go a c)
 unfolding condition_run
 condition_steady go h a c = search (pieces, boolean_steady)
 
-choose_steady : (go : Means) → SteadyMeans go → (a : Around) (c : Item) (first second : Run Plain) → Steady first → Steady second → Steady (choose go a c first second)
+choose_steady : (go : Means) → SteadyMeans go → (a : Around) (c : Item) (first second : Run Plain)
+    → Steady first → Steady second → Steady (choose go a c first second)
 choose_steady go h a c first second k l = search (pieces, condition_steady)
 
-body_turn_steady : (n : ℕ) (p : Place) (body : Run Plain) → Steady body → Steady (body_turn n p body)
+body_turn_steady : (n : ℕ) (p : Place) (body : Run Plain) → Steady body
+    → Steady (body_turn n p body)
 body_turn_steady n p body h = search pieces
 
-while_turn_steady : (n : ℕ) (go : Means) → SteadyMeans go → (a : Around) (p : Place) (c b : Item) → Steady (while_turn n go a p c b)
+while_turn_steady : (n : ℕ) (go : Means) → SteadyMeans go → (a : Around) (p : Place) (c b : Item)
+    → Steady (while_turn n go a p c b)
 unfolding while_turn
 while_turn_steady n go h a p c b = search (pieces, condition_steady, body_turn_steady)
 
@@ -70,34 +81,47 @@ and_step_steady : (step : Run Plain) (t : Option Plain) → Steady step → Stea
 and_step_steady step None h = search pieces
 and_step_steady step (Some t) h = search pieces
 
-for_turn_steady : (n : ℕ) (go : Means) → SteadyMeans go → (a : Around) (p : Place) (c s b : Item) → Steady (for_turn n go a p c s b)
+for_turn_steady : (n : ℕ) (go : Means) → SteadyMeans go → (a : Around) (p : Place) (c s b : Item)
+    → Steady (for_turn n go a p c s b)
 unfolding for_turn
 for_turn_steady n go h a p c s b = search (pieces, while_turn_steady, and_step_steady)
 
-after_steady : (next : Plain → Run Plain) (last : Plain) (t : Option Plain) → ((t : Plain) → Steady (next t)) → Steady (after_turn next last t)
+after_steady : (next : Plain → Run Plain) (last : Plain) (t : Option Plain)
+    → ((t : Plain) → Steady (next t)) → Steady (after_turn next last t)
 after_steady next last None h = search pieces
 after_steady next last (Some t) h = h t
 
-while_steady : (n : ℕ) (go : Means) → SteadyMeans go → (a : Around) (p : Place) (c b : Item) (last : Plain) → Steady (while_turns n go a p c b last)
+while_steady : (n : ℕ) (go : Means) → SteadyMeans go
+    → (a : Around) (p : Place) (c b : Item) (last : Plain) → Steady (while_turns n go a p c b last)
 unfolding while_turns
 while_steady zero go h a p c b last = search (pieces, while_turn_steady, after_steady)
-while_steady (suc n) go h a p c b last = let next = while_steady n go h a p c b in search (pieces, while_turn_steady, after_steady)
+while_steady (suc n) go h a p c b last = let next = while_steady n go h a p c b in
+    search (pieces, while_turn_steady, after_steady)
 
-for_steady : (n : ℕ) (go : Means) → SteadyMeans go → (a : Around) (p : Place) (c s b : Item) (last : Plain) → Steady (for_turns n go a p c s b last)
+for_steady : (n : ℕ) (go : Means) → SteadyMeans go
+    → (a : Around) (p : Place) (c s b : Item) (last : Plain)
+    → Steady (for_turns n go a p c s b last)
 unfolding for_turns
 for_steady zero go h a p c s b last = search (pieces, for_turn_steady, after_steady)
-for_steady (suc n) go h a p c s b last = let next = for_steady n go h a p c s b in search (pieces, for_turn_steady, after_steady)
+for_steady (suc n) go h a p c s b last = let next = for_steady n go h a p c s b in
+    search (pieces, for_turn_steady, after_steady)
 
-pair_turn_steady : (n : ℕ) (go : Means) → SteadyMeans go → (a : Around) (p : Place) (k v : List ℕ) (b : Item) (pair : Plain × Plain) → Steady (pair_turn n go a p k v b pair)
+pair_turn_steady : (n : ℕ) (go : Means) → SteadyMeans go
+    → (a : Around) (p : Place) (k v : List ℕ) (b : Item) (pair : Plain × Plain)
+    → Steady (pair_turn n go a p k v b pair)
 unfolding pair_turn
 pair_turn_steady n go h a p k v b pair = search (pieces, body_turn_steady, set_pair_steady)
 
-pairs_steady : (n : ℕ) (go : Means) → SteadyMeans go → (a : Around) (p : Place) (k v : List ℕ) (b : Item) (pairs : List (Plain × Plain)) (last : Plain) → Steady (pair_turns n go a p k v b pairs last)
+pairs_steady : (n : ℕ) (go : Means) → SteadyMeans go
+    → (a : Around) (p : Place) (k v : List ℕ) (b : Item) (pairs : List (Plain × Plain))
+    (last : Plain) → Steady (pair_turns n go a p k v b pairs last)
 unfolding pair_turns
 pairs_steady n go h a p k v b [] last = search pieces
-pairs_steady n go h a p k v b (pair ∷ pairs) last = let next = pairs_steady (n - 1) go h a p k v b pairs in search (pieces, pair_turn_steady)
+pairs_steady n go h a p k v b (pair ∷ pairs) last = let next =
+    pairs_steady (n - 1) go h a p k v b pairs in search (pieces, pair_turn_steady)
 
-each_steady : (go : Means) → SteadyMeans go → (a : Around) (p : Place) (k v : List ℕ) (b : Item) (t : Plain) → Steady (each_of go a p k v b t)
+each_steady : (go : Means) → SteadyMeans go → (a : Around) (p : Place) (k v : List ℕ) (b : Item)
+    (t : Plain) → Steady (each_of go a p k v b t)
 unfolding each_of
 each_steady go h a p k v b t = search (pieces, pairs_steady)
 
@@ -107,7 +131,9 @@ body_steady : (go : Means) → SteadyMeans go → (a : Around) (b : Item) → St
 unfolding body_run
 body_steady go h a b = search (pieces, steady_scoped)
 
-function_steady : (go : Means) → SteadyMeans go → (a : Around) (p : Place) (f : List ℕ) (args : Items) (b : Option Item) → Steady (function_run go a p f args b)
+function_steady : (go : Means) → SteadyMeans go
+    → (a : Around) (p : Place) (f : List ℕ) (args : Items) (b : Option Item)
+    → Steady (function_run go a p f args b)
 unfolding function_run
 function_steady go h a p f args None = search pieces
 function_steady go h a p f args (Some b) =
@@ -147,7 +173,8 @@ unfolding text_run
 text_run_steady a p own.Value t = search (pieces, steady_still, look_steady, found_steady)
 text_run_steady a p own.PathExists t = exists_steady a p t
 text_run_steady a p own.IfExists t = search (pieces, steady_still, looked_up_steady)
-text_run_steady a p own.FileContents t = search (pieces, steady_still, looked_up_steady, bytes_steady, file_text_steady)
+text_run_steady a p own.FileContents t =
+    search (pieces, steady_still, looked_up_steady, bytes_steady, file_text_steady)
 text_run_steady a p own.FileExists t = search (pieces, steady_still, looked_up_steady)
 text_run_steady a p own.Error t = search pieces
 text_run_steady a p _ t = search pieces
@@ -162,43 +189,56 @@ own_steady a p _ _ = search pieces
 
 -- those that take references
 
-argument_steady : (go : Means) → SteadyMeans go → (a : Around) (i : Item) (r : Option Reference) → Steady (value_or_nothing go a i r)
+argument_steady : (go : Means) → SteadyMeans go → (a : Around) (i : Item) (r : Option Reference)
+    → Steady (value_or_nothing go a i r)
 argument_steady go h a i (Some r) = search pieces
 argument_steady go h a i None = search pieces
 
-test_steady : (go : Means) → SteadyMeans go → (a : Around) (q : Test) (i : Item) → Steady (test_run go a q i)
+test_steady : (go : Means) → SteadyMeans go → (a : Around) (q : Test) (i : Item)
+    → Steady (test_run go a q i)
 test_steady go h a q i = search (pieces, argument_steady)
 
-exists_by_steady : (go : Means) → SteadyMeans go → (a : Around) (p : Place) (i : Item) (r : Option Reference) → Steady (exists_by go a p i r)
+exists_by_steady : (go : Means) → SteadyMeans go
+    → (a : Around) (p : Place) (i : Item) (r : Option Reference) → Steady (exists_by go a p i r)
 exists_by_steady go h a p i (Some r) = search pieces
 exists_by_steady go h a p i None = search (pieces, text_steady, exists_steady)
 
-delete_steady : (go : Means) → SteadyMeans go → (a : Around) (p : Place) (i : Item) (r : Option Reference) → Steady (delete_by go a p i r)
+delete_steady : (go : Means) → SteadyMeans go
+    → (a : Around) (p : Place) (i : Item) (r : Option Reference) → Steady (delete_by go a p i r)
 delete_steady go h a p i (Some (Refer q x is)) = search pieces
 delete_steady go h a p i None = search pieces
 
-copy_steady : (go : Means) → SteadyMeans go → (a : Around) (p : Place) (s : Side) (l v : Item) → Steady (copy_extended go a p s l v)
+copy_steady : (go : Means) → SteadyMeans go → (a : Around) (p : Place) (s : Side) (l v : Item)
+    → Steady (copy_extended go a p s l v)
 copy_steady go h a p s l v = search (pieces, extend_list_steady)
 
 may_extend_steady : (a : Around) (p : Place) (x : List ℕ) → Steady (may_extend a p x)
 may_extend_steady a p x = search pieces
 
-extend_reached_steady : (a : Around) (p : Place) (s : Side) (x : List ℕ) (r : Reached) (u : Plain) → Steady (extend_reached a p s x r u)
-extend_reached_steady a p s x r u = search (pieces, list_steady, may_extend_steady, refuse_steady, change_steady) depth 10
+extend_reached_steady : (a : Around) (p : Place) (s : Side) (x : List ℕ) (r : Reached) (u : Plain)
+    → Steady (extend_reached a p s x r u)
+extend_reached_steady a p s x r u =
+    search (pieces, list_steady, may_extend_steady, refuse_steady, change_steady) depth 10
 
-reference_steady : (go : Means) → SteadyMeans go → (a : Around) (p : Place) (s : Side) (q : Place) (r : Reference) (v : Item) → Steady (reference_extended go a p s q r v)
+reference_steady : (go : Means) → SteadyMeans go
+    → (a : Around) (p : Place) (s : Side) (q : Place) (r : Reference) (v : Item)
+    → Steady (reference_extended go a p s q r v)
 reference_steady go h a p s q (Refer o x is) v = search (pieces, extend_reached_steady)
 
-extend_steady : (go : Means) → SteadyMeans go → (a : Around) (p : Place) (s : Side) (l v : Item) (r : Option Reference) → Steady (extend_by go a p s l v r)
+extend_steady : (go : Means) → SteadyMeans go
+    → (a : Around) (p : Place) (s : Side) (l v : Item) (r : Option Reference)
+    → Steady (extend_by go a p s l v r)
 extend_steady go h a p s l v None = copy_steady go h a p s l v
 extend_steady go h a p s l v (Some (Refer q x is)) = search (pieces, reference_steady, copy_steady)
 
 -- calls
 
-own_values_steady : (go : Means) → SteadyMeans go → (a : Around) (p : Place) (b : Own) (args : Items) → Steady (own_values_run go a p b args)
+own_values_steady : (go : Means) → SteadyMeans go
+    → (a : Around) (p : Place) (b : Own) (args : Items) → Steady (own_values_run go a p b args)
 own_values_steady go h a p b args = search (pieces, values_steady, own_steady)
 
-own_call_steady : (go : Means) → SteadyMeans go → (a : Around) (p : Place) (b : Own) (args : Items) → Steady (own_call_run go a p b args)
+own_call_steady : (go : Means) → SteadyMeans go → (a : Around) (p : Place) (b : Own) (args : Items)
+    → Steady (own_call_run go a p b args)
 unfolding own_call_run
 own_call_steady go h a p (own.Is q) (more i none) = search (pieces, test_steady)
 own_call_steady go h a p own.Exists (more i none) = exists_by_steady go h a p i (reference_in i)
@@ -207,16 +247,20 @@ own_call_steady go h a p (own.Extend s) (more l (more v none)) = search (pieces,
 own_call_steady go h a p own.Create args = search (pieces, values_steady, create_steady)
 own_call_steady go h a p _ _ = search own_values_steady
 
-values_run_steady : (go : Means) → SteadyMeans go → (a : Around) (p : Place) (v : ValueCall) (args : Items) → Steady (values_run go a p v args)
+values_run_steady : (go : Means) → SteadyMeans go
+    → (a : Around) (p : Place) (v : ValueCall) (args : Items) → Steady (values_run go a p v args)
 values_run_steady go h a p v args = search (pieces, values_steady, refuse_steady)
 
-call_by_steady : (go : Means) → SteadyMeans go → (a : Around) (p : Place) (f : List ℕ) (args : Items) (b : Option Own) (v : Option ValueCall) → Steady (call_by go a p f args b v)
+call_by_steady : (go : Means) → SteadyMeans go
+    → (a : Around) (p : Place) (f : List ℕ) (args : Items) (b : Option Own) (v : Option ValueCall)
+    → Steady (call_by go a p f args b v)
 unfolding call_by
 call_by_steady go h a p f args (Some b) v = own_call_steady go h a p b args
 call_by_steady go h a p f args None (Some v) = search (pieces, values_run_steady)
 call_by_steady go h a p f args None None = search (pieces, function_steady)
 
-call_steady : (go : Means) → SteadyMeans go → (a : Around) (p : Place) (f : List ℕ) (args : Items) → Steady (call_run go a p f args)
+call_steady : (go : Means) → SteadyMeans go → (a : Around) (p : Place) (f : List ℕ) (args : Items)
+    → Steady (call_run go a p f args)
 call_steady go h a p f args = search (pieces, call_by_steady)
 
 -- chains and items
@@ -225,34 +269,52 @@ node_steady : (go : Means) → SteadyMeans go → (a : Around) (n : Node) → St
 unfolding node_run
 node_steady go h a (Name p x) = name_steady a p x
 node_steady go h a (Call p f args) = call_steady go h a p f args
-node_steady go h a (Index p x i) = let left = node_steady go h a x in search (pieces, apply_index_steady)
-node_steady go h a (Binary p op x y) = let left = node_steady go h a x in let right = node_steady go h a y in search (pieces, apply_binary_steady)
-node_steady go h a (And p x y) = let left = node_steady go h a x in let right = node_steady go h a y in search (pieces, both_steady)
-node_steady go h a (Or p x y) = let left = node_steady go h a x in let right = node_steady go h a y in search (pieces, either_steady)
+node_steady go h a (Index p x i) = let left = node_steady go h a x in
+    search (pieces, apply_index_steady)
+node_steady go h a (Binary p op x y) = let left = node_steady go h a x in let right =
+    node_steady go h a y in search (pieces, apply_binary_steady)
+node_steady go h a (And p x y) = let left = node_steady go h a x in let right =
+    node_steady go h a y in search (pieces, both_steady)
+node_steady go h a (Or p x y) = let left = node_steady go h a x in let right =
+    node_steady go h a y in search (pieces, either_steady)
 node_steady go h a _ = search (pieces, literal_steady)
 
-step_steady : (go : Means) → SteadyMeans go → (a : Around) (p : Place) (t : Plain) (s : Step) → Steady (step_run go a p t s)
+step_steady : (go : Means) → SteadyMeans go → (a : Around) (p : Place) (t : Plain) (s : Step)
+    → Steady (step_run go a p t s)
 unfolding step_run
 step_steady go h a p t (AtIndex i) = search (pieces, apply_index_steady)
-step_steady go h a p t _ = search (pieces, node_steady, apply_binary_steady, both_steady, either_steady)
+step_steady go h a p t _ =
+    search (pieces, node_steady, apply_binary_steady, both_steady, either_steady)
 
-pub chain_steady : (go : Means) → SteadyMeans go → (a : Around) (p : Place) (ss : List Step) (t : Plain) → Steady (steps_run go a p ss t)
+pub chain_steady : (go : Means) → SteadyMeans go
+    → (a : Around) (p : Place) (ss : List Step) (t : Plain) → Steady (steps_run go a p ss t)
 unfolding steps_run
 chain_steady go h a p [] t = search pieces
-chain_steady go h a p (s ∷ ss) t = let next = chain_steady go h a p ss in search (pieces, step_steady)
+chain_steady go h a p (s ∷ ss) t = let next = chain_steady go h a p ss in
+    search (pieces, step_steady)
 
-set_steady : (go : Means) → SteadyMeans go → (a : Around) (p : Place) (x : List ℕ) (is : Items) (i : Item) → Steady (set_run go a p x is i)
+set_steady : (go : Means) → SteadyMeans go → (a : Around) (p : Place) (x : List ℕ) (is : Items)
+    (i : Item) → Steady (set_run go a p x is i)
 unfolding set_run
 set_steady go h a p x is i = search (pieces, values_steady, set_value_steady)
 
-assign_steady : (go : Means) → SteadyMeans go → (a : Around) (r : Reference) (i : Item) → Steady (assign_run go a r i)
+assign_steady : (go : Means) → SteadyMeans go → (a : Around) (r : Reference) (i : Item)
+    → Steady (assign_run go a r i)
 unfolding assign_run
 assign_steady go h a (Refer p x is) i = search (pieces, may_change_steady, set_steady)
 
 item_steady : (go : Means) → SteadyMeans go → (a : Around) (i : Item) → Steady (item_run go a i)
 unfolding item_run
 item_steady go h a (Chain p n) = node_steady go h a n
-item_steady go h a _ = search (pieces, block_steady, choose_steady, while_steady, for_steady, each_steady, assign_steady)
+item_steady go h a _ = search (
+  pieces,
+  block_steady,
+  choose_steady,
+  while_steady,
+  for_steady,
+  each_steady,
+  assign_steady,
+)
 
 -- items, operators before operands and references as arguments are steady, however many may be open
 pub eval_steady : (n : ℕ) → SteadyMeans (eval n)

@@ -27,13 +27,27 @@ pub record SteadyMeans (go : Means) : Type 0 where
 pub opens_steady : (go : Means) → SteadyMeans go → (a : Around) (i : Item) → Steady (go.opens a i)
 opens_steady go h = h.opens
 
-pub signs_steady : (go : Means) → SteadyMeans go → (a : Around) (p : Place) (op : UnaryOp) (x : Node) → Steady (go.signs a p op x)
+pub signs_steady : (go : Means) → SteadyMeans go
+    → (a : Around) (p : Place) (op : UnaryOp) (x : Node) → Steady (go.signs a p op x)
 signs_steady go h = h.signs
 
-pub reaches_steady : (go : Means) → SteadyMeans go → (a : Around) (w : Purpose) (p : Place) (r : Reference) → Steady (go.reaches a w p r)
+pub reaches_steady : (go : Means) → SteadyMeans go
+    → (a : Around) (w : Purpose) (p : Place) (r : Reference) → Steady (go.reaches a w p r)
 reaches_steady go h = h.reaches
 
-pub ruleset pieces = (steady_bind, steady_give, steady_return, steady_fail, steady_now, steady_become, steady_cond, steady_step, opens_steady, signs_steady, reaches_steady)
+pub ruleset pieces = (
+  steady_bind,
+  steady_give,
+  steady_return,
+  steady_fail,
+  steady_now,
+  steady_become,
+  steady_cond,
+  steady_step,
+  opens_steady,
+  signs_steady,
+  reaches_steady,
+)
 
 -- files
 
@@ -43,7 +57,8 @@ asked_steady p f = search (pieces, steady_ask)
 tried_steady : (p : Place) (f : List ℕ) → Steady (tried p f)
 tried_steady p f = search (pieces, asked_steady)
 
-next_steady : (next : Look (Option Present)) (x : Option Present) → Steady next → Steady (or_next next x)
+next_steady : (next : Look (Option Present)) (x : Option Present) → Steady next
+    → Steady (or_next next x)
 next_steady next (Some x) h = search pieces
 next_steady next None h = h
 
@@ -52,10 +67,12 @@ unfolding first_present
 first_steady p [] = search pieces
 first_steady p (f ∷ fs) = let next = first_steady p fs in search (pieces, tried_steady, next_steady)
 
-pub looked_up_steady : (a : Around) (p : Place) (holds : Bool) (name suffix : List ℕ) → Steady (looked_up a p holds name suffix)
+pub looked_up_steady : (a : Around) (p : Place) (holds : Bool) (name suffix : List ℕ)
+    → Steady (looked_up a p holds name suffix)
 looked_up_steady a p holds name suffix = search (pieces, first_steady)
 
-pub bytes_steady : {S X : Type 0} → (p : Place) (name : List ℕ) (next : List ℕ → List ℕ → Run S X) (x : Option Present) → ((f bs : List ℕ) → Steady (next f bs)) → Steady (on_bytes p name next x)
+pub bytes_steady : {S X : Type 0} → (p : Place) (name : List ℕ) (next : List ℕ → List ℕ → Run S X)
+    (x : Option Present) → ((f bs : List ℕ) → Steady (next f bs)) → Steady (on_bytes p name next x)
 bytes_steady p name next None h = search pieces
 bytes_steady p name next (Some (Long f)) h = search pieces
 bytes_steady p name next (Some (Whole f bs)) h = h f bs
@@ -72,7 +89,8 @@ of_kind_steady p name z = search pieces
 
 pub template_steady : (a : Around) (p : Place) (name : List ℕ) → Steady (template_named a p name)
 unfolding template_named
-template_steady a p name = search (pieces, looked_up_steady, bytes_steady, fault_steady, named_so_steady)
+template_steady a p name =
+    search (pieces, looked_up_steady, bytes_steady, fault_steady, named_so_steady)
 
 pub structure_steady : (a : Around) (p : Place) (name : List ℕ) → Steady (structure_named a p name)
 unfolding structure_named
@@ -87,12 +105,14 @@ under_steady p o NoValue = search pieces
 under_steady p o (Value t) = search pieces
 under_steady p o _ = search pieces
 
-pub look_at_steady : (a : Around) (p : Place) (t : List ℕ) (from : Anchor) (ms : List Term) → Steady (look_at a p t from ms)
+pub look_at_steady : (a : Around) (p : Place) (t : List ℕ) (from : Anchor) (ms : List Term)
+    → Steady (look_at a p t from ms)
 look_at_steady a p t anchor.Absolute ms = search pieces
 look_at_steady a p t anchor.Relative ms = search pieces
 look_at_steady a p t (anchor.External o) ms = search (pieces, steady_ask, under_steady)
 
-look_by_steady : (a : Around) (p : Place) (t : List ℕ) (r : Result Path PathError) → Steady (look_by a p t r)
+look_by_steady : (a : Around) (p : Place) (t : List ℕ) (r : Result Path PathError)
+    → Steady (look_by a p t r)
 look_by_steady a p t (Ok path) = look_at_steady a p t path.anchor path.terms
 look_by_steady a p t (Err e) = search pieces
 

@@ -21,19 +21,22 @@ use Rattle.sound_profiles.proofs.SteadyLeaves.{pieces}
 
 -- names
 
-pub about_steady : {X : Type 0} → (c : Code) (p : Place) (d : List ℕ) (o : Option X) → Steady (or_fail_about c p d o)
+pub about_steady : {X : Type 0} → (c : Code) (p : Place) (d : List ℕ) (o : Option X)
+    → Steady (or_fail_about c p d o)
 about_steady c p d (Some x) = search pieces
 about_steady c p d None = search pieces
 
 read_steady : (a : Around) (p : Place) (x : List ℕ) → Steady (read a p x)
 read_steady a p x = search (pieces, about_steady)
 
-change_by_steady : (a : Around) (p : Place) (x : List ℕ) (whole local : Bool) (n : Option Automatic) → Steady (may_change_by a p x whole local n)
+change_by_steady : (a : Around) (p : Place) (x : List ℕ) (whole local : Bool) (n : Option Automatic)
+    → Steady (may_change_by a p x whole local n)
 change_by_steady a p x whole local (Some automatic.OwnValue) = search pieces
 change_by_steady a p x whole local None = search pieces
 change_by_steady a p x whole local _ = search pieces
 
-pub may_change_steady : (a : Around) (p : Place) (x : List ℕ) (whole : Bool) → Steady (may_change a p x whole)
+pub may_change_steady : (a : Around) (p : Place) (x : List ℕ) (whole : Bool)
+    → Steady (may_change a p x whole)
 may_change_steady a p x whole = search (pieces, change_by_steady)
 
 -- changes
@@ -42,13 +45,16 @@ set_root_steady : (p : Place) (x : List ℕ) (r : Result Plain Code) → Steady 
 set_root_steady p x (Ok t) = search pieces
 set_root_steady p x (Err c) = search pieces
 
-pub change_steady : (p : Place) (x : List ℕ) (ks : List Plain) (v : Plain) → Steady (change p x ks v)
+pub change_steady : (p : Place) (x : List ℕ) (ks : List Plain) (v : Plain)
+    → Steady (change p x ks v)
 change_steady p x ks v = search (pieces, set_root_steady)
 
-pub assign_name_steady : (a : Around) (p : Place) (x : List ℕ) (t : Plain) → Steady (assign_name a p x t)
+pub assign_name_steady : (a : Around) (p : Place) (x : List ℕ) (t : Plain)
+    → Steady (assign_name a p x t)
 assign_name_steady a p x t = search (pieces, may_change_steady, change_steady)
 
-pub set_pair_steady : (a : Around) (p : Place) (k v : List ℕ) (pair : Plain × Plain) → Steady (set_pair a p k v pair)
+pub set_pair_steady : (a : Around) (p : Place) (k v : List ℕ) (pair : Plain × Plain)
+    → Steady (set_pair a p k v pair)
 set_pair_steady a p k v pair = search (pieces, assign_name_steady)
 
 steps_steady : (n : ℕ) (p : Place) → Steady (steps n p)
@@ -56,7 +62,8 @@ unfolding steps
 steps_steady zero p = search pieces
 steps_steady (suc n) p = let next = steps_steady n p in search pieces
 
-pub set_value_steady : (p : Place) (x : List ℕ) (ks : List Plain) (v : Plain) → Steady (set_value p x ks v)
+pub set_value_steady : (p : Place) (x : List ℕ) (ks : List Plain) (v : Plain)
+    → Steady (set_value p x ks v)
 set_value_steady p x ks v = search (pieces, steps_steady, change_steady)
 
 -- values
@@ -91,19 +98,23 @@ apply_unary_steady p op t = search (pieces, refuse_steady)
 pub apply_boolean_steady : (p : Place) (t : Plain) → Steady (apply_boolean p t)
 apply_boolean_steady p t = search (pieces, boolean_steady)
 
-pub both_steady : (p : Place) (second : Run Plain) (t : Plain) → Steady second → Steady (both p second t)
+pub both_steady : (p : Place) (second : Run Plain) (t : Plain) → Steady second
+    → Steady (both p second t)
 both_steady p second (plain.boolean true) h = search (pieces, apply_boolean_steady)
 both_steady p second t h = apply_boolean_steady p t
 
-pub either_steady : (p : Place) (second : Run Plain) (t : Plain) → Steady second → Steady (either p second t)
+pub either_steady : (p : Place) (second : Run Plain) (t : Plain) → Steady second
+    → Steady (either p second t)
 either_steady p second (plain.boolean false) h = search (pieces, apply_boolean_steady)
 either_steady p second t h = apply_boolean_steady p t
 
-text_of_steady : (p : Place) (next : List ℕ → Run Plain) (o : Option (List ℕ)) → ((t : List ℕ) → Steady (next t)) → Steady (on_text_of p next o)
+text_of_steady : (p : Place) (next : List ℕ → Run Plain) (o : Option (List ℕ))
+    → ((t : List ℕ) → Steady (next t)) → Steady (on_text_of p next o)
 text_of_steady p next (Some t) h = h t
 text_of_steady p next None h = search pieces
 
-pub text_steady : (p : Place) (next : List ℕ → Run Plain) (v : Plain) → ((t : List ℕ) → Steady (next t)) → Steady (on_text p next v)
+pub text_steady : (p : Place) (next : List ℕ → Run Plain) (v : Plain)
+    → ((t : List ℕ) → Steady (next t)) → Steady (on_text p next v)
 text_steady p next v h = text_of_steady p next (text_of v) h
 
 pub open_call_steady : (a : Around) (p : Place) (ts : List Plain) → Steady (open_call a p ts)
@@ -111,13 +122,15 @@ open_call_steady a p ts = search (pieces, refuse_steady)
 
 -- what `create` makes
 
-put_steady : {S : Type 0} → (r : Result Plain PutError) (p : Place) (d : List ℕ) → Steady {S = S} (put_fault r p d)
+put_steady : {S : Type 0} → (r : Result Plain PutError) (p : Place) (d : List ℕ)
+    → Steady {S = S} (put_fault r p d)
 put_steady (Ok t) p d = search pieces
 put_steady (Err error.TooLarge) p d = search pieces
 put_steady (Err error.TooHigh) p d = search pieces
 put_steady (Err _) p d = search pieces
 
-pub assigned_steady : {S : Type 0} → (p : Place) (d : List ℕ) (ms : List Term) (t v : Plain) → Steady {S = S} (assigned_at p d ms t v)
+pub assigned_steady : {S : Type 0} → (p : Place) (d : List ℕ) (ms : List Term) (t v : Plain)
+    → Steady {S = S} (assigned_at p d ms t v)
 assigned_steady p d ms t v = search (pieces, put_steady)
 
 set_key_steady : (p : Place) (v t : Plain) (k : List ℕ) → Steady (set_key p v t k)
@@ -127,4 +140,5 @@ pub set_keys_steady : (p : Place) (pairs : List Plain) (t : Plain) → Steady (s
 unfolding set_keys
 set_keys_steady p [] t = search pieces
 set_keys_steady p (k ∷ []) t = search pieces
-set_keys_steady p (k ∷ v ∷ ts) t = let next = set_keys_steady p ts in search (pieces, text_steady, set_key_steady)
+set_keys_steady p (k ∷ v ∷ ts) t = let next = set_keys_steady p ts in
+    search (pieces, text_steady, set_key_steady)

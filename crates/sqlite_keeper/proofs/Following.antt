@@ -20,7 +20,8 @@ unfolding doubt
 clean_is true h = refl
 clean_is false h = cc
 
-pub follows : (f : Change) (old new : State) → doubt old.is_clean ≤ doubt new.is_clean → Turns f old new → Follows f (cells old) (cells new)
+pub follows : (f : Change) (old new : State) → doubt old.is_clean ≤ doubt new.is_clean
+    → Turns f old new → Follows f (cells old) (cells new)
 follows f old new less turns n = elim (true_or (new.is_open && new.is_clean)) [
   | inr shut ↦ inl (ap (λ b. if b then Some (held (rows_in new.now) n) else None) shut)
   | inl told ↦ inr (
@@ -28,17 +29,24 @@ follows f old new less turns n = elim (true_or (new.is_open && new.is_clean)) [
       let clean : HasCleanDisk new = no_doubt _ both.1 in
       let it = turns clean both.0 in
       let before : doubt old.is_clean ≡ 0 = omega (arith, clean, less) in
-      let was : (old.is_open && old.is_clean) ≡ true = ap (λ b. b && old.is_clean) it.0 ∙ clean_is old.is_clean before in
+      let was : (old.is_open && old.is_clean) ≡ true =
+      ap (λ b. b && old.is_clean) it.0 ∙ clean_is old.is_clean before in
       ap (λ b. if b then Some (held (rows_in new.now) n) else None) told ∙ ap (λ o. Some o) (it.1 n)
       ∙ sym (ap (λ b. option_map (f n) (if b then Some (held (rows_in old.now) n) else None)) was))
 ]
 
-pub follows_done : (f : Change) (old new : State) (r : Result Bool Error) → doubt old.is_clean ≤ doubt new.is_clean → IfOk r (λ yes. TurnsIf yes f old new) → r ≡ Ok true → Follows f (cells old) (cells new)
-follows_done f old new r less turned done = follows f old new less (subst (λ x. IfOk x (λ yes. TurnsIf yes f old new)) done turned)
+pub follows_done : (f : Change) (old new : State) (r : Result Bool Error)
+    → doubt old.is_clean ≤ doubt new.is_clean → IfOk r (λ yes. TurnsIf yes f old new) → r ≡ Ok true
+    → Follows f (cells old) (cells new)
+follows_done f old new r less turned done =
+    follows f old new less (subst (λ x. IfOk x (λ yes. TurnsIf yes f old new)) done turned)
 
-pub follows_refused : (f : Change) (old new : State) (r : Result Bool Error) → doubt old.is_clean ≤ doubt new.is_clean → IfOk r (λ yes. TurnsIf yes f old new) → OnErr r (Turns unchanged old new) → IsRefusal r → Follows unchanged (cells old) (cells new)
+pub follows_refused : (f : Change) (old new : State) (r : Result Bool Error)
+    → doubt old.is_clean ≤ doubt new.is_clean → IfOk r (λ yes. TurnsIf yes f old new)
+    → OnErr r (Turns unchanged old new) → IsRefusal r → Follows unchanged (cells old) (cells new)
 follows_refused f old new (Ok true) less turned kept refused = absurd refused
-follows_refused f old new (Ok false) less turned kept refused = follows unchanged old new less turned
+follows_refused f old new (Ok false) less turned kept refused =
+    follows unchanged old new less turned
 follows_refused f old new (Err e) less turned kept refused = follows unchanged old new less kept
 
 same_told : (o : Cell) (n : List ℕ) → o ≡ option_map (unchanged n) o

@@ -10,7 +10,8 @@ pub same_types : (f g : Defined) → ((n : List ℕ) → f n ≡ g n) → f ≡ 
 same_types f g h = fun_ext h
 
 -- nothing was made yet
-pub fresh_profile : (p : ProfileValue) → p.tree ≡ dict no_fields → p.finals ≡ [] → p.log ≡ [] → p ≡ record { tree = dict no_fields; finals = []; log = [] }
+pub fresh_profile : (p : ProfileValue) → p.tree ≡ dict no_fields → p.finals ≡ [] → p.log ≡ [] → p
+    ≡ record { tree = dict no_fields; finals = []; log = [] }
 fresh_profile p a b c = λ i. record { tree = a i; finals = b i; log = c i }
 
 pub no_types : (f : Defined) → ((n : List ℕ) → f n ≡ None) → f ≡ (λ name. None)

@@ -1,4 +1,5 @@
--- No check leaves more work than it began with: of each definition by which code goes on, so that it
+-- No check leaves more work than it began with: of each definition by which code goes on, so that
+-- it
 -- is known what is left at least where memory is wanting.
 use Rattle.std.proofs.Common.{ℕ, ◌+◌, List, [], ◌∷◌, Option, Some, None, Bool, true, false, cond, nat_eq, Result, Ok, Err, arith}
 use Rattle.path_tree.specs.Plain.{Plain, Items, no_items, item, Fields as Values, no_fields, field}
@@ -23,7 +24,8 @@ use Rattle.validate.specs.Refusals.{Refusal, Checks, behind, go_on, unless_refus
 
 -- by the ways in which checks are made
 
-bind_leaves : {X Y : Type 0} → (r : Look X) (f : X → Look Y) → Leaves r → ((x : X) → Leaves (f x)) → Leaves (r >>= f)
+bind_leaves : {X Y : Type 0} → (r : Look X) (f : X → Look Y) → Leaves r → ((x : X) → Leaves (f x))
+    → Leaves (r >>= f)
 bind_leaves r f a b o s m = then_leaves m.left (r o s m) (λ x. f x o) (λ x. b x o) (a o s m)
 
 give_leaves : {X : Type 0} → (x : X) → Leaves {S = Unit {0}} (give x)
@@ -32,17 +34,20 @@ give_leaves x o s m = omega arith
 fail_leaves : (X : Type 0) (f : Fault) → Leaves {S = Unit {0}} {X = X} (fail_with f)
 fail_leaves X f o s m = omega arith
 
-cond_leaves : {X : Type 0} → (b : Bool) (r r' : Look X) → Leaves r → Leaves r' → Leaves (cond b r r')
+cond_leaves : {X : Type 0} → (b : Bool) (r r' : Look X) → Leaves r → Leaves r'
+    → Leaves (cond b r r')
 cond_leaves true r r' h k = h
 cond_leaves false r r' h k = k
 
-pub unless_leaves : {X Y : Type 0} → (f : X → Checks Y) (x : Result X Refusal) → ((y : X) → Leaves (f y)) → Leaves (unless_refused f x)
+pub unless_leaves : {X Y : Type 0} → (f : X → Checks Y) (x : Result X Refusal)
+    → ((y : X) → Leaves (f y)) → Leaves (unless_refused f x)
 unless_leaves f (Ok y) h = h y
 unless_leaves f (Err r) h = λ o s m. omega arith
 
 ruleset pieces = (bind_leaves, give_leaves, fail_leaves, cond_leaves, unless_leaves)
 
-stepped_leaves : (b : Bool) (p : Place) (s : Unit {0}) (m : Meter) → LeavesAtMost m.left (stepped b p s m)
+stepped_leaves : (b : Bool) (p : Place) (s : Unit {0}) (m : Meter)
+    → LeavesAtMost m.left (stepped b p s m)
 stepped_leaves true p s m = omega arith
 stepped_leaves false p s m = omega arith
 
@@ -66,7 +71,8 @@ undef_leaves : (header : Place) (ms : Option (List Term)) → Leaves (undef_run 
 undef_leaves header None = search pieces
 undef_leaves header (Some ms) = search pieces
 
-placed_leaves : {X : Type 0} → (p : Place) (ms : List Term) (x : Result X Refusal) → Leaves (placed p ms x)
+placed_leaves : {X : Type 0} → (p : Place) (ms : List Term) (x : Result X Refusal)
+    → Leaves (placed p ms x)
 placed_leaves p ms (Ok x) = search pieces
 placed_leaves p ms (Err r) = search pieces
 
@@ -99,7 +105,8 @@ module _ (e : Means) (h : LeaveNoMore e) where
   unfolding found_run
   found_leaves p path = search (pieces, look_leaves)
 
-  pub condition_leaves : (p : Place) (c : Option Item) (template : List ℕ) (v : Plain) → Leaves (condition_run e p c template v)
+  pub condition_leaves : (p : Place) (c : Option Item) (template : List ℕ) (v : Plain)
+      → Leaves (condition_run e p c template v)
   unfolding condition_run
   condition_leaves p None template v = search pieces
   condition_leaves p (Some i) template v = search (pieces, truth_leaves, dml_leaves)
@@ -139,19 +146,22 @@ module _ (e : Means) (h : LeaveNoMore e) where
         search pieces
 
   -- what follows a visit, and what a link leads to
-  pub inside_leaves : (p : Place) (s : Shape) (c : Option Item) (template : List ℕ) (v : Plain) → Leaves (go_on (shape_run e p s v) (λ _. condition_run e p c template v))
+  pub inside_leaves : (p : Place) (s : Shape) (c : Option Item) (template : List ℕ) (v : Plain)
+      → Leaves (go_on (shape_run e p s v) (λ _. condition_run e p c template v))
   inside_leaves p s c template v = search (pieces, shape_leaves, condition_leaves)
 
   pub behind_leaves : (p : Place) (t : Resolved) (v : Plain) → Leaves (behind (check e p t v))
   behind_leaves p t v = search (pieces, check_leaves)
 
-  pub items_leave : (p : Place) (t : Resolved) (i : ℕ) (ts : Items) → Leaves (items_run (check e p t) i ts)
+  pub items_leave : (p : Place) (t : Resolved) (i : ℕ) (ts : Items)
+      → Leaves (items_run (check e p t) i ts)
   items_leave p t = each_item (check e p t) (check_leaves p t)
 
   pub values_leave : (p : Place) (t : Resolved) (fs : Values) → Leaves (values_run (check e p t) fs)
   values_leave p t = each_value (check e p t) (check_leaves p t)
 
-  pub field_leaves : (p : Place) (t : Resolved) (l : List ℕ) (required : Bool) (v : Option Plain) → Leaves (field_run l required (check e p t) v)
+  pub field_leaves : (p : Place) (t : Resolved) (l : List ℕ) (required : Bool) (v : Option Plain)
+      → Leaves (field_run l required (check e p t) v)
   field_leaves p t = each_field (check e p t) (check_leaves p t)
 
   pub bound_leaves : (b : Bound) (v : Option Plain) → Leaves (bound_run e b v)
@@ -174,8 +184,28 @@ module _ (e : Means) (h : LeaveNoMore e) where
   valids_leave root [] = search pieces
   valids_leave root (s ∷ ss) = let next = valids_leave root ss in search (pieces, valid_leaves)
 
-  pub checked_leaves : (header : Place) (root : Plain) (bounds : List Bound) (valids : List Valid) → Leaves (checked e header root bounds valids)
+  pub checked_leaves : (header : Place) (root : Plain) (bounds : List Bound) (valids : List Valid)
+      → Leaves (checked e header root bounds valids)
   unfolding checked
-  checked_leaves header root bounds valids = search (pieces, undef_leaves, bounds_leave, valids_leave)
+  checked_leaves header root bounds valids =
+      search (pieces, undef_leaves, bounds_leave, valids_leave)
 
-pub ruleset leaving = (visit_leaves, dml_leaves, look_leaves, found_leaves, condition_leaves, target_leaves, items_leave, values_leave, field_leaves, check_leaves, shape_leaves, fields_leave, bound_leaves, bounds_leave, valid_leaves, valids_leave, checked_leaves)
+pub ruleset leaving = (
+  visit_leaves,
+  dml_leaves,
+  look_leaves,
+  found_leaves,
+  condition_leaves,
+  target_leaves,
+  items_leave,
+  values_leave,
+  field_leaves,
+  check_leaves,
+  shape_leaves,
+  fields_leave,
+  bound_leaves,
+  bounds_leave,
+  valid_leaves,
+  valids_leave,
+  checked_leaves,
+)

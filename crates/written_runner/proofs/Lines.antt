@@ -16,10 +16,13 @@ no_more act (a ∷ []) e = refl
 no_more act (a ∷ b ∷ []) e = refl
 no_more act (a ∷ b ∷ c ∷ rest) e = absurd (omega (arith, e))
 
-pub lines_over : (act : ℕ → ℕ → Action) (bs : List ℕ) (i : ℕ) → length bs ≤ i + 2 → actions act (drop i bs) ≡ []
+pub lines_over : (act : ℕ → ℕ → Action) (bs : List ℕ) (i : ℕ) → length bs ≤ i + 2
+    → actions act (drop i bs) ≡ []
 lines_over act bs i e = no_more act (drop i bs) (omega (arith, length-drop i bs, e))
 
-pub lines_next : (act : ℕ → ℕ → Action) (bs : List ℕ) (i : ℕ) → i + 2 < length bs → actions act (drop i bs) ≡ act (get_or bs (i + 1) 0) (get_or bs (i + 2) 0) ∷ actions act (drop (i + 3) bs)
+pub lines_next : (act : ℕ → ℕ → Action) (bs : List ℕ) (i : ℕ) → i + 2 < length bs
+    → actions act (drop i bs) ≡ act (get_or bs (i + 1) 0) (get_or bs (i + 2) 0) ∷ actions act
+    (drop (i + 3) bs)
 lines_next act bs i lt =
     let a : i < length bs = omega (arith, lt) in
     let b : i + 1 < length bs = omega (arith, lt) in
@@ -29,15 +32,19 @@ lines_next act bs i lt =
     let first = drop-cons bs i 0 a ∙ ap (λ k. get_or bs i 0 ∷ drop k bs) one in
     let second = drop-cons bs (i + 1) 0 b ∙ ap (λ k. get_or bs (i + 1) 0 ∷ drop k bs) two in
     let third = drop-cons bs (i + 2) 0 lt ∙ ap (λ k. get_or bs (i + 2) 0 ∷ drop k bs) three in
-    ap (actions act) (first ∙ ap (λ xs. get_or bs i 0 ∷ xs) (second ∙ ap (λ xs. get_or bs (i + 1) 0 ∷ xs) third))
+    ap (actions act) (first ∙ ap (λ xs. get_or bs i 0 ∷ xs)
+    (second ∙ ap (λ xs. get_or bs (i + 1) 0 ∷ xs) third))
 
-module _ (p : Place) (own : List ℕ) (a : Action) (later : List Action) (o : Answers) (v v' : Plain) (m m' : Meter) where
+module _ (p : Place) (own : List ℕ) (a : Action) (later : List Action) (o : Answers) (v v' : Plain)
+    (m m' : Meter) where
   -- a line that is done, and the lines behind it
-  pub done_line : Done tt v' m' ≡ acted p own a o v m → all_acted p own (a ∷ later) o v m ≡ all_acted p own later o v' m'
+  pub done_line : Done tt v' m' ≡ acted p own a o v m → all_acted p own (a ∷ later) o v m
+      ≡ all_acted p own later o v' m'
   done_line e = sym (ap (λ z. then z (λ _. all_acted p own later o)) e)
 
   -- a line at which the run ends or stops
-  pub last_line : (x : Came) → (x ≡ came.Done → ⊥) → outcome_of x v' m' ≡ acted p own a o v m → outcome_of x v' m' ≡ all_acted p own (a ∷ later) o v m
+  pub last_line : (x : Came) → (x ≡ came.Done → ⊥) → outcome_of x v' m' ≡ acted p own a o v m
+      → outcome_of x v' m' ≡ all_acted p own (a ∷ later) o v m
   last_line came.Done other e = absurd (other refl)
   last_line (came.Failed f) other e = ap (λ z. then z (λ _. all_acted p own later o)) e
   last_line (came.Waits q) other e = ap (λ z. then z (λ _. all_acted p own later o)) e

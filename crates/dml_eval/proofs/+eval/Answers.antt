@@ -23,18 +23,25 @@ chains::run_chain-turns-init g t c =
     let empty : length c.new-waiting.result.items ≡ 0 = ap length c.new-waiting.ensures.items in
     record {
       gives = λ keys.
-          let begun = c.start.ensures.gives keys in
-          (begun.0, λ told. resumed_none _ _ _ c.new-waiting.result.items _ _ empty (let here = begun.1 told in grind (arith, here)));
+          let begun = c.start.ensures.gives keys in (
+            begun.0,
+            λ told. resumed_none _ _ _ c.new-waiting.result.items _ _ empty
+                (let here = begun.1 told in grind (arith, here)),
+          );
       counted = c.start.ensures.counted;
     }
 
 pub chains::run_chain-returns-in-None-pop-clause-gives : goal.chains::run_chain-returns-in-None-pop-clause-gives
 unfolding steps_run
 chains::run_chain-returns-in-None-pop-clause-gives g t c =
-    let empty : length c.turns.waiting.items ≡ 0 = omega (arith, c.turns.waiting.ok.0, c.in-None-pop.ensures.cases.0) in
+    let empty : length c.turns.waiting.items ≡ 0 =
+    omega (arith, c.turns.waiting.ok.0, c.in-None-pop.ensures.cases.0) in
     λ keys.
-    let done = c.turns.invariant.gives keys in
-    (done.0, λ told. sym (done.1 told) ∙ resumed_none _ _ _ c.turns.waiting.items _ _ empty (search rules))
+    let done = c.turns.invariant.gives keys in (
+      done.0,
+      λ told. sym (done.1 told) ∙ resumed_none _ _ _ c.turns.waiting.items _ _ empty
+          (search rules),
+    )
 
 pub creating::run_included-returns-clause-gives : goal.creating::run_included-returns-clause-gives
 creating::run_included-returns-clause-gives g t c =
@@ -45,84 +52,200 @@ creating::run_included-returns-clause-gives g t c =
       omega (arith, found.0, inside.0),
       λ told.
           let template = found.1 (omega (arith, told, inside.0)) in
-          includes_on _ _ _ _ _ _ _ _ _ _ _ _ _ _ _ _ some c.deref.ensures (search (rules, template)) (inside.1 told),
+          includes_on _ _ _ _ _ _ _ _ _ _ _ _ _ _ _ _ some c.deref.ensures
+          (search (rules, template)) (inside.1 told),
     )
 
 pub built_in::exists_item-returns-in_err-argument-clause-gives : goal.built_in::exists_item-returns-in_err-argument-clause-gives
 built_in::exists_item-returns-in_err-argument-clause-gives g t c = λ keys.
-    let leaves = exists_leaves (around_of c.args.around.now g.W.World.reading g.W.World.calls) g.W.World.plain c.args.room c.args.place.now (item_seen c.args.item.now) (reference_in (item_seen c.args.item.now)) (only keys g.W.World.answers) (env c.args.live.now) (meter c.args.live.now.work (g.W.World.asked c.args.world.now)) in
+    let leaves = exists_leaves (around_of c.args.around.now g.W.World.reading g.W.World.calls)
+    g.W.World.plain c.args.room c.args.place.now (item_seen c.args.item.now)
+    (reference_in (item_seen c.args.item.now)) (only keys g.W.World.answers)
+    (env c.args.live.now) (meter c.args.live.now.work (g.W.World.asked c.args.world.now)) in
     grind (arith, leaves)
 
 pub built_in::exists_item-returns-in_err-value-clause-gives : goal.built_in::exists_item-returns-in_err-value-clause-gives
 built_in::exists_item-returns-in_err-value-clause-gives g t c = λ keys.
-    let stops = exists_stops (around_of c.args.around.now g.W.World.reading g.W.World.calls) g.W.World.plain c.args.room c.in_err-value.field-0.0 c.args.place.now (item_seen c.args.item.now) (only keys g.W.World.answers) (env c.args.live.now) (env c.open_item.new.live) (meter c.args.live.now.work (g.W.World.asked c.args.world.now)) (meter c.open_item.new.live.work (g.W.World.asked c.open_item.new.world)) in
+    let stops = exists_stops (around_of c.args.around.now g.W.World.reading g.W.World.calls)
+    g.W.World.plain c.args.room c.in_err-value.field-0.0 c.args.place.now
+    (item_seen c.args.item.now) (only keys g.W.World.answers) (env c.args.live.now)
+    (env c.open_item.new.live) (meter c.args.live.now.work (g.W.World.asked c.args.world.now))
+    (meter c.open_item.new.live.work (g.W.World.asked c.open_item.new.world)) in
     grind (arith, stops)
 
 pub built_in::delete_item-returns-in_err-argument-clause-gives : goal.built_in::delete_item-returns-in_err-argument-clause-gives
 built_in::delete_item-returns-in_err-argument-clause-gives g t c = λ keys.
-    let leaves = delete_leaves (around_of c.args.around.now g.W.World.reading g.W.World.calls) g.W.World.plain c.args.room c.args.place.now (item_seen c.args.item.now) (reference_in (item_seen c.args.item.now)) (only keys g.W.World.answers) (env c.args.live.now) (meter c.args.live.now.work (g.W.World.asked c.args.world.now)) in
+    let leaves = delete_leaves (around_of c.args.around.now g.W.World.reading g.W.World.calls)
+    g.W.World.plain c.args.room c.args.place.now (item_seen c.args.item.now)
+    (reference_in (item_seen c.args.item.now)) (only keys g.W.World.answers)
+    (env c.args.live.now) (meter c.args.live.now.work (g.W.World.asked c.args.world.now)) in
     grind (arith, leaves)
 
 pub built_in::run_copy-returns-in_err-list-clause-gives : goal.built_in::run_copy-returns-in_err-list-clause-gives
 built_in::run_copy-returns-in_err-list-clause-gives g t c = λ keys.
-    let stops = copy_stops (around_of c.args.around.now g.W.World.reading g.W.World.calls) g.W.World.plain c.args.room c.in_err-list.field-0.0 c.args.place.now c.args.side (item_seen c.args.list.now) (item_seen c.args.value.now) (only keys g.W.World.answers) (env c.args.live.now) (env c.open_item.new.live) (meter c.args.live.now.work (g.W.World.asked c.args.world.now)) (meter c.open_item.new.live.work (g.W.World.asked c.open_item.new.world)) in
+    let stops = copy_stops (around_of c.args.around.now g.W.World.reading g.W.World.calls)
+    g.W.World.plain c.args.room c.in_err-list.field-0.0 c.args.place.now c.args.side
+    (item_seen c.args.list.now) (item_seen c.args.value.now) (only keys g.W.World.answers)
+    (env c.args.live.now) (env c.open_item.new.live)
+    (meter c.args.live.now.work (g.W.World.asked c.args.world.now))
+    (meter c.open_item.new.live.work (g.W.World.asked c.open_item.new.world)) in
     grind (arith, stops)
 
 pub built_in::run_change-returns-in_err-reached-clause-gives : goal.built_in::run_change-returns-in_err-reached-clause-gives
 built_in::run_change-returns-in_err-reached-clause-gives g t c = λ keys.
-    let stops = reached_stops (around_of c.args.around.now g.W.World.reading g.W.World.calls) g.W.World.plain c.args.room c.in_err-reached.field-0.0 c.args.place.now c.args.side c.args.at.now c.args.argument.place.now c.args.argument.name.now (indexes_back c.args.argument.indexes.items none) (item_seen c.args.value.now) (only keys g.W.World.answers) (env c.args.live.now) (env c.open_reference.new.live) (meter c.args.live.now.work (g.W.World.asked c.args.world.now)) (meter c.open_reference.new.live.work (g.W.World.asked c.open_reference.new.world)) in
+    let stops = reached_stops (around_of c.args.around.now g.W.World.reading g.W.World.calls)
+    g.W.World.plain c.args.room c.in_err-reached.field-0.0 c.args.place.now c.args.side
+    c.args.at.now c.args.argument.place.now c.args.argument.name.now
+    (indexes_back c.args.argument.indexes.items none) (item_seen c.args.value.now)
+    (only keys g.W.World.answers) (env c.args.live.now) (env c.open_reference.new.live)
+    (meter c.args.live.now.work (g.W.World.asked c.args.world.now))
+    (meter c.open_reference.new.live.work (g.W.World.asked c.open_reference.new.world)) in
     grind (arith, stops)
 
 pub built_in::run_change-returns-in_err-value-clause-gives : goal.built_in::run_change-returns-in_err-value-clause-gives
 built_in::run_change-returns-in_err-value-clause-gives g t c = λ keys.
-    let stops = extended_stops (around_of c.args.around.now g.W.World.reading g.W.World.calls) g.W.World.plain c.args.room c.in_err-value.field-0.0 c.args.place.now c.args.side c.args.at.now c.args.argument.place.now c.args.argument.name.now (indexes_back c.args.argument.indexes.items none) (item_seen c.args.value.now) (reached_of c.in_ok-reached.reached) (only keys g.W.World.answers) (env c.args.live.now) (env c.open_reference.new.live) (env c.open_item.new.live) (meter c.args.live.now.work (g.W.World.asked c.args.world.now)) (meter c.open_item.new.live.work (g.W.World.asked c.open_item.new.world)) (meter c.open_reference.new.live.work (g.W.World.asked c.open_reference.new.world)) in
+    let stops = extended_stops (around_of c.args.around.now g.W.World.reading g.W.World.calls)
+    g.W.World.plain c.args.room c.in_err-value.field-0.0 c.args.place.now c.args.side
+    c.args.at.now c.args.argument.place.now c.args.argument.name.now
+    (indexes_back c.args.argument.indexes.items none) (item_seen c.args.value.now)
+    (reached_of c.in_ok-reached.reached) (only keys g.W.World.answers) (env c.args.live.now)
+    (env c.open_reference.new.live) (env c.open_item.new.live)
+    (meter c.args.live.now.work (g.W.World.asked c.args.world.now))
+    (meter c.open_item.new.live.work (g.W.World.asked c.open_item.new.world))
+    (meter c.open_reference.new.live.work (g.W.World.asked c.open_reference.new.world)) in
     grind (arith, stops)
 
 pub chains::start-returns-in_err-value-clause-gives : goal.chains::start-returns-in_err-value-clause-gives
 chains::start-returns-in_err-value-clause-gives g t c = λ keys.
-    let stops = spine_stops (around_of c.args.around.now g.W.World.reading g.W.World.calls) g.W.World.plain c.args.room c.in_err-value.field-0.0 c.args.chain.place.now (node_seen c.args.chain.first.now) (step_seen c.args.chain.step.now ∷ map step_seen c.args.chain.rest.now) (only keys g.W.World.answers) (env c.args.live.now) (env c.run_operand.new.live) (meter c.args.live.now.work (g.W.World.asked c.args.world.now)) (meter c.run_operand.new.live.work (g.W.World.asked c.run_operand.new.world)) in
+    let stops = spine_stops (around_of c.args.around.now g.W.World.reading g.W.World.calls)
+    g.W.World.plain c.args.room c.in_err-value.field-0.0 c.args.chain.place.now
+    (node_seen c.args.chain.first.now) (step_seen c.args.chain.step.now ∷ map step_seen
+    c.args.chain.rest.now) (only keys g.W.World.answers) (env c.args.live.now)
+    (env c.run_operand.new.live) (meter c.args.live.now.work (g.W.World.asked c.args.world.now))
+    (meter c.run_operand.new.live.work (g.W.World.asked c.run_operand.new.world)) in
     grind (arith, stops)
 
 pub chains::take_up-returns-in_err-value-in-Right-clause-gives : goal.chains::take_up-returns-in_err-value-in-Right-clause-gives
 chains::take_up-returns-in_err-value-in-Right-clause-gives g t c = λ keys.
-    let stops = chain_stops (around_of c.args.around.now g.W.World.reading g.W.World.calls) g.W.World.plain c.args.room c.in_err-value-in-Right.field-0.0 c.args.waiting.place.now (map step_seen c.args.waiting.rest.now) (in_role (eval c.args.room) (around_of c.args.around.now g.W.World.reading g.W.World.calls) c.args.waiting.place.now c.args.waiting.role c.args.value) (only keys g.W.World.answers) (env c.args.live.now) (env c.apply_binary.new.live) (meter c.args.live.now.work (g.W.World.asked c.args.world.now)) (meter c.apply_binary.new.live.work (g.W.World.asked c.args.world.now)) in
+    let stops = chain_stops (around_of c.args.around.now g.W.World.reading g.W.World.calls)
+    g.W.World.plain c.args.room c.in_err-value-in-Right.field-0.0 c.args.waiting.place.now
+    (map step_seen c.args.waiting.rest.now) (in_role (eval c.args.room)
+    (around_of c.args.around.now g.W.World.reading g.W.World.calls) c.args.waiting.place.now
+    c.args.waiting.role c.args.value) (only keys g.W.World.answers) (env c.args.live.now)
+    (env c.apply_binary.new.live) (meter c.args.live.now.work
+    (g.W.World.asked c.args.world.now)) (meter c.apply_binary.new.live.work
+    (g.W.World.asked c.args.world.now)) in
     grind (arith, stops)
 
 pub chains::take_up-returns-in_err-value-in-Deciding-clause-gives : goal.chains::take_up-returns-in_err-value-in-Deciding-clause-gives
 chains::take_up-returns-in_err-value-in-Deciding-clause-gives g t c = λ keys.
-    let stops = chain_stops (around_of c.args.around.now g.W.World.reading g.W.World.calls) g.W.World.plain c.args.room c.in_err-value-in-Deciding.field-0.0 c.args.waiting.place.now (map step_seen c.args.waiting.rest.now) (in_role (eval c.args.room) (around_of c.args.around.now g.W.World.reading g.W.World.calls) c.args.waiting.place.now c.args.waiting.role c.args.value) (only keys g.W.World.answers) (env c.args.live.now) (env c.apply_boolean.new.live) (meter c.args.live.now.work (g.W.World.asked c.args.world.now)) (meter c.apply_boolean.new.live.work (g.W.World.asked c.args.world.now)) in
+    let stops = chain_stops (around_of c.args.around.now g.W.World.reading g.W.World.calls)
+    g.W.World.plain c.args.room c.in_err-value-in-Deciding.field-0.0 c.args.waiting.place.now
+    (map step_seen c.args.waiting.rest.now) (in_role (eval c.args.room)
+    (around_of c.args.around.now g.W.World.reading g.W.World.calls) c.args.waiting.place.now
+    c.args.waiting.role c.args.value) (only keys g.W.World.answers) (env c.args.live.now)
+    (env c.apply_boolean.new.live) (meter c.args.live.now.work
+    (g.W.World.asked c.args.world.now)) (meter c.apply_boolean.new.live.work
+    (g.W.World.asked c.args.world.now)) in
     grind (arith, stops)
 
 pub chains::run_binary-returns-in_err-value-clause-gives : goal.chains::run_binary-returns-in_err-value-clause-gives
 chains::run_binary-returns-in_err-value-clause-gives g t c = λ keys.
-    let inner = operand_stops (around_of c.args.around.now g.W.World.reading g.W.World.calls) g.W.World.plain c.args.room c.in_err-value.field-0.0 c.args.place.now c.args.left c.args.op (node_seen c.args.right.now) (only keys g.W.World.answers) (env c.args.live.now) (env c.run_operand.new.live) (meter c.args.live.now.work (g.W.World.asked c.args.world.now)) (meter c.run_operand.new.live.work (g.W.World.asked c.run_operand.new.world)) in
-    let stops = chain_stops (around_of c.args.around.now g.W.World.reading g.W.World.calls) g.W.World.plain c.args.room c.in_err-value.field-0.0 c.args.place.now (map step_seen c.args.rest.now) (step_run (eval c.args.room) (around_of c.args.around.now g.W.World.reading g.W.World.calls) c.args.place.now c.args.left (AtBinary c.args.op (node_seen c.args.right.now))) (only keys g.W.World.answers) (env c.args.live.now) (env c.run_operand.new.live) (meter c.args.live.now.work (g.W.World.asked c.args.world.now)) (meter c.run_operand.new.live.work (g.W.World.asked c.run_operand.new.world)) in
+    let inner = operand_stops (around_of c.args.around.now g.W.World.reading g.W.World.calls)
+    g.W.World.plain c.args.room c.in_err-value.field-0.0 c.args.place.now c.args.left c.args.op
+    (node_seen c.args.right.now) (only keys g.W.World.answers) (env c.args.live.now)
+    (env c.run_operand.new.live) (meter c.args.live.now.work (g.W.World.asked c.args.world.now))
+    (meter c.run_operand.new.live.work (g.W.World.asked c.run_operand.new.world)) in
+    let stops = chain_stops (around_of c.args.around.now g.W.World.reading g.W.World.calls)
+    g.W.World.plain c.args.room c.in_err-value.field-0.0 c.args.place.now
+    (map step_seen c.args.rest.now) (step_run (eval c.args.room)
+    (around_of c.args.around.now g.W.World.reading g.W.World.calls) c.args.place.now c.args.left
+    (AtBinary c.args.op (node_seen c.args.right.now))) (only keys g.W.World.answers)
+    (env c.args.live.now) (env c.run_operand.new.live)
+    (meter c.args.live.now.work (g.W.World.asked c.args.world.now))
+    (meter c.run_operand.new.live.work (g.W.World.asked c.run_operand.new.world)) in
     grind (arith, inner, stops)
 
 pub chains::run_binary-returns-in_err-value-in-Value-clause-gives : goal.chains::run_binary-returns-in_err-value-in-Value-clause-gives
 chains::run_binary-returns-in_err-value-in-Value-clause-gives g t c = λ keys.
-    let inner = applied_stops (around_of c.args.around.now g.W.World.reading g.W.World.calls) g.W.World.plain c.args.room c.in_err-value-in-Value.field-0.0 c.args.place.now c.args.left c.in-Value.value c.args.op (node_seen c.args.right.now) (only keys g.W.World.answers) (env c.args.live.now) (env c.run_operand.new.live) (env c.apply_binary.new.live) (meter c.args.live.now.work (g.W.World.asked c.args.world.now)) (meter c.apply_binary.new.live.work (g.W.World.asked c.run_operand.new.world)) (meter c.run_operand.new.live.work (g.W.World.asked c.run_operand.new.world)) in
-    let stops = chain_stops (around_of c.args.around.now g.W.World.reading g.W.World.calls) g.W.World.plain c.args.room c.in_err-value-in-Value.field-0.0 c.args.place.now (map step_seen c.args.rest.now) (step_run (eval c.args.room) (around_of c.args.around.now g.W.World.reading g.W.World.calls) c.args.place.now c.args.left (AtBinary c.args.op (node_seen c.args.right.now))) (only keys g.W.World.answers) (env c.args.live.now) (env c.apply_binary.new.live) (meter c.args.live.now.work (g.W.World.asked c.args.world.now)) (meter c.apply_binary.new.live.work (g.W.World.asked c.run_operand.new.world)) in
+    let inner = applied_stops (around_of c.args.around.now g.W.World.reading g.W.World.calls)
+    g.W.World.plain c.args.room c.in_err-value-in-Value.field-0.0 c.args.place.now c.args.left
+    c.in-Value.value c.args.op (node_seen c.args.right.now) (only keys g.W.World.answers)
+    (env c.args.live.now) (env c.run_operand.new.live) (env c.apply_binary.new.live)
+    (meter c.args.live.now.work (g.W.World.asked c.args.world.now))
+    (meter c.apply_binary.new.live.work (g.W.World.asked c.run_operand.new.world))
+    (meter c.run_operand.new.live.work (g.W.World.asked c.run_operand.new.world)) in
+    let stops = chain_stops (around_of c.args.around.now g.W.World.reading g.W.World.calls)
+    g.W.World.plain c.args.room c.in_err-value-in-Value.field-0.0 c.args.place.now
+    (map step_seen c.args.rest.now) (step_run (eval c.args.room)
+    (around_of c.args.around.now g.W.World.reading g.W.World.calls) c.args.place.now c.args.left
+    (AtBinary c.args.op (node_seen c.args.right.now))) (only keys g.W.World.answers)
+    (env c.args.live.now) (env c.apply_binary.new.live)
+    (meter c.args.live.now.work (g.W.World.asked c.args.world.now))
+    (meter c.apply_binary.new.live.work (g.W.World.asked c.run_operand.new.world)) in
     grind (arith, inner, stops)
 
 pub chains::run_both-returns-in_err-value-in-Some-false-clause-gives : goal.chains::run_both-returns-in_err-value-in-Some-false-clause-gives
 chains::run_both-returns-in_err-value-in-Some-false-clause-gives g t c = λ keys.
-    let same = others_both c.args.place.now (node_run (eval c.args.room) (around_of c.args.around.now g.W.World.reading g.W.World.calls) (node_seen c.args.right.now)) c.args.left (only keys g.W.World.answers) (env c.args.live.now) (meter c.args.live.now.work (g.W.World.asked c.args.world.now)) in
-    let inner = both_stop (around_of c.args.around.now g.W.World.reading g.W.World.calls) g.W.World.plain c.args.room c.in_err-value-in-Some-false.field-0.0 c.args.place.now c.args.left (node_seen c.args.right.now) (only keys g.W.World.answers) (env c.args.live.now) (env c.apply_boolean.new.live) (meter c.args.live.now.work (g.W.World.asked c.args.world.now)) (meter c.apply_boolean.new.live.work (g.W.World.asked c.args.world.now)) in
-    let stops = chain_stops (around_of c.args.around.now g.W.World.reading g.W.World.calls) g.W.World.plain c.args.room c.in_err-value-in-Some-false.field-0.0 c.args.place.now (map step_seen c.args.rest.now) (step_run (eval c.args.room) (around_of c.args.around.now g.W.World.reading g.W.World.calls) c.args.place.now c.args.left (AtAnd (node_seen c.args.right.now))) (only keys g.W.World.answers) (env c.args.live.now) (env c.apply_boolean.new.live) (meter c.args.live.now.work (g.W.World.asked c.args.world.now)) (meter c.apply_boolean.new.live.work (g.W.World.asked c.args.world.now)) in
+    let same = others_both c.args.place.now (node_run (eval c.args.room)
+    (around_of c.args.around.now g.W.World.reading g.W.World.calls)
+    (node_seen c.args.right.now)) c.args.left (only keys g.W.World.answers)
+    (env c.args.live.now) (meter c.args.live.now.work (g.W.World.asked c.args.world.now)) in
+    let inner = both_stop (around_of c.args.around.now g.W.World.reading g.W.World.calls)
+    g.W.World.plain c.args.room c.in_err-value-in-Some-false.field-0.0 c.args.place.now
+    c.args.left (node_seen c.args.right.now) (only keys g.W.World.answers) (env c.args.live.now)
+    (env c.apply_boolean.new.live) (meter c.args.live.now.work
+    (g.W.World.asked c.args.world.now)) (meter c.apply_boolean.new.live.work
+    (g.W.World.asked c.args.world.now)) in
+    let stops = chain_stops (around_of c.args.around.now g.W.World.reading g.W.World.calls)
+    g.W.World.plain c.args.room c.in_err-value-in-Some-false.field-0.0 c.args.place.now
+    (map step_seen c.args.rest.now) (step_run (eval c.args.room)
+    (around_of c.args.around.now g.W.World.reading g.W.World.calls) c.args.place.now c.args.left
+    (AtAnd (node_seen c.args.right.now))) (only keys g.W.World.answers) (env c.args.live.now)
+    (env c.apply_boolean.new.live) (meter c.args.live.now.work
+    (g.W.World.asked c.args.world.now)) (meter c.apply_boolean.new.live.work
+    (g.W.World.asked c.args.world.now)) in
     grind (arith, same, inner, stops)
 
 pub chains::run_either-returns-in_err-value-in-Some-true-clause-gives : goal.chains::run_either-returns-in_err-value-in-Some-true-clause-gives
 chains::run_either-returns-in_err-value-in-Some-true-clause-gives g t c = λ keys.
-    let same = others_either c.args.place.now (node_run (eval c.args.room) (around_of c.args.around.now g.W.World.reading g.W.World.calls) (node_seen c.args.right.now)) c.args.left (only keys g.W.World.answers) (env c.args.live.now) (meter c.args.live.now.work (g.W.World.asked c.args.world.now)) in
-    let inner = either_stops (around_of c.args.around.now g.W.World.reading g.W.World.calls) g.W.World.plain c.args.room c.in_err-value-in-Some-true.field-0.0 c.args.place.now c.args.left (node_seen c.args.right.now) (only keys g.W.World.answers) (env c.args.live.now) (env c.apply_boolean.new.live) (meter c.args.live.now.work (g.W.World.asked c.args.world.now)) (meter c.apply_boolean.new.live.work (g.W.World.asked c.args.world.now)) in
-    let stops = chain_stops (around_of c.args.around.now g.W.World.reading g.W.World.calls) g.W.World.plain c.args.room c.in_err-value-in-Some-true.field-0.0 c.args.place.now (map step_seen c.args.rest.now) (step_run (eval c.args.room) (around_of c.args.around.now g.W.World.reading g.W.World.calls) c.args.place.now c.args.left (AtOr (node_seen c.args.right.now))) (only keys g.W.World.answers) (env c.args.live.now) (env c.apply_boolean.new.live) (meter c.args.live.now.work (g.W.World.asked c.args.world.now)) (meter c.apply_boolean.new.live.work (g.W.World.asked c.args.world.now)) in
+    let same = others_either c.args.place.now (node_run (eval c.args.room)
+    (around_of c.args.around.now g.W.World.reading g.W.World.calls)
+    (node_seen c.args.right.now)) c.args.left (only keys g.W.World.answers)
+    (env c.args.live.now) (meter c.args.live.now.work (g.W.World.asked c.args.world.now)) in
+    let inner = either_stops (around_of c.args.around.now g.W.World.reading g.W.World.calls)
+    g.W.World.plain c.args.room c.in_err-value-in-Some-true.field-0.0 c.args.place.now
+    c.args.left (node_seen c.args.right.now) (only keys g.W.World.answers) (env c.args.live.now)
+    (env c.apply_boolean.new.live) (meter c.args.live.now.work
+    (g.W.World.asked c.args.world.now)) (meter c.apply_boolean.new.live.work
+    (g.W.World.asked c.args.world.now)) in
+    let stops = chain_stops (around_of c.args.around.now g.W.World.reading g.W.World.calls)
+    g.W.World.plain c.args.room c.in_err-value-in-Some-true.field-0.0 c.args.place.now
+    (map step_seen c.args.rest.now) (step_run (eval c.args.room)
+    (around_of c.args.around.now g.W.World.reading g.W.World.calls) c.args.place.now c.args.left
+    (AtOr (node_seen c.args.right.now))) (only keys g.W.World.answers) (env c.args.live.now)
+    (env c.apply_boolean.new.live) (meter c.args.live.now.work
+    (g.W.World.asked c.args.world.now)) (meter c.apply_boolean.new.live.work
+    (g.W.World.asked c.args.world.now)) in
     grind (arith, same, inner, stops)
 
 pub chains::run_second-returns-in_err-value-in-Value-clause-gives : goal.chains::run_second-returns-in_err-value-in-Value-clause-gives
 chains::run_second-returns-in_err-value-in-Value-clause-gives g t c = λ keys.
-    let inner = second_stops (around_of c.args.around.now g.W.World.reading g.W.World.calls) g.W.World.plain c.args.room c.in_err-value-in-Value.field-0.0 c.args.place.now c.in-Value.value (node_seen c.args.right.now) (only keys g.W.World.answers) (env c.args.live.now) (env c.run_operand.new.live) (env c.apply_boolean.new.live) (meter c.args.live.now.work (g.W.World.asked c.args.world.now)) (meter c.apply_boolean.new.live.work (g.W.World.asked c.run_operand.new.world)) (meter c.run_operand.new.live.work (g.W.World.asked c.run_operand.new.world)) in
-    let stops = chain_stops (around_of c.args.around.now g.W.World.reading g.W.World.calls) g.W.World.plain c.args.room c.in_err-value-in-Value.field-0.0 c.args.place.now (map step_seen c.args.rest.now) (second_run (eval c.args.room) (around_of c.args.around.now g.W.World.reading g.W.World.calls) c.args.place.now (node_seen c.args.right.now)) (only keys g.W.World.answers) (env c.args.live.now) (env c.apply_boolean.new.live) (meter c.args.live.now.work (g.W.World.asked c.args.world.now)) (meter c.apply_boolean.new.live.work (g.W.World.asked c.run_operand.new.world)) in
+    let inner = second_stops (around_of c.args.around.now g.W.World.reading g.W.World.calls)
+    g.W.World.plain c.args.room c.in_err-value-in-Value.field-0.0 c.args.place.now
+    c.in-Value.value (node_seen c.args.right.now) (only keys g.W.World.answers)
+    (env c.args.live.now) (env c.run_operand.new.live) (env c.apply_boolean.new.live)
+    (meter c.args.live.now.work (g.W.World.asked c.args.world.now))
+    (meter c.apply_boolean.new.live.work (g.W.World.asked c.run_operand.new.world))
+    (meter c.run_operand.new.live.work (g.W.World.asked c.run_operand.new.world)) in
+    let stops = chain_stops (around_of c.args.around.now g.W.World.reading g.W.World.calls)
+    g.W.World.plain c.args.room c.in_err-value-in-Value.field-0.0 c.args.place.now
+    (map step_seen c.args.rest.now) (second_run (eval c.args.room)
+    (around_of c.args.around.now g.W.World.reading g.W.World.calls) c.args.place.now
+    (node_seen c.args.right.now)) (only keys g.W.World.answers) (env c.args.live.now)
+    (env c.apply_boolean.new.live) (meter c.args.live.now.work
+    (g.W.World.asked c.args.world.now)) (meter c.apply_boolean.new.live.work
+    (g.W.World.asked c.run_operand.new.world)) in
     grind (arith, inner, stops)
 
 pub chains::run_chain-returns-in_err-push-in-Inner-clause-gives : goal.chains::run_chain-returns-in_err-push-in-Inner-clause-gives
@@ -130,161 +253,333 @@ chains::run_chain-returns-in_err-push-in-Inner-clause-gives g t c = λ keys.
     let done = c.turns.invariant.gives keys in (
       done.0,
       λ told.
-          let leaves = turns_leave (around_of c.args.around.now g.W.World.reading g.W.World.calls) g.W.World.plain c.args.room (only keys g.W.World.answers) c.turns.waiting.items c.turns.turn (env c.turns.live) (meter c.turns.live.work (g.W.World.asked c.turns.world)) (chain_run (eval c.args.room) (around_of c.args.around.now g.W.World.reading g.W.World.calls) c.args.chain (only keys g.W.World.answers) (env c.args.live.now) (meter c.args.live.now.work (g.W.World.asked c.args.world.now))) (done.1 told) in
+          let leaves = turns_leave (around_of c.args.around.now g.W.World.reading g.W.World.calls)
+          g.W.World.plain c.args.room (only keys g.W.World.answers) c.turns.waiting.items
+          c.turns.turn (env c.turns.live) (meter c.turns.live.work
+          (g.W.World.asked c.turns.world)) (chain_run (eval c.args.room)
+          (around_of c.args.around.now g.W.World.reading g.W.World.calls) c.args.chain
+          (only keys g.W.World.answers) (env c.args.live.now)
+          (meter c.args.live.now.work (g.W.World.asked c.args.world.now))) (done.1 told) in
           grind (arith, leaves),
     )
 
 pub chains::run_chain-returns-in_err-turn-in-Inner-clause-gives : goal.chains::run_chain-returns-in_err-turn-in-Inner-clause-gives
 chains::run_chain-returns-in_err-turn-in-Inner-clause-gives g t c = λ keys.
-    let more = resumed_more (eval c.args.room) (around_of c.args.around.now g.W.World.reading g.W.World.calls) (only keys g.W.World.answers) c.turns.waiting.items c.in-Inner.outer (chain_run (eval c.args.room) (around_of c.args.around.now g.W.World.reading g.W.World.calls) c.in-Inner.inner (only keys g.W.World.answers) (env c.turns.live) (meter c.turns.live.work (g.W.World.asked c.turns.world))) in
-    let ends = resumed_ends (around_of c.args.around.now g.W.World.reading g.W.World.calls) g.W.World.plain c.args.room (only keys g.W.World.answers) (c.turns.waiting.items ++ c.in-Inner.outer ∷ []) c.in_err-turn-in-Inner.field-0.0 (env c.start-in-Inner.new.live) (meter c.start-in-Inner.new.live.work (g.W.World.asked c.start-in-Inner.new.world)) (chain_run (eval c.args.room) (around_of c.args.around.now g.W.World.reading g.W.World.calls) c.in-Inner.inner (only keys g.W.World.answers) (env c.turns.live) (meter c.turns.live.work (g.W.World.asked c.turns.world))) (chain_run (eval c.args.room) (around_of c.args.around.now g.W.World.reading g.W.World.calls) c.args.chain (only keys g.W.World.answers) (env c.args.live.now) (meter c.args.live.now.work (g.W.World.asked c.args.world.now))) in
+    let more = resumed_more (eval c.args.room) (around_of c.args.around.now g.W.World.reading
+    g.W.World.calls) (only keys g.W.World.answers) c.turns.waiting.items c.in-Inner.outer
+    (chain_run (eval c.args.room) (around_of c.args.around.now g.W.World.reading
+    g.W.World.calls) c.in-Inner.inner (only keys g.W.World.answers) (env c.turns.live)
+    (meter c.turns.live.work (g.W.World.asked c.turns.world))) in
+    let ends = resumed_ends (around_of c.args.around.now g.W.World.reading g.W.World.calls)
+    g.W.World.plain c.args.room (only keys g.W.World.answers)
+    (c.turns.waiting.items ++ c.in-Inner.outer ∷ []) c.in_err-turn-in-Inner.field-0.0
+    (env c.start-in-Inner.new.live) (meter c.start-in-Inner.new.live.work
+    (g.W.World.asked c.start-in-Inner.new.world))
+    (chain_run (eval c.args.room) (around_of c.args.around.now g.W.World.reading
+    g.W.World.calls) c.in-Inner.inner (only keys g.W.World.answers) (env c.turns.live)
+    (meter c.turns.live.work (g.W.World.asked c.turns.world)))
+    (chain_run (eval c.args.room) (around_of c.args.around.now g.W.World.reading
+    g.W.World.calls) c.args.chain (only keys g.W.World.answers) (env c.args.live.now)
+    (meter c.args.live.now.work (g.W.World.asked c.args.world.now))) in
     let done = c.turns.invariant.gives keys in
     let here = c.start-in-Inner.ensures.gives keys in
     grind (arith, more, ends, done, here)
 
 pub chains::run_chain-returns-in_err-turn-in-Some-clause-gives : goal.chains::run_chain-returns-in_err-turn-in-Some-clause-gives
 chains::run_chain-returns-in_err-turn-in-Some-clause-gives g t c = λ keys.
-    let first = steps_more (eval c.args.room) (around_of c.args.around.now g.W.World.reading g.W.World.calls) c.in-Steps.place.now (map step_seen c.in-Steps.rest.now) (map step_seen c.in-Some.rest.now) (step_seen c.in-Some.step.now) c.in-Steps.value (only keys g.W.World.answers) (env c.turns.live) (meter c.turns.live.work (g.W.World.asked c.turns.world)) in
-    let ends = resumed_ends (around_of c.args.around.now g.W.World.reading g.W.World.calls) g.W.World.plain c.args.room (only keys g.W.World.answers) c.turns.waiting.items c.in_err-turn-in-Some.field-0.0 (env c.run_step.new.live) (meter c.run_step.new.live.work (g.W.World.asked c.run_step.new.world)) (turn_run (eval c.args.room) (around_of c.args.around.now g.W.World.reading g.W.World.calls) c.turns.turn (only keys g.W.World.answers) (env c.turns.live) (meter c.turns.live.work (g.W.World.asked c.turns.world))) (chain_run (eval c.args.room) (around_of c.args.around.now g.W.World.reading g.W.World.calls) c.args.chain (only keys g.W.World.answers) (env c.args.live.now) (meter c.args.live.now.work (g.W.World.asked c.args.world.now))) in
+    let first = steps_more (eval c.args.room) (around_of c.args.around.now g.W.World.reading
+    g.W.World.calls) c.in-Steps.place.now (map step_seen c.in-Steps.rest.now)
+    (map step_seen c.in-Some.rest.now) (step_seen c.in-Some.step.now) c.in-Steps.value
+    (only keys g.W.World.answers) (env c.turns.live)
+    (meter c.turns.live.work (g.W.World.asked c.turns.world)) in
+    let ends = resumed_ends (around_of c.args.around.now g.W.World.reading g.W.World.calls)
+    g.W.World.plain c.args.room (only keys g.W.World.answers) c.turns.waiting.items
+    c.in_err-turn-in-Some.field-0.0 (env c.run_step.new.live)
+    (meter c.run_step.new.live.work (g.W.World.asked c.run_step.new.world))
+    (turn_run (eval c.args.room) (around_of c.args.around.now g.W.World.reading g.W.World.calls)
+    c.turns.turn (only keys g.W.World.answers) (env c.turns.live)
+    (meter c.turns.live.work (g.W.World.asked c.turns.world)))
+    (chain_run (eval c.args.room) (around_of c.args.around.now g.W.World.reading
+    g.W.World.calls) c.args.chain (only keys g.W.World.answers) (env c.args.live.now)
+    (meter c.args.live.now.work (g.W.World.asked c.args.world.now))) in
     let done = c.turns.invariant.gives keys in
     let here = c.run_step.ensures.gives keys in
     grind (arith, first, ends, done, here)
 
 pub chains::run_chain-returns-in_err-turn-in-Some-pop-clause-gives : goal.chains::run_chain-returns-in_err-turn-in-Some-pop-clause-gives
 chains::run_chain-returns-in_err-turn-in-Some-pop-clause-gives g t c = λ keys.
-    let end = steps_end (eval c.args.room) (around_of c.args.around.now g.W.World.reading g.W.World.calls) c.in-Steps.place.now (map step_seen c.in-Steps.rest.now) c.in-Steps.value (only keys g.W.World.answers) (env c.turns.live) (meter c.turns.live.work (g.W.World.asked c.turns.world)) in
-    let more = resumed_more (eval c.args.room) (around_of c.args.around.now g.W.World.reading g.W.World.calls) (only keys g.W.World.answers) c.pop.new.self.items c.in-Some-pop.outer (turn_run (eval c.args.room) (around_of c.args.around.now g.W.World.reading g.W.World.calls) c.turns.turn (only keys g.W.World.answers) (env c.turns.live) (meter c.turns.live.work (g.W.World.asked c.turns.world))) in
-    let ends = resumed_ends (around_of c.args.around.now g.W.World.reading g.W.World.calls) g.W.World.plain c.args.room (only keys g.W.World.answers) c.pop.new.self.items c.in_err-turn-in-Some-pop.field-0.0 (env c.take_up.new.live) (meter c.take_up.new.live.work (g.W.World.asked c.take_up.new.world)) (then (turn_run (eval c.args.room) (around_of c.args.around.now g.W.World.reading g.W.World.calls) c.turns.turn (only keys g.W.World.answers) (env c.turns.live) (meter c.turns.live.work (g.W.World.asked c.turns.world))) (λ u. resume (eval c.args.room) (around_of c.args.around.now g.W.World.reading g.W.World.calls) c.in-Some-pop.outer u (only keys g.W.World.answers))) (chain_run (eval c.args.room) (around_of c.args.around.now g.W.World.reading g.W.World.calls) c.args.chain (only keys g.W.World.answers) (env c.args.live.now) (meter c.args.live.now.work (g.W.World.asked c.args.world.now))) in
+    let end = steps_end (eval c.args.room) (around_of c.args.around.now g.W.World.reading
+    g.W.World.calls) c.in-Steps.place.now (map step_seen c.in-Steps.rest.now) c.in-Steps.value
+    (only keys g.W.World.answers) (env c.turns.live)
+    (meter c.turns.live.work (g.W.World.asked c.turns.world)) in
+    let more = resumed_more (eval c.args.room) (around_of c.args.around.now g.W.World.reading
+    g.W.World.calls) (only keys g.W.World.answers) c.pop.new.self.items c.in-Some-pop.outer
+    (turn_run (eval c.args.room) (around_of c.args.around.now g.W.World.reading g.W.World.calls)
+    c.turns.turn (only keys g.W.World.answers) (env c.turns.live)
+    (meter c.turns.live.work (g.W.World.asked c.turns.world))) in
+    let ends = resumed_ends (around_of c.args.around.now g.W.World.reading g.W.World.calls)
+    g.W.World.plain c.args.room (only keys g.W.World.answers) c.pop.new.self.items
+    c.in_err-turn-in-Some-pop.field-0.0 (env c.take_up.new.live)
+    (meter c.take_up.new.live.work (g.W.World.asked c.take_up.new.world))
+    (then (turn_run (eval c.args.room) (around_of c.args.around.now g.W.World.reading
+    g.W.World.calls) c.turns.turn (only keys g.W.World.answers) (env c.turns.live)
+    (meter c.turns.live.work (g.W.World.asked c.turns.world)))
+    (λ u. resume (eval c.args.room) (around_of c.args.around.now g.W.World.reading
+    g.W.World.calls) c.in-Some-pop.outer u (only keys g.W.World.answers)))
+    (chain_run (eval c.args.room) (around_of c.args.around.now g.W.World.reading
+    g.W.World.calls) c.args.chain (only keys g.W.World.answers) (env c.args.live.now)
+    (meter c.args.live.now.work (g.W.World.asked c.args.world.now))) in
     let done = c.turns.invariant.gives keys in
     let here = c.take_up.ensures.gives keys in
     grind (arith, end, more, ends, done, here)
 
 pub creating::run_created-returns-in_err-share-clause-gives : goal.creating::run_created-returns-in_err-share-clause-gives
 creating::run_created-returns-in_err-share-clause-gives g t c = λ keys.
-    let leaves = made_leaves (around_of c.args.around.now g.W.World.reading g.W.World.calls) g.W.World.plain c.args.room c.args.place.now c.args.name.now (template_seen c.in_ok-template.template.value) (only keys g.W.World.answers) (env c.args.live.now) (env c.structure_named.new.live) (meter c.args.live.now.work (g.W.World.asked c.args.world.now)) (meter c.structure_named.new.live.work (g.W.World.asked c.structure_named.new.world)) in
+    let leaves = made_leaves (around_of c.args.around.now g.W.World.reading g.W.World.calls)
+    g.W.World.plain c.args.room c.args.place.now c.args.name.now
+    (template_seen c.in_ok-template.template.value) (only keys g.W.World.answers)
+    (env c.args.live.now) (env c.structure_named.new.live)
+    (meter c.args.live.now.work (g.W.World.asked c.args.world.now))
+    (meter c.structure_named.new.live.work (g.W.World.asked c.structure_named.new.world)) in
     grind (arith, leaves)
 
 pub creating::run_statements-returns-in_err-made-clause-gives : goal.creating::run_statements-returns-in_err-made-clause-gives
 creating::run_statements-returns-in_err-made-clause-gives g t c = λ keys.
-    let stops = statements_stop (around_of c.args.around.now g.W.World.reading g.W.World.calls) g.W.World.plain c.args.room c.in_err-made.field-0.0 c.args.around.now.includes_left c.args.statements.now c.statements.statement-index c.statement-item.result c.statements.made (only keys g.W.World.answers) (env c.statements.live) (env c.run_statement.new.live) (meter c.statements.live.work (g.W.World.asked c.statements.world)) (meter c.run_statement.new.live.work (g.W.World.asked c.run_statement.new.world)) c.statements-test.true c.statement-item.is in
+    let stops = statements_stop (around_of c.args.around.now g.W.World.reading g.W.World.calls)
+    g.W.World.plain c.args.room c.in_err-made.field-0.0 c.args.around.now.includes_left
+    c.args.statements.now c.statements.statement-index c.statement-item.result c.statements.made
+    (only keys g.W.World.answers) (env c.statements.live) (env c.run_statement.new.live)
+    (meter c.statements.live.work (g.W.World.asked c.statements.world))
+    (meter c.run_statement.new.live.work (g.W.World.asked c.run_statement.new.world))
+    c.statements-test.true c.statement-item.is in
     grind (arith, stops)
 
 pub creating::run_assignment-returns-in_err-terms-clause-gives : goal.creating::run_assignment-returns-in_err-terms-clause-gives
 creating::run_assignment-returns-in_err-terms-clause-gives g t c = λ keys.
-    let stops = terms_stop (around_of c.args.around.now g.W.World.reading g.W.World.calls) g.W.World.plain c.args.room c.in_err-terms.field-0.0 c.args.place.now c.args.path.now c.args.conditional (item_seen c.args.item.now) c.args.made (only keys g.W.World.answers) (env c.args.live.now) (env c.args.live.now) (meter c.args.live.now.work (g.W.World.asked c.args.world.now)) (meter c.args.live.now.work (g.W.World.asked c.args.world.now)) in
+    let stops = terms_stop (around_of c.args.around.now g.W.World.reading g.W.World.calls)
+    g.W.World.plain c.args.room c.in_err-terms.field-0.0 c.args.place.now c.args.path.now
+    c.args.conditional (item_seen c.args.item.now) c.args.made (only keys g.W.World.answers)
+    (env c.args.live.now) (env c.args.live.now) (meter c.args.live.now.work
+    (g.W.World.asked c.args.world.now)) (meter c.args.live.now.work
+    (g.W.World.asked c.args.world.now)) in
     grind (arith, stops)
 
 pub creating::run_assigned-returns-in_err-present-clause-gives : goal.creating::run_assigned-returns-in_err-present-clause-gives
 creating::run_assigned-returns-in_err-present-clause-gives g t c = λ keys.
-    let leaves = assigned_leaves (around_of c.args.around.now g.W.World.reading g.W.World.calls) g.W.World.plain c.args.room c.args.place.now c.args.path.now c.args.terms.now (item_seen c.args.item.now) c.args.made (only keys g.W.World.answers) (env c.args.live.now) (meter c.args.live.now.work (g.W.World.asked c.args.world.now)) in
+    let leaves = assigned_leaves (around_of c.args.around.now g.W.World.reading g.W.World.calls)
+    g.W.World.plain c.args.room c.args.place.now c.args.path.now c.args.terms.now
+    (item_seen c.args.item.now) c.args.made (only keys g.W.World.answers) (env c.args.live.now)
+    (meter c.args.live.now.work (g.W.World.asked c.args.world.now)) in
     grind (arith, leaves)
 
 pub creating::run_include-returns-in_err-value-clause-gives : goal.creating::run_include-returns-in_err-value-clause-gives
 creating::run_include-returns-in_err-value-clause-gives g t c = λ keys.
-    let stops = include_stops (around_of c.args.around.now g.W.World.reading g.W.World.calls) g.W.World.plain c.args.room c.in_err-value.field-0.0 c.args.around.now.includes_left c.args.place.now (item_seen c.args.item.now) c.args.made (only keys g.W.World.answers) (env c.args.live.now) (env c.run_inner.new.live) (meter c.args.live.now.work (g.W.World.asked c.args.world.now)) (meter c.run_inner.new.live.work (g.W.World.asked c.run_inner.new.world)) in
+    let stops = include_stops (around_of c.args.around.now g.W.World.reading g.W.World.calls)
+    g.W.World.plain c.args.room c.in_err-value.field-0.0 c.args.around.now.includes_left
+    c.args.place.now (item_seen c.args.item.now) c.args.made (only keys g.W.World.answers)
+    (env c.args.live.now) (env c.run_inner.new.live)
+    (meter c.args.live.now.work (g.W.World.asked c.args.world.now))
+    (meter c.run_inner.new.live.work (g.W.World.asked c.run_inner.new.world)) in
     grind (arith, stops)
 
 pub creating::run_included-returns-in_err-template-clause-gives : goal.creating::run_included-returns-in_err-template-clause-gives
 creating::run_included-returns-in_err-template-clause-gives g t c = λ keys.
-    let stops = included_stops (around_of c.args.around.now g.W.World.reading g.W.World.calls) g.W.World.plain c.args.room c.args.around.now.includes_left c.in_err-template.field-0.0 c.args.place.now c.args.name.now c.args.made (only keys g.W.World.answers) (env c.args.live.now) (env c.structure_named.new.live) (meter c.args.live.now.work (g.W.World.asked c.args.world.now)) (meter c.structure_named.new.live.work (g.W.World.asked c.structure_named.new.world)) in
+    let stops = included_stops (around_of c.args.around.now g.W.World.reading g.W.World.calls)
+    g.W.World.plain c.args.room c.args.around.now.includes_left c.in_err-template.field-0.0
+    c.args.place.now c.args.name.now c.args.made (only keys g.W.World.answers)
+    (env c.args.live.now) (env c.structure_named.new.live)
+    (meter c.args.live.now.work (g.W.World.asked c.args.world.now))
+    (meter c.structure_named.new.live.work (g.W.World.asked c.structure_named.new.world)) in
     grind (arith, stops)
 
 pub creating::run_inner-returns-in_err-share_called-clause-gives : goal.creating::run_inner-returns-in_err-share_called-clause-gives
 creating::run_inner-returns-in_err-share_called-clause-gives g t c = λ keys.
-    let leaves = inner_leaves (around_of c.args.around.now g.W.World.reading g.W.World.calls) g.W.World.plain c.args.room (is_fixed c.args.self_use) c.args.self_value (item_seen c.args.item.now) (only keys g.W.World.answers) (env c.args.live.now) (meter c.args.live.now.work (g.W.World.asked c.args.world.now)) in
+    let leaves = inner_leaves (around_of c.args.around.now g.W.World.reading g.W.World.calls)
+    g.W.World.plain c.args.room (is_fixed c.args.self_use) c.args.self_value
+    (item_seen c.args.item.now) (only keys g.W.World.answers) (env c.args.live.now)
+    (meter c.args.live.now.work (g.W.World.asked c.args.world.now)) in
     grind (arith, leaves)
 
 pub items::run_block-returns-in_err-last-clause-gives : goal.items::run_block-returns-in_err-last-clause-gives
 items::run_block-returns-in_err-last-clause-gives g t c = λ keys.
-    let stops = block_stops (around_of c.args.around.now g.W.World.reading g.W.World.calls) g.W.World.plain c.args.room c.in_err-last.field-0.0 c.args.items.now c.items.item-index c.item-item.result c.items.last (only keys g.W.World.answers) (env c.items.live) (env c.open_item.new.live) (meter c.items.live.work (g.W.World.asked c.items.world)) (meter c.open_item.new.live.work (g.W.World.asked c.open_item.new.world)) c.items-test.true c.item-item.is in
+    let stops = block_stops (around_of c.args.around.now g.W.World.reading g.W.World.calls)
+    g.W.World.plain c.args.room c.in_err-last.field-0.0 c.args.items.now c.items.item-index
+    c.item-item.result c.items.last (only keys g.W.World.answers) (env c.items.live)
+    (env c.open_item.new.live) (meter c.items.live.work (g.W.World.asked c.items.world))
+    (meter c.open_item.new.live.work (g.W.World.asked c.open_item.new.world)) c.items-test.true
+    c.item-item.is in
     grind (arith, stops)
 
 pub items::open_values-returns-in_err-value-clause-gives : goal.items::open_values-returns-in_err-value-clause-gives
 items::open_values-returns-in_err-value-clause-gives g t c = λ keys.
-    let stops = values_stop (around_of c.args.around.now g.W.World.reading g.W.World.calls) g.W.World.plain c.args.room c.in_err-value.field-0.0 c.args.items.now c.items.item-index c.item-item.result c.items.values.items (only keys g.W.World.answers) (env c.items.live) (env c.open_item.new.live) (meter c.items.live.work (g.W.World.asked c.items.world)) (meter c.open_item.new.live.work (g.W.World.asked c.open_item.new.world)) c.items-test.true c.item-item.is in
+    let stops = values_stop (around_of c.args.around.now g.W.World.reading g.W.World.calls)
+    g.W.World.plain c.args.room c.in_err-value.field-0.0 c.args.items.now c.items.item-index
+    c.item-item.result c.items.values.items (only keys g.W.World.answers) (env c.items.live)
+    (env c.open_item.new.live) (meter c.items.live.work (g.W.World.asked c.items.world))
+    (meter c.open_item.new.live.work (g.W.World.asked c.open_item.new.world)) c.items-test.true
+    c.item-item.is in
     grind (arith, stops)
 
 pub items::open_values-returns-in_err-push-clause-gives : goal.items::open_values-returns-in_err-push-clause-gives
 items::open_values-returns-in_err-push-clause-gives g t c = λ keys.
-    let leaves = values_left (around_of c.args.around.now g.W.World.reading g.W.World.calls) g.W.World.plain c.args.room c.args.items.now c.items.item-index c.item-item.result c.items.values.items c.in_ok-value.value (only keys g.W.World.answers) (env c.items.live) (env c.open_item.new.live) (meter c.items.live.work (g.W.World.asked c.items.world)) (meter c.open_item.new.live.work (g.W.World.asked c.open_item.new.world)) c.items-test.true c.item-item.is in
+    let leaves = values_left (around_of c.args.around.now g.W.World.reading g.W.World.calls)
+    g.W.World.plain c.args.room c.args.items.now c.items.item-index c.item-item.result
+    c.items.values.items c.in_ok-value.value (only keys g.W.World.answers) (env c.items.live)
+    (env c.open_item.new.live) (meter c.items.live.work (g.W.World.asked c.items.world))
+    (meter c.open_item.new.live.work (g.W.World.asked c.open_item.new.world)) c.items-test.true
+    c.item-item.is in
     grind (arith, leaves)
 
 pub items::run_set-returns-in_err-keys-clause-gives : goal.items::run_set-returns-in_err-keys-clause-gives
 items::run_set-returns-in_err-keys-clause-gives g t c = λ keys.
-    let stops = keys_stop (around_of c.args.around.now g.W.World.reading g.W.World.calls) g.W.World.plain c.args.room c.in_err-keys.field-0.0 c.args.place.now c.args.name.now (items_seen c.args.indexes.now) (item_seen c.args.right.now) (only keys g.W.World.answers) (env c.args.live.now) (env c.open_values.new.live) (meter c.args.live.now.work (g.W.World.asked c.args.world.now)) (meter c.open_values.new.live.work (g.W.World.asked c.open_values.new.world)) in
+    let stops = keys_stop (around_of c.args.around.now g.W.World.reading g.W.World.calls)
+    g.W.World.plain c.args.room c.in_err-keys.field-0.0 c.args.place.now c.args.name.now
+    (items_seen c.args.indexes.now) (item_seen c.args.right.now) (only keys g.W.World.answers)
+    (env c.args.live.now) (env c.open_values.new.live)
+    (meter c.args.live.now.work (g.W.World.asked c.args.world.now))
+    (meter c.open_values.new.live.work (g.W.World.asked c.open_values.new.world)) in
     grind (arith, stops)
 
 pub items::run_set-returns-in_err-value-clause-gives : goal.items::run_set-returns-in_err-value-clause-gives
 items::run_set-returns-in_err-value-clause-gives g t c = λ keys.
-    let stops = right_stops (around_of c.args.around.now g.W.World.reading g.W.World.calls) g.W.World.plain c.args.room c.in_err-value.field-0.0 c.args.place.now c.args.name.now (items_seen c.args.indexes.now) (item_seen c.args.right.now) c.in_ok-keys.keys.items (only keys g.W.World.answers) (env c.args.live.now) (env c.open_values.new.live) (env c.open_item.new.live) (meter c.args.live.now.work (g.W.World.asked c.args.world.now)) (meter c.open_item.new.live.work (g.W.World.asked c.open_item.new.world)) (meter c.open_values.new.live.work (g.W.World.asked c.open_values.new.world)) in
+    let stops = right_stops (around_of c.args.around.now g.W.World.reading g.W.World.calls)
+    g.W.World.plain c.args.room c.in_err-value.field-0.0 c.args.place.now c.args.name.now
+    (items_seen c.args.indexes.now) (item_seen c.args.right.now) c.in_ok-keys.keys.items
+    (only keys g.W.World.answers) (env c.args.live.now) (env c.open_values.new.live)
+    (env c.open_item.new.live) (meter c.args.live.now.work (g.W.World.asked c.args.world.now))
+    (meter c.open_item.new.live.work (g.W.World.asked c.open_item.new.world))
+    (meter c.open_values.new.live.work (g.W.World.asked c.open_values.new.world)) in
     grind (arith, stops)
 
 pub loops::turn_for-returns-in_err-turned-clause-gives : goal.loops::turn_for-returns-in_err-turned-clause-gives
 loops::turn_for-returns-in_err-turned-clause-gives g t c = λ keys.
-    let stops = turn_stops (around_of c.args.around.now g.W.World.reading g.W.World.calls) g.W.World.plain c.args.room c.in_err-turned.field-0.0 c.args.left c.args.place.now (item_seen c.args.condition.now) (item_seen c.args.step.now) (item_seen c.args.body.now) (only keys g.W.World.answers) (env c.args.live.now) (env c.turn_while.new.live) (meter c.args.live.now.work (g.W.World.asked c.args.world.now)) (meter c.turn_while.new.live.work (g.W.World.asked c.turn_while.new.world)) in
+    let stops = turn_stops (around_of c.args.around.now g.W.World.reading g.W.World.calls)
+    g.W.World.plain c.args.room c.in_err-turned.field-0.0 c.args.left c.args.place.now
+    (item_seen c.args.condition.now) (item_seen c.args.step.now) (item_seen c.args.body.now)
+    (only keys g.W.World.answers) (env c.args.live.now) (env c.turn_while.new.live)
+    (meter c.args.live.now.work (g.W.World.asked c.args.world.now))
+    (meter c.turn_while.new.live.work (g.W.World.asked c.turn_while.new.world)) in
     grind (arith, stops)
 
 pub loops::turns_for-returns-in_err-value-clause-gives : goal.loops::turns_for-returns-in_err-value-clause-gives
 loops::turns_for-returns-in_err-value-clause-gives g t c = λ keys.
-    let stops = for_stops (around_of c.args.around.now g.W.World.reading g.W.World.calls) g.W.World.plain c.args.room c.turns.left c.in_err-value.field-0.0 c.args.place.now (item_seen c.args.condition.now) (item_seen c.args.step.now) (item_seen c.args.body.now) c.turns.last (only keys g.W.World.answers) (env c.turns.live) (env c.turn_for.new.live) (meter c.turns.live.work (g.W.World.asked c.turns.world)) (meter c.turn_for.new.live.work (g.W.World.asked c.turn_for.new.world)) in
+    let stops = for_stops (around_of c.args.around.now g.W.World.reading g.W.World.calls)
+    g.W.World.plain c.args.room c.turns.left c.in_err-value.field-0.0 c.args.place.now
+    (item_seen c.args.condition.now) (item_seen c.args.step.now) (item_seen c.args.body.now)
+    c.turns.last (only keys g.W.World.answers) (env c.turns.live) (env c.turn_for.new.live)
+    (meter c.turns.live.work (g.W.World.asked c.turns.world))
+    (meter c.turn_for.new.live.work (g.W.World.asked c.turn_for.new.world)) in
     grind (arith, stops)
 
 pub loops::turn_pair-returns-in_err-set_pair-clause-gives : goal.loops::turn_pair-returns-in_err-set_pair-clause-gives
 loops::turn_pair-returns-in_err-set_pair-clause-gives g t c = λ keys.
-    let stops = pair_stops (around_of c.args.around.now g.W.World.reading g.W.World.calls) g.W.World.plain c.args.room (c.args.around.now.frame.now.max_iteration - c.args.i) c.in_err-set_pair.field-0.0 c.args.place.now c.args.key.now c.args.value.now (item_seen c.args.body.now) (pair_at c.args.i c.args.walked.now) (only keys g.W.World.answers) (env c.args.live.now) (env c.set_pair.new.live) (meter c.args.live.now.work (g.W.World.asked c.args.world.now)) (meter c.set_pair.new.live.work (g.W.World.asked c.args.world.now)) in
+    let stops = pair_stops (around_of c.args.around.now g.W.World.reading g.W.World.calls)
+    g.W.World.plain c.args.room (c.args.around.now.frame.now.max_iteration - c.args.i)
+    c.in_err-set_pair.field-0.0 c.args.place.now c.args.key.now c.args.value.now
+    (item_seen c.args.body.now) (pair_at c.args.i c.args.walked.now)
+    (only keys g.W.World.answers) (env c.args.live.now) (env c.set_pair.new.live)
+    (meter c.args.live.now.work (g.W.World.asked c.args.world.now))
+    (meter c.set_pair.new.live.work (g.W.World.asked c.args.world.now)) in
     grind (arith, stops)
 
 pub loops::turn_while-returns-in_err-holds-clause-gives : goal.loops::turn_while-returns-in_err-holds-clause-gives
 loops::turn_while-returns-in_err-holds-clause-gives g t c = λ keys.
-    let stops = condition_stops (around_of c.args.around.now g.W.World.reading g.W.World.calls) g.W.World.plain c.args.room c.in_err-holds.field-0.0 c.args.left c.args.place.now (item_seen c.args.condition.now) (item_seen c.args.body.now) (only keys g.W.World.answers) (env c.args.live.now) (env c.holds.new.live) (meter c.args.live.now.work (g.W.World.asked c.args.world.now)) (meter c.holds.new.live.work (g.W.World.asked c.holds.new.world)) in
+    let stops = condition_stops (around_of c.args.around.now g.W.World.reading g.W.World.calls)
+    g.W.World.plain c.args.room c.in_err-holds.field-0.0 c.args.left c.args.place.now
+    (item_seen c.args.condition.now) (item_seen c.args.body.now) (only keys g.W.World.answers)
+    (env c.args.live.now) (env c.holds.new.live) (meter c.args.live.now.work
+    (g.W.World.asked c.args.world.now)) (meter c.holds.new.live.work
+    (g.W.World.asked c.holds.new.world)) in
     grind (arith, stops)
 
 pub loops::run_while-returns-in_err-value-clause-gives : goal.loops::run_while-returns-in_err-value-clause-gives
 loops::run_while-returns-in_err-value-clause-gives g t c = λ keys.
-    let stops = while_stops (around_of c.args.around.now g.W.World.reading g.W.World.calls) g.W.World.plain c.args.room c.turns.left c.in_err-value.field-0.0 c.args.place.now (item_seen c.args.condition.now) (item_seen c.args.body.now) c.turns.last (only keys g.W.World.answers) (env c.turns.live) (env c.turn_while.new.live) (meter c.turns.live.work (g.W.World.asked c.turns.world)) (meter c.turn_while.new.live.work (g.W.World.asked c.turn_while.new.world)) in
+    let stops = while_stops (around_of c.args.around.now g.W.World.reading g.W.World.calls)
+    g.W.World.plain c.args.room c.turns.left c.in_err-value.field-0.0 c.args.place.now
+    (item_seen c.args.condition.now) (item_seen c.args.body.now) c.turns.last
+    (only keys g.W.World.answers) (env c.turns.live) (env c.turn_while.new.live)
+    (meter c.turns.live.work (g.W.World.asked c.turns.world))
+    (meter c.turn_while.new.live.work (g.W.World.asked c.turn_while.new.world)) in
     grind (arith, stops)
 
 pub nodes::open_sign-returns-in_err-value-clause-gives : goal.nodes::open_sign-returns-in_err-value-clause-gives
 nodes::open_sign-returns-in_err-value-clause-gives g t c = λ keys.
-    let stops = sign_stops (around_of c.args.around.now g.W.World.reading g.W.World.calls) g.W.World.plain c.args.room c.in_err-value.field-0.0 c.args.place.now c.args.op (node_seen c.args.operand.now) (only keys g.W.World.answers) (env c.args.live.now) (env c.run_node.new.live) (meter c.args.live.now.work (g.W.World.asked c.args.world.now)) (meter c.run_node.new.live.work (g.W.World.asked c.run_node.new.world)) in
+    let stops = sign_stops (around_of c.args.around.now g.W.World.reading g.W.World.calls)
+    g.W.World.plain c.args.room c.in_err-value.field-0.0 c.args.place.now c.args.op
+    (node_seen c.args.operand.now) (only keys g.W.World.answers) (env c.args.live.now)
+    (env c.run_node.new.live) (meter c.args.live.now.work (g.W.World.asked c.args.world.now))
+    (meter c.run_node.new.live.work (g.W.World.asked c.run_node.new.world)) in
     grind (arith, stops)
 
 pub references::value_or_nothing-returns-in_err-argument-clause-gives : goal.references::value_or_nothing-returns-in_err-argument-clause-gives
 references::value_or_nothing-returns-in_err-argument-clause-gives g t c = λ keys.
-    let leaves = value_leaves (around_of c.args.around.now g.W.World.reading g.W.World.calls) g.W.World.plain c.args.room (item_seen c.args.item.now) (reference_in (item_seen c.args.item.now)) (only keys g.W.World.answers) (env c.args.live.now) (meter c.args.live.now.work (g.W.World.asked c.args.world.now)) in
+    let leaves = value_leaves (around_of c.args.around.now g.W.World.reading g.W.World.calls)
+    g.W.World.plain c.args.room (item_seen c.args.item.now)
+    (reference_in (item_seen c.args.item.now)) (only keys g.W.World.answers)
+    (env c.args.live.now) (meter c.args.live.now.work (g.W.World.asked c.args.world.now)) in
     grind (arith, leaves)
 
 pub references::open_reference-returns-in_err-take_step-clause-gives : goal.references::open_reference-returns-in_err-take_step-clause-gives
 references::open_reference-returns-in_err-take_step-clause-gives g t c = λ keys.
-    let stops = reference_stops (around_of c.args.around.now g.W.World.reading g.W.World.calls) g.W.World.plain c.args.room c.in_err-take_step.field-0.0 (purpose_of c.args.purpose.now) c.args.place.now (argument_of c.args.argument) (only keys g.W.World.answers) (env c.args.live.now) (env c.take_step.new.live) (meter c.args.live.now.work (g.W.World.asked c.args.world.now)) (meter c.take_step.new.live.work (g.W.World.asked c.args.world.now)) in
+    let stops = reference_stops (around_of c.args.around.now g.W.World.reading g.W.World.calls)
+    g.W.World.plain c.args.room c.in_err-take_step.field-0.0 (purpose_of c.args.purpose.now)
+    c.args.place.now (argument_of c.args.argument) (only keys g.W.World.answers)
+    (env c.args.live.now) (env c.take_step.new.live)
+    (meter c.args.live.now.work (g.W.World.asked c.args.world.now))
+    (meter c.take_step.new.live.work (g.W.World.asked c.args.world.now)) in
     grind (arith, stops)
 
 pub references::open_reference-returns-in_err-value-clause-gives : goal.references::open_reference-returns-in_err-value-clause-gives
 references::open_reference-returns-in_err-value-clause-gives g t c = λ keys.
-    let stops = start_stops (around_of c.args.around.now g.W.World.reading g.W.World.calls) g.W.World.plain c.args.room c.in_err-value.field-0.0 (purpose_of c.args.purpose.now) c.args.place.now c.args.argument.place.now c.args.argument.name.now (indexes_back c.args.argument.indexes.items none) (only keys g.W.World.answers) (env c.args.live.now) (env c.take_step.new.live) (env c.start_reference.new.live) (meter c.args.live.now.work (g.W.World.asked c.args.world.now)) (meter c.start_reference.new.live.work (g.W.World.asked c.args.world.now)) (meter c.take_step.new.live.work (g.W.World.asked c.args.world.now)) in
+    let stops = start_stops (around_of c.args.around.now g.W.World.reading g.W.World.calls)
+    g.W.World.plain c.args.room c.in_err-value.field-0.0 (purpose_of c.args.purpose.now)
+    c.args.place.now c.args.argument.place.now c.args.argument.name.now
+    (indexes_back c.args.argument.indexes.items none) (only keys g.W.World.answers)
+    (env c.args.live.now) (env c.take_step.new.live) (env c.start_reference.new.live)
+    (meter c.args.live.now.work (g.W.World.asked c.args.world.now))
+    (meter c.start_reference.new.live.work (g.W.World.asked c.args.world.now))
+    (meter c.take_step.new.live.work (g.W.World.asked c.args.world.now)) in
     grind (arith, stops)
 
 pub references::open_reference-returns-clause-gives : goal.references::open_reference-returns-clause-gives
 references::open_reference-returns-clause-gives g t c = λ keys.
-    let goes = reference_goes (around_of c.args.around.now g.W.World.reading g.W.World.calls) g.W.World.plain c.args.room (purpose_of c.args.purpose.now) c.args.place.now c.args.argument.place.now c.args.argument.name.now (indexes_back c.args.argument.indexes.items none) c.in_ok-value.value (only keys g.W.World.answers) (env c.args.live.now) (env c.take_step.new.live) (env c.start_reference.new.live) (meter c.args.live.now.work (g.W.World.asked c.args.world.now)) (meter c.start_reference.new.live.work (g.W.World.asked c.args.world.now)) (meter c.take_step.new.live.work (g.W.World.asked c.args.world.now)) in
+    let goes = reference_goes (around_of c.args.around.now g.W.World.reading g.W.World.calls)
+    g.W.World.plain c.args.room (purpose_of c.args.purpose.now) c.args.place.now
+    c.args.argument.place.now c.args.argument.name.now
+    (indexes_back c.args.argument.indexes.items none) c.in_ok-value.value
+    (only keys g.W.World.answers) (env c.args.live.now) (env c.take_step.new.live)
+    (env c.start_reference.new.live) (meter c.args.live.now.work
+    (g.W.World.asked c.args.world.now)) (meter c.start_reference.new.live.work
+    (g.W.World.asked c.args.world.now)) (meter c.take_step.new.live.work
+    (g.W.World.asked c.args.world.now)) in
     grind (arith, goes)
 
 pub references::reach_from-returns-in_err-key-clause-gives : goal.references::reach_from-returns-in_err-key-clause-gives
 references::reach_from-returns-in_err-key-clause-gives g t c = λ keys.
-    let stops = index_stops (around_of c.args.around.now g.W.World.reading g.W.World.calls) g.W.World.plain c.args.room c.in_err-key.field-0.0 c.args.all c.args.place.now c.indexes.indexes.items c.pop.new.self.items c.in-Some.index c.indexes.keys.items c.indexes.value (only keys g.W.World.answers) (env c.indexes.live) (env c.open_item.new.live) (meter c.indexes.live.work (g.W.World.asked c.indexes.world)) (meter c.open_item.new.live.work (g.W.World.asked c.open_item.new.world)) in
+    let stops = index_stops (around_of c.args.around.now g.W.World.reading g.W.World.calls)
+    g.W.World.plain c.args.room c.in_err-key.field-0.0 c.args.all c.args.place.now
+    c.indexes.indexes.items c.pop.new.self.items c.in-Some.index c.indexes.keys.items
+    c.indexes.value (only keys g.W.World.answers) (env c.indexes.live)
+    (env c.open_item.new.live) (meter c.indexes.live.work (g.W.World.asked c.indexes.world))
+    (meter c.open_item.new.live.work (g.W.World.asked c.open_item.new.world)) in
     grind (arith, stops)
 
 pub built_in::run_test-returns-clause-gives : goal.built_in::run_test-returns-clause-gives
-built_in::run_test-returns-clause-gives g t c = λ keys. let here = c.test_item.ensures.gives keys in grind (arith, tests, here)
+built_in::run_test-returns-clause-gives g t c = λ keys. let here = c.test_item.ensures.gives keys in
+    grind (arith, tests, here)
 
 pub built_in::run_extend-returns-clause-gives : goal.built_in::run_extend-returns-clause-gives
-built_in::run_extend-returns-clause-gives g t c = λ keys. let here = c.run_change.ensures.gives keys in grind (arith, extends, item_place_seen, here)
+built_in::run_extend-returns-clause-gives g t c = λ keys. let here =
+    c.run_change.ensures.gives keys in grind (arith, extends, item_place_seen, here)
 
 pub built_in::run_extend-returns-in_default-2-clause-gives : goal.built_in::run_extend-returns-in_default-2-clause-gives
-built_in::run_extend-returns-in_default-2-clause-gives g t c = λ keys. let here = c.run_copy.ensures.gives keys in grind (arith, extends, item_place_seen, here)
+built_in::run_extend-returns-in_default-2-clause-gives g t c = λ keys. let here =
+    c.run_copy.ensures.gives keys in grind (arith, extends, item_place_seen, here)
 
 pub built_in::run_extend-returns-then-not-is_changed-clause-gives : goal.built_in::run_extend-returns-then-not-is_changed-clause-gives
-built_in::run_extend-returns-then-not-is_changed-clause-gives g t c = λ keys. let here = c.run_copy-then-not-is_changed.ensures.gives keys in grind (arith, extends, item_place_seen, here)
+built_in::run_extend-returns-then-not-is_changed-clause-gives g t c = λ keys. let here =
+    c.run_copy-then-not-is_changed.ensures.gives keys in
+    grind (arith, extends, item_place_seen, here)
 
 pub calls::run_function-run_called-requires : goal.calls::run_function-run_called-requires
 calls::run_function-run_called-requires g t c =
@@ -306,4 +601,5 @@ references::reach_from-returns-in_err-value-clause-gives g t c = λ keys.
     grind (arith, reaches, leaving, done, key, here)
 
 pub chains::take_up-returns-clause-gives : goal.chains::take_up-returns-clause-gives
-chains::take_up-returns-clause-gives g t c = λ keys. let here = c.apply_boolean.ensures.gives keys in grind (arith, here)
+chains::take_up-returns-clause-gives g t c = λ keys. let here =
+    c.apply_boolean.ensures.gives keys in grind (arith, here)

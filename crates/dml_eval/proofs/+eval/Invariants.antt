@@ -199,7 +199,10 @@ invariant-items::run_block-items g l =
     let asked = g.W.World.asked in
     let from = block_from (eval l.room) (around_of l.around g.W.World.reading g.W.World.calls) in
     record {
-      gives : ToldEnough g.W.World.answers (asked l.fn.world) (asked l.world) (λ told. from (items_seen (drop l.item-index l.items)) l.last told (env l.live) (meter l.live.work (asked l.world)) ≡ from (items_seen l.items) undef told (env l.fn.live) (meter l.fn.live.work (asked l.fn.world)));
+      gives : ToldEnough g.W.World.answers (asked l.fn.world) (asked l.world)
+          (λ told. from (items_seen (drop l.item-index l.items)) l.last told (env l.live)
+          (meter l.live.work (asked l.world)) ≡ from (items_seen l.items) undef told (env l.fn.live)
+          (meter l.fn.live.work (asked l.fn.world)));
       counted : l.steps + l.live.work.left ≡ l.fn.steps + l.fn.live.work.left;
     }
 
@@ -208,7 +211,10 @@ invariant-items::open_values-items g l =
     let asked = g.W.World.asked in
     let from = values_from (eval l.room) (around_of l.around g.W.World.reading g.W.World.calls) in
     record {
-      gives : ToldEnough g.W.World.answers (asked l.fn.world) (asked l.world) (λ told. from (items_seen (drop l.item-index l.items)) l.values.items told (env l.live) (meter l.live.work (asked l.world)) ≡ from (items_seen l.items) [] told (env l.fn.live) (meter l.fn.live.work (asked l.fn.world)));
+      gives : ToldEnough g.W.World.answers (asked l.fn.world) (asked l.world)
+          (λ told. from (items_seen (drop l.item-index l.items)) l.values.items told (env l.live)
+          (meter l.live.work (asked l.world)) ≡ from (items_seen l.items) [] told (env l.fn.live)
+          (meter l.fn.live.work (asked l.fn.world)));
       counted : l.steps + l.live.work.left ≡ l.fn.steps + l.fn.live.work.left;
     }
 
@@ -218,7 +224,10 @@ invariant-chains::run_chain-turns g l =
     let go = eval l.room in
     let a = around_of l.around g.W.World.reading g.W.World.calls in
     record {
-      gives : ToldEnough g.W.World.answers (asked l.fn.world) (asked l.world) (λ told. resumed go a told l.waiting.items (turn_run go a l.turn told (env l.live) (meter l.live.work (asked l.world))) ≡ chain_run go a l.fn.chain told (env l.fn.live) (meter l.fn.live.work (asked l.fn.world)));
+      gives : ToldEnough g.W.World.answers (asked l.fn.world) (asked l.world)
+          (λ told. resumed go a told l.waiting.items (turn_run go a l.turn told (env l.live)
+          (meter l.live.work (asked l.world))) ≡ chain_run go a l.fn.chain told (env l.fn.live)
+          (meter l.fn.live.work (asked l.fn.world)));
       counted : l.steps + l.live.work.left ≡ l.fn.steps + l.fn.live.work.left;
     }
 
@@ -228,9 +237,14 @@ decreases-chains::run_chain-turns g l = turn_weight l.turn + waits_weight l.wait
 abbrev pub invariant-loops::run_while-turns : goal.invariant-loops::run_while-turns
 invariant-loops::run_while-turns g l =
     let asked = g.W.World.asked in
-    let from = λ (n : ℕ). while_turns n (eval l.room) (around_of l.around g.W.World.reading g.W.World.calls) l.place (item_seen l.condition) (item_seen l.body) in
+    let from = λ (n : ℕ). while_turns n (eval l.room)
+    (around_of l.around g.W.World.reading g.W.World.calls) l.place (item_seen l.condition)
+    (item_seen l.body) in
     record {
-      gives : ToldEnough g.W.World.answers (asked l.fn.world) (asked l.world) (λ told. from l.left l.last told (env l.live) (meter l.live.work (asked l.world)) ≡ from l.around.frame.now.max_iteration undef told (env l.fn.live) (meter l.fn.live.work (asked l.fn.world)));
+      gives : ToldEnough g.W.World.answers (asked l.fn.world) (asked l.world)
+          (λ told. from l.left l.last told (env l.live) (meter l.live.work (asked l.world))
+          ≡ from l.around.frame.now.max_iteration undef told (env l.fn.live)
+          (meter l.fn.live.work (asked l.fn.world)));
       counted : l.steps + l.live.work.left ≡ l.fn.steps + l.fn.live.work.left;
     }
 
@@ -240,9 +254,14 @@ decreases-loops::run_while-turns g l = l.left
 abbrev pub invariant-loops::turns_for-turns : goal.invariant-loops::turns_for-turns
 invariant-loops::turns_for-turns g l =
     let asked = g.W.World.asked in
-    let from = λ (n : ℕ). for_turns n (eval l.room) (around_of l.around g.W.World.reading g.W.World.calls) l.place (item_seen l.condition) (item_seen l.step) (item_seen l.body) in
+    let from = λ (n : ℕ). for_turns n (eval l.room)
+    (around_of l.around g.W.World.reading g.W.World.calls) l.place (item_seen l.condition)
+    (item_seen l.step) (item_seen l.body) in
     record {
-      gives : ToldEnough g.W.World.answers (asked l.fn.world) (asked l.world) (λ told. from l.left l.last told (env l.live) (meter l.live.work (asked l.world)) ≡ from l.around.frame.now.max_iteration undef told (env l.fn.live) (meter l.fn.live.work (asked l.fn.world)));
+      gives : ToldEnough g.W.World.answers (asked l.fn.world) (asked l.world)
+          (λ told. from l.left l.last told (env l.live) (meter l.live.work (asked l.world))
+          ≡ from l.around.frame.now.max_iteration undef told (env l.fn.live)
+          (meter l.fn.live.work (asked l.fn.world)));
       counted : l.steps + l.live.work.left ≡ l.fn.steps + l.fn.live.work.left;
     }
 
@@ -252,9 +271,15 @@ decreases-loops::turns_for-turns g l = l.left
 abbrev pub invariant-loops::walk-pairs : goal.invariant-loops::walk-pairs
 invariant-loops::walk-pairs g l =
     let asked = g.W.World.asked in
-    let from = λ (n : ℕ). pair_turns n (eval l.room) (around_of l.around g.W.World.reading g.W.World.calls) l.place l.key l.value (item_seen l.body) in
+    let from = λ (n : ℕ). pair_turns n (eval l.room)
+    (around_of l.around g.W.World.reading g.W.World.calls) l.place l.key l.value
+    (item_seen l.body) in
     record {
-      gives : ToldEnough g.W.World.answers (asked l.fn.world) (asked l.world) (λ told. from (l.around.frame.now.max_iteration - l.i) (drop l.i (pairs_of l.walked)) l.last told (env l.live) (meter l.live.work (asked l.world)) ≡ from l.around.frame.now.max_iteration (pairs_of l.walked) undef told (env l.fn.live) (meter l.fn.live.work (asked l.fn.world)));
+      gives : ToldEnough g.W.World.answers (asked l.fn.world) (asked l.world)
+          (λ told. from (l.around.frame.now.max_iteration - l.i) (drop l.i (pairs_of l.walked))
+          l.last told (env l.live) (meter l.live.work (asked l.world))
+          ≡ from l.around.frame.now.max_iteration (pairs_of l.walked) undef told (env l.fn.live)
+          (meter l.fn.live.work (asked l.fn.world)));
       counted : l.steps + l.live.work.left ≡ l.fn.steps + l.fn.live.work.left;
       within : l.i ≤ child_count l.walked;
     }
@@ -265,9 +290,13 @@ decreases-loops::walk-pairs g l = child_count l.walked - l.i
 abbrev pub invariant-references::reach_from-indexes : goal.invariant-references::reach_from-indexes
 invariant-references::reach_from-indexes g l =
     let asked = g.W.World.asked in
-    let from = reach_from l.all (eval l.room) (around_of l.around g.W.World.reading g.W.World.calls) l.place in
+    let from = reach_from l.all (eval l.room) (around_of l.around g.W.World.reading g.W.World.calls)
+    l.place in
     record {
-      gives : ToldEnough g.W.World.answers (asked l.fn.world) (asked l.world) (λ told. from (indexes_back l.indexes.items none) l.keys.items l.value told (env l.live) (meter l.live.work (asked l.world)) ≡ from (indexes_back l.fn.indexes.items none) [] l.fn.value told (env l.fn.live) (meter l.fn.live.work (asked l.fn.world)));
+      gives : ToldEnough g.W.World.answers (asked l.fn.world) (asked l.world)
+          (λ told. from (indexes_back l.indexes.items none) l.keys.items l.value told (env l.live)
+          (meter l.live.work (asked l.world)) ≡ from (indexes_back l.fn.indexes.items none) []
+          l.fn.value told (env l.fn.live) (meter l.fn.live.work (asked l.fn.world)));
       counted : l.steps + l.live.work.left ≡ l.fn.steps + l.fn.live.work.left;
     }
 
@@ -277,8 +306,13 @@ decreases-references::reach_from-indexes g l = length l.indexes.items
 abbrev pub invariant-creating::run_statements-statements : goal.invariant-creating::run_statements-statements
 invariant-creating::run_statements-statements g l =
     let asked = g.W.World.asked in
-    let from = statements_from (included l.around.includes_left (eval l.room)) (eval l.room) (around_of l.around g.W.World.reading g.W.World.calls) in
+    let from = statements_from (included l.around.includes_left (eval l.room)) (eval l.room)
+    (around_of l.around g.W.World.reading g.W.World.calls) in
     record {
-      gives : ToldEnough g.W.World.answers (asked l.fn.world) (asked l.world) (λ told. from (map statement_seen (drop l.statement-index l.statements)) l.made told (env l.live) (meter l.live.work (asked l.world)) ≡ from (map statement_seen l.statements) l.fn.made told (env l.fn.live) (meter l.fn.live.work (asked l.fn.world)));
+      gives : ToldEnough g.W.World.answers (asked l.fn.world) (asked l.world)
+          (λ told. from (map statement_seen (drop l.statement-index l.statements)) l.made told
+          (env l.live) (meter l.live.work (asked l.world))
+          ≡ from (map statement_seen l.statements) l.fn.made told (env l.fn.live)
+          (meter l.fn.live.work (asked l.fn.world)));
       counted : l.steps + l.live.work.left ≡ l.fn.steps + l.fn.live.work.left;
     }

@@ -70,31 +70,49 @@ decreases-items::foreach_item l = 32 * length l.tokens.now
 
 -- before the first argument and after a comma
 abbrev pub invariant-chains::arguments-loop-items : goal.invariant-chains::arguments-loop-items
-invariant-chains::arguments-loop-items l = ((n : NodeStack zero) → node_holders n ≡ l.fn.depth → run l.fn.tokens (CallOpen l.fn.word n) ≡ run l.rest (NeedItem (InCall l.fn.word (map item_seen l.items.items) n))) × (length l.rest ≤ length l.fn.tokens) × Within 0 l.fn.depth (items_pointers l.items.items)
+invariant-chains::arguments-loop-items l =
+    ((n : NodeStack zero) → node_holders n ≡ l.fn.depth → run l.fn.tokens (CallOpen l.fn.word n)
+    ≡ run l.rest (NeedItem (InCall l.fn.word (map item_seen l.items.items) n)))
+    × (length l.rest ≤ length l.fn.tokens) × Within 0 l.fn.depth (items_pointers l.items.items)
 
 abbrev pub decreases-chains::arguments-loop-items : goal.decreases-chains::arguments-loop-items
 decreases-chains::arguments-loop-items l = length l.rest
 
 abbrev pub invariant-items::block_items-loop-after : goal.invariant-items::block_items-loop-after
-invariant-items::block_items-loop-after l = ((s : ItemStack) → suc (holders s) ≡ l.fn.depth → run l.fn.tokens (BlockOpen l.fn.place [] s) ≡ run l.rest (BlockOpen l.fn.place (map item_seen l.items.items) s)) × (length l.rest ≤ length l.fn.tokens) × Within 0 l.fn.depth (items_pointers l.items.items)
+invariant-items::block_items-loop-after l =
+    ((s : ItemStack) → suc (holders s) ≡ l.fn.depth → run l.fn.tokens (BlockOpen l.fn.place [] s)
+    ≡ run l.rest (BlockOpen l.fn.place (map item_seen l.items.items) s))
+    × (length l.rest ≤ length l.fn.tokens) × Within 0 l.fn.depth (items_pointers l.items.items)
 
 abbrev pub decreases-items::block_items-loop-after : goal.decreases-items::block_items-loop-after
 decreases-items::block_items-loop-after l = length l.rest
 
 abbrev pub invariant-chains::chain-loop-operator : goal.invariant-chains::chain-loop-operator
-invariant-chains::chain-loop-operator l = ((k : ℕ) → l.fn.line ≡ suc k → ReadsFirst l.fn.depth l.fn.tokens (λ n. HasNode (node_seen l.fn.first) n) (node_seen l.left) l.rest k) × (1 ≤ l.fn.line) × (length l.rest ≤ length l.fn.tokens) × Within (1 + l.fn.line) l.fn.depth (left_pointers l.left)
+invariant-chains::chain-loop-operator l =
+    ((k : ℕ) → l.fn.line ≡ suc k → ReadsFirst l.fn.depth l.fn.tokens
+    (λ n. HasNode (node_seen l.fn.first) n) (node_seen l.left) l.rest k) × (1 ≤ l.fn.line)
+    × (length l.rest ≤ length l.fn.tokens) × Within (1 + l.fn.line) l.fn.depth
+    (left_pointers l.left)
 
 abbrev pub decreases-chains::chain-loop-operator : goal.decreases-chains::chain-loop-operator
 decreases-chains::chain-loop-operator l = length l.rest
 
 abbrev pub invariant-chains::indexes-loop-after : goal.invariant-chains::indexes-loop-after
-invariant-chains::indexes-loop-after l = ((n : NodeStack zero) → node_holders n ≡ l.fn.depth → run l.fn.tokens (HasPrimary (node_seen l.fn.first) n) ≡ run l.rest (HasPrimary (node_seen l.whole) n)) × (length l.rest ≤ length l.fn.tokens) × Within 1 l.fn.depth (left_pointers l.whole)
+invariant-chains::indexes-loop-after l =
+    ((n : NodeStack zero) → node_holders n ≡ l.fn.depth → run l.fn.tokens
+    (HasPrimary (node_seen l.fn.first) n) ≡ run l.rest (HasPrimary (node_seen l.whole) n))
+    × (length l.rest ≤ length l.fn.tokens) × Within 1 l.fn.depth (left_pointers l.whole)
 
 abbrev pub decreases-chains::indexes-loop-after : goal.decreases-chains::indexes-loop-after
 decreases-chains::indexes-loop-after l = length l.rest
 
 abbrev pub invariant-chains::reference_indexes-loop-after : goal.invariant-chains::reference_indexes-loop-after
-invariant-chains::reference_indexes-loop-after l = ((s : ItemStack) → suc (holders s) ≡ l.fn.depth → run l.fn.tokens (HasReference l.fn.word [] (name l.fn.word) s) ≡ run l.rest (HasReference l.fn.word (map item_seen l.items.items) (indexed (name l.fn.word) (map item_seen l.items.items)) s)) × (length l.rest ≤ length l.fn.tokens) × Within 0 l.fn.depth (items_pointers l.items.items)
+invariant-chains::reference_indexes-loop-after l =
+    ((s : ItemStack) → suc (holders s) ≡ l.fn.depth → run l.fn.tokens
+    (HasReference l.fn.word [] (name l.fn.word) s)
+    ≡ run l.rest (HasReference l.fn.word (map item_seen l.items.items)
+    (indexed (name l.fn.word) (map item_seen l.items.items)) s))
+    × (length l.rest ≤ length l.fn.tokens) × Within 0 l.fn.depth (items_pointers l.items.items)
 
 abbrev pub decreases-chains::reference_indexes-loop-after : goal.decreases-chains::reference_indexes-loop-after
 decreases-chains::reference_indexes-loop-after l = length l.rest

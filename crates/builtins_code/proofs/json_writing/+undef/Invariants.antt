@@ -12,4 +12,5 @@ abbrev pub decreases-child_holds_undef : goal.decreases-child_holds_undef
 decreases-child_holds_undef l = 2 * tree_size l.tree.now
 
 abbrev pub invariant-child_holds_undef-loop-i : goal.invariant-child_holds_undef-loop-i
-invariant-child_holds_undef-loop-i l = list_any holds_undef (drop l.i (children l.tree)) ≡ list_any holds_undef (children l.tree)
+invariant-child_holds_undef-loop-i l =
+    list_any holds_undef (drop l.i (children l.tree)) ≡ list_any holds_undef (children l.tree)

@@ -9,5 +9,7 @@ pub returns : goal.returns
 returns c =
     let s = c.searcher.inside in
     subst (Gives (λ (t : Plain). t) refusal c.list.result)
-    (matches_given s.source c.args.text.now c.args.searcher.now s.pattern.now s.matcher c.searcher.invariant c.searcher.view_is (λ k. (c.type_inv.text k).fits) c.in_ok-groups.groups.items c.in_ok-groups.ensures.ok)
+    (matches_given s.source c.args.text.now c.args.searcher.now s.pattern.now s.matcher
+    c.searcher.invariant c.searcher.view_is (λ k. (c.type_inv.text k).fits)
+    c.in_ok-groups.groups.items c.in_ok-groups.ensures.ok)
     c.list.ensures

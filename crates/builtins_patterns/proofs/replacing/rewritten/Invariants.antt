@@ -5,7 +5,8 @@ use Rattle.builtins_patterns.proofs.replacing.rewritten.Given as goal
 
 abbrev pub invariant-loop-draft : goal.invariant-loop-draft
 invariant-loop-draft l =
-    (matcher_pattern l.matcher ≡ regex_pattern l.fn.pattern) × GoesOn (regex_pattern l.fn.pattern) l.parts.items l.fn.text l.draft l.after
+    (matcher_pattern l.matcher ≡ regex_pattern l.fn.pattern)
+    × GoesOn (regex_pattern l.fn.pattern) l.parts.items l.fn.text l.draft l.after
     × (matcher_names l.matcher ≡ matcher_names l.fn.matcher)
 
 abbrev pub decreases-loop-draft : goal.decreases-loop-draft

@@ -5,4 +5,5 @@ use Rattle.builtins_patterns.proofs.replacing.write_parts.Given as goal
 
 abbrev pub invariant-loop-part : goal.invariant-loop-part
 invariant-loop-part l =
-    (w : List ℕ) → l.fn.draft ≡ drafted w → l.draft ≡ drafted (w ++ written (captured_text l.captures) (take l.part-index l.parts))
+    (w : List ℕ) → l.fn.draft ≡ drafted w → l.draft
+    ≡ drafted (w ++ written (captured_text l.captures) (take l.part-index l.parts))

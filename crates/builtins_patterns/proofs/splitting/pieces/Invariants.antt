@@ -8,7 +8,8 @@ use Rattle.builtins_patterns.proofs.splitting.pieces.Given as goal
 abbrev pub invariant-loop-cut : goal.invariant-loop-cut
 invariant-loop-cut l =
     let re = matcher_pattern l.fn.matcher in
-    (l.made.items ++ pieces_after re l.fn.text l.left l.after ≡ pieces_of l.fn.text (cuts l.fn.limit (find_all_str re l.fn.text)))
+    (l.made.items ++ pieces_after re l.fn.text l.left l.after
+    ≡ pieces_of l.fn.text (cuts l.fn.limit (find_all_str re l.fn.text)))
     × (matcher_pattern l.matcher ≡ re) × (matcher_names l.matcher ≡ matcher_names l.fn.matcher)
 
 abbrev pub decreases-loop-cut : goal.decreases-loop-cut

@@ -9,5 +9,7 @@ pub returns : goal.returns
 returns c =
     let s = c.searcher.inside in
     subst (Gives (λ (t : Plain). t) refusal c.list.result)
-    (split_given s.source c.args.text.now c.args.searcher.now s.pattern.now s.matcher c.searcher.invariant c.searcher.view_is (λ k. (c.type_inv.text k).fits) c.args.limit c.in_ok-pieces.pieces.items c.in_ok-pieces.ensures.ok)
+    (split_given s.source c.args.text.now c.args.searcher.now s.pattern.now s.matcher
+    c.searcher.invariant c.searcher.view_is (λ k. (c.type_inv.text k).fits) c.args.limit
+    c.in_ok-pieces.pieces.items c.in_ok-pieces.ensures.ok)
     c.list.ensures

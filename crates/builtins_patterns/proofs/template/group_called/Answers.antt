@@ -6,10 +6,13 @@ use Rattle.builtins_patterns.proofs.template.group_called.Goals as goal
 pub returns-in-Ok : goal.returns-in-Ok
 unfolding group_called
 returns-in-Ok c =
-    let found = rw c.in-Ok.is at (number_parsed c.args.name.now c.parse.result c.parse.ensures.value.0) in rw (group_called, found)
+    let found = rw c.in-Ok.is at (number_parsed c.args.name.now c.parse.result
+    c.parse.ensures.value.0) in rw (group_called, found)
 
 pub returns-in-Err : goal.returns-in-Err
 unfolding group_called
 returns-in-Err c =
-    let none = rw c.in-Err.is at (number_parsed c.args.name.now c.parse.result c.parse.ensures.value.0) in
-    rw (group_called, none) (index_is_position (regex_names c.args.pattern.now) c.args.name.now c.capture_index.result c.capture_index.ensures)
+    let none = rw c.in-Err.is at (number_parsed c.args.name.now c.parse.result
+    c.parse.ensures.value.0) in
+    rw (group_called, none) (index_is_position (regex_names c.args.pattern.now) c.args.name.now
+    c.capture_index.result c.capture_index.ensures)

@@ -5,4 +5,5 @@ use Rattle.builtins_text.proofs.forms.behind_first.Goals as goal
 pub returns : goal.returns
 returns c =
     stripped c.args.first c.args.text.now c.strip_prefix.result
-    (strip_prefix_char c.args.first c.args.text.now c.strip_prefix.result c.strip_prefix.ensures.cases c.requires)
+    (strip_prefix_char c.args.first c.args.text.now c.strip_prefix.result
+    c.strip_prefix.ensures.cases c.requires)

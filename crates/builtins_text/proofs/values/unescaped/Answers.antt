@@ -7,4 +7,5 @@ use Rattle.builtins_text.proofs.Utf8.{utf8_text}
 use Rattle.builtins_text.proofs.values.unescaped.Goals as goal
 
 pub returns : goal.returns
-returns c = subst (Gives (λ t. t) refusal c.string_value.result) (utf8_text (string_bytes c.args.text) (IsUtf8-string_bytes c.args.text)) c.string_value.ensures
+returns c = subst (Gives (λ t. t) refusal c.string_value.result)
+    (utf8_text (string_bytes c.args.text) (IsUtf8-string_bytes c.args.text)) c.string_value.ensures

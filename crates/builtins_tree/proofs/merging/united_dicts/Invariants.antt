@@ -5,4 +5,5 @@ use Rattle.builtins_tree.specs.Pairs.{has_value}
 use Rattle.builtins_tree.proofs.merging.united_dicts.Given as goal
 
 abbrev pub invariant-loop-dict : goal.invariant-loop-dict
-invariant-loop-dict l = (l.pairs.items ≡ flat_map pairs_of (take l.dict-index l.dicts)) × (list_all has_value l.pairs.items ≡ true)
+invariant-loop-dict l = (l.pairs.items ≡ flat_map pairs_of (take l.dict-index l.dicts))
+    × (list_all has_value l.pairs.items ≡ true)

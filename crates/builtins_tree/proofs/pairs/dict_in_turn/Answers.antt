@@ -5,6 +5,9 @@ use Rattle.builtins_tree.proofs.pairs.dict_in_turn.Goals as goal
 
 pub returns-in-Err : goal.returns-in-Err
 returns-in-Err c =
-    turn_refused c.in-Err.error c.args.pairs.now (take c.loop-pair.pair-index c.args.pairs.now) c.pair-item.result (drop (suc c.loop-pair.pair-index) c.args.pairs.now)
-    (parted c.loop-pair.pair-index c.args.pairs.now c.pair-item.result c.pair-item.is c.loop-pair-test.true)
-    (c.in-Err.ensures (fields_in_turn (take c.loop-pair.pair-index c.args.pairs.now)) c.loop-pair.invariant.0)
+    turn_refused c.in-Err.error c.args.pairs.now (take c.loop-pair.pair-index c.args.pairs.now)
+    c.pair-item.result (drop (suc c.loop-pair.pair-index) c.args.pairs.now)
+    (parted c.loop-pair.pair-index c.args.pairs.now c.pair-item.result c.pair-item.is
+    c.loop-pair-test.true)
+    (c.in-Err.ensures (fields_in_turn (take c.loop-pair.pair-index c.args.pairs.now))
+    c.loop-pair.invariant.0)

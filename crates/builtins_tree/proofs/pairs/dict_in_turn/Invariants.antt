@@ -5,4 +5,5 @@ use Rattle.builtins_tree.specs.Merges.{fields_in_turn}
 use Rattle.builtins_tree.proofs.pairs.dict_in_turn.Given as goal
 
 abbrev pub invariant-loop-pair : goal.invariant-loop-pair
-invariant-loop-pair l = (l.dict ≡ dict (fields_in_turn (take l.pair-index l.pairs))) × (is_too_large l.dict ≡ false)
+invariant-loop-pair l = (l.dict ≡ dict (fields_in_turn (take l.pair-index l.pairs)))
+    × (is_too_large l.dict ≡ false)

@@ -5,4 +5,5 @@ use Rattle.builtins_tree.specs.Dicts.{fields_of_pairs}
 use Rattle.builtins_tree.proofs.pairs.dict_of_pairs.Given as goal
 
 abbrev pub invariant-loop-i : goal.invariant-loop-i
-invariant-loop-i l = (l.dict ≡ dict (fields_of_pairs (drop l.i l.pairs))) × (is_too_large l.dict ≡ false)
+invariant-loop-i l = (l.dict ≡ dict (fields_of_pairs (drop l.i l.pairs)))
+    × (is_too_large l.dict ≡ false)

@@ -4,4 +4,5 @@ use Rattle.builtins_tree.specs.Searches.{found_key}
 use Rattle.builtins_tree.proofs.searching.found_key.Given as goal
 
 abbrev pub invariant-loop-i : goal.invariant-loop-i
-invariant-loop-i l = found_key l.wanted (fields_from l.i l.dict) ≡ found_key l.wanted (child_fields l.dict)
+invariant-loop-i l = found_key l.wanted (fields_from l.i l.dict)
+    ≡ found_key l.wanted (child_fields l.dict)

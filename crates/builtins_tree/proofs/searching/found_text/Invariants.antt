@@ -6,4 +6,5 @@ use Rattle.builtins_tree.proofs.searching.found_text.Given as goal
 abbrev pub invariant-loop-place : goal.invariant-loop-place
 invariant-loop-place l =
     IsUtf8 l.rest × (chars l.rest ≡ drop l.place (chars l.text))
-    × (found_text l.wanted l.place (drop l.place (chars l.text)) ≡ found_text l.wanted l.start (drop l.start (chars l.text)))
+    × (found_text l.wanted l.place (drop l.place (chars l.text))
+    ≡ found_text l.wanted l.start (drop l.start (chars l.text)))

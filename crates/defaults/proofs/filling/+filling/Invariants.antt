@@ -18,7 +18,11 @@ invariant-fill_items-loop-i g l =
     record {
       path : l.target.path.items ≡ l.fn.target.path.items;
       known : IsKnown l.whole l.target.path.items l.target.tree;
-      fills : (answers : Answers) (asked : List Key) → items_filled f l.fn.target.path.items l.i (l.count - l.i) answers (target_store l.target) (meter l.target.work asked) ≡ items_filled f l.fn.target.path.items 0 (item_count (child_items l.value)) answers (target_store l.fn.target) (meter l.fn.target.work asked);
+      fills : (answers : Answers) (asked : List Key)
+          → items_filled f l.fn.target.path.items l.i (l.count - l.i) answers
+          (target_store l.target) (meter l.target.work asked)
+          ≡ items_filled f l.fn.target.path.items 0 (item_count (child_items l.value)) answers
+          (target_store l.fn.target) (meter l.fn.target.work asked);
       counted : l.steps + l.target.work.left ≡ l.fn.steps + l.fn.target.work.left;
     }
 
@@ -28,7 +32,11 @@ invariant-fill_values-loop-i g l =
     record {
       path : l.target.path.items ≡ l.fn.target.path.items;
       known : IsKnown l.whole l.target.path.items l.target.tree;
-      fills : (answers : Answers) (asked : List Key) → values_filled f l.fn.target.path.items (fields_from l.i l.value) answers (target_store l.target) (meter l.target.work asked) ≡ values_filled f l.fn.target.path.items (child_fields l.value) answers (target_store l.fn.target) (meter l.fn.target.work asked);
+      fills : (answers : Answers) (asked : List Key)
+          → values_filled f l.fn.target.path.items (fields_from l.i l.value) answers
+          (target_store l.target) (meter l.target.work asked)
+          ≡ values_filled f l.fn.target.path.items (child_fields l.value) answers
+          (target_store l.fn.target) (meter l.fn.target.work asked);
       counted : l.steps + l.target.work.left ≡ l.fn.steps + l.fn.target.work.left;
     }
 
@@ -38,6 +46,10 @@ invariant-fill_fields-loop-field g l =
     record {
       path : l.target.path.items ≡ l.fn.target.path.items;
       known : IsKnown l.whole l.target.path.items l.target.tree;
-      fills : (answers : Answers) (asked : List Key) → run (fields_of (all_seen (drop l.field-index l.fields))) l.fn.target.path.items answers (target_store l.target) (meter l.target.work asked) ≡ run (fields_of (all_seen l.fields)) l.fn.target.path.items answers (target_store l.fn.target) (meter l.fn.target.work asked);
+      fills : (answers : Answers) (asked : List Key)
+          → run (fields_of (all_seen (drop l.field-index l.fields))) l.fn.target.path.items answers
+          (target_store l.target) (meter l.target.work asked)
+          ≡ run (fields_of (all_seen l.fields)) l.fn.target.path.items answers
+          (target_store l.fn.target) (meter l.fn.target.work asked);
       counted : l.steps + l.target.work.left ≡ l.fn.steps + l.fn.target.work.left;
     }

@@ -8,6 +8,9 @@ use Rattle.defaults.proofs.whole.fill_bounds.Given as goal
 
 abbrev pub invariant-loop-bound : goal.invariant-loop-bound
 invariant-loop-bound g l = record {
-  fills : (answers : Answers) (asked : List Key) → all_filled (bounds_seen (drop l.bound-index l.bounds)) answers (target_store l.target) (meter l.target.work asked) ≡ all_filled (bounds_seen l.bounds) answers (target_store l.fn.target) (meter l.fn.target.work asked);
+  fills : (answers : Answers) (asked : List Key)
+      → all_filled (bounds_seen (drop l.bound-index l.bounds)) answers (target_store l.target)
+      (meter l.target.work asked) ≡ all_filled (bounds_seen l.bounds) answers
+      (target_store l.fn.target) (meter l.fn.target.work asked);
   counted : l.steps + l.target.work.left ≡ l.fn.steps + l.fn.target.work.left;
 }

@@ -8,5 +8,8 @@ use Rattle.dml_eval.proofs.dml.run_dml.Goals as goal
 
 pub returns-in_err-share_called-clause-gives : goal.returns-in_err-share_called-clause-gives
 returns-in_err-share_called-clause-gives g c = λ keys.
-    let leaves = alone_leaves (around_of c.args.around.now g.W.World.reading g.W.World.calls) g.W.World.plain MAX_OPEN_ITEMS (is_fixed c.args.self_use) c.args.self_value (item_seen c.args.item.now) (only keys g.W.World.answers) tt (meter c.args.work.now (g.W.World.asked c.args.world.now)) in
+    let leaves = alone_leaves (around_of c.args.around.now g.W.World.reading g.W.World.calls)
+    g.W.World.plain MAX_OPEN_ITEMS (is_fixed c.args.self_use) c.args.self_value
+    (item_seen c.args.item.now) (only keys g.W.World.answers) tt
+    (meter c.args.work.now (g.W.World.asked c.args.world.now)) in
     grind (arith, leaves)

@@ -7,21 +7,31 @@ use Rattle.dml_leaves.proofs.changing.extend_reached.Goals as goal
 
 pub returns-in_err-list-clause-gives : goal.returns-in_err-list-clause-gives
 returns-in_err-list-clause-gives g c = λ keys.
-    let leaves = extend_leaves (around_of c.args.around.now g.W.World.reading g.W.World.calls) c.args.place.now c.args.side c.args.name.now (reached_of c.args.reached) c.args.value (only keys g.W.World.answers) (env c.args.live.now) (meter c.args.live.now.work (g.W.World.asked c.args.world.now)) in
+    let leaves = extend_leaves (around_of c.args.around.now g.W.World.reading g.W.World.calls)
+    c.args.place.now c.args.side c.args.name.now (reached_of c.args.reached) c.args.value
+    (only keys g.W.World.answers) (env c.args.live.now)
+    (meter c.args.live.now.work (g.W.World.asked c.args.world.now)) in
     grind (arith, leaves)
 
 pub returns-in_err-longer-clause-gives : goal.returns-in_err-longer-clause-gives
 returns-in_err-longer-clause-gives g c = λ keys.
-    let leaves = extend_leaves (around_of c.args.around.now g.W.World.reading g.W.World.calls) c.args.place.now c.args.side c.args.name.now (reached_of c.args.reached) c.args.value (only keys g.W.World.answers) (env c.args.live.now) (meter c.args.live.now.work (g.W.World.asked c.args.world.now)) in
+    let leaves = extend_leaves (around_of c.args.around.now g.W.World.reading g.W.World.calls)
+    c.args.place.now c.args.side c.args.name.now (reached_of c.args.reached) c.args.value
+    (only keys g.W.World.answers) (env c.args.live.now)
+    (meter c.args.live.now.work (g.W.World.asked c.args.world.now)) in
     grind (arith, leaves)
 
 pub returns-in_err-change-clause-gives : goal.returns-in_err-change-clause-gives
 returns-in_err-change-clause-gives g c = λ keys.
-    let leaves = extend_leaves (around_of c.args.around.now g.W.World.reading g.W.World.calls) c.args.place.now c.args.side c.args.name.now (reached_of c.args.reached) c.args.value (only keys g.W.World.answers) (env c.args.live.now) (meter c.args.live.now.work (g.W.World.asked c.args.world.now)) in
+    let leaves = extend_leaves (around_of c.args.around.now g.W.World.reading g.W.World.calls)
+    c.args.place.now c.args.side c.args.name.now (reached_of c.args.reached) c.args.value
+    (only keys g.W.World.answers) (env c.args.live.now)
+    (meter c.args.live.now.work (g.W.World.asked c.args.world.now)) in
     grind (arith, leaves)
 
 pub returns-then-is_fixed_self-clause-gives : goal.returns-then-is_fixed_self-clause-gives
-returns-then-is_fixed_self-clause-gives g c = λ keys. let list = c.as_list.ensures keys in grind (arith, list)
+returns-then-is_fixed_self-clause-gives g c = λ keys. let list = c.as_list.ensures keys in
+    grind (arith, list)
 
 pub returns-clause-gives : goal.returns-clause-gives
 returns-clause-gives g c = λ keys.

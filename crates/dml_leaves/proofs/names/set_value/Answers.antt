@@ -7,11 +7,17 @@ use Rattle.dml_leaves.proofs.names.set_value.Goals as goal
 pub returns-in_err-take_steps-clause-gives : goal.returns-in_err-take_steps-clause-gives
 returns-in_err-take_steps-clause-gives g c = λ keys.
     let asked = g.W.World.asked c.args.world.now in
-    let stops = steps_stop c.in_err-take_steps.field-0.0 c.args.place.now c.args.name.now c.args.keys.now c.args.value (only keys g.W.World.answers) (env c.args.live.now) (env c.take_steps.new.live) (meter c.args.live.now.work asked) (meter c.take_steps.new.live.work asked) in
+    let stops = steps_stop c.in_err-take_steps.field-0.0 c.args.place.now c.args.name.now
+    c.args.keys.now c.args.value (only keys g.W.World.answers) (env c.args.live.now)
+    (env c.take_steps.new.live) (meter c.args.live.now.work asked)
+    (meter c.take_steps.new.live.work asked) in
     grind (arith, stops)
 
 pub returns-in_err-change-clause-gives : goal.returns-in_err-change-clause-gives
 returns-in_err-change-clause-gives g c = λ keys.
     let asked = g.W.World.asked c.args.world.now in
-    let stops = change_stops c.in_err-change.field-0.0 c.args.place.now c.args.name.now c.args.keys.now c.args.value (only keys g.W.World.answers) (env c.take_steps.new.live) (env c.change.new.live) (meter c.take_steps.new.live.work asked) (meter c.change.new.live.work asked) in
+    let stops = change_stops c.in_err-change.field-0.0 c.args.place.now c.args.name.now
+    c.args.keys.now c.args.value (only keys g.W.World.answers) (env c.take_steps.new.live)
+    (env c.change.new.live) (meter c.take_steps.new.live.work asked)
+    (meter c.change.new.live.work asked) in
     grind (arith, stops)

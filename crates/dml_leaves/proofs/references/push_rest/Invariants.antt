@@ -6,7 +6,8 @@ use Rattle.dml_leaves.proofs.references.push_rest.Given as goal
 
 abbrev pub invariant-steps : goal.invariant-steps
 invariant-steps l = record {
-  made : indexed (map step_seen (drop l.left l.steps)) (indexes_back l.fn.indexes.items none) ≡ Some (indexes_back l.indexes.items none);
+  made : indexed (map step_seen (drop l.left l.steps)) (indexes_back l.fn.indexes.items none)
+      ≡ Some (indexes_back l.indexes.items none);
   within : l.left ≤ length l.steps;
 }
 

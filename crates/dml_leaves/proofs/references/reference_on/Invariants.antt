@@ -7,7 +7,8 @@ use Rattle.dml_leaves.specs.Weights.{node_weight}
 use Rattle.dml_leaves.proofs.references.reference_on.Given as goal
 
 abbrev pub invariant-chain : goal.invariant-chain
-invariant-chain l = reference_on (node_seen l.node) (indexes_back l.indexes.items none) ≡ reference_on (node_seen l.fn.node) none
+invariant-chain l = reference_on (node_seen l.node) (indexes_back l.indexes.items none)
+    ≡ reference_on (node_seen l.fn.node) none
 
 abbrev pub decreases-chain : goal.decreases-chain
 decreases-chain l = node_weight (node_seen l.node)

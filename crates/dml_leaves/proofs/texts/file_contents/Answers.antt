@@ -5,7 +5,8 @@ use Rattle.dml_leaves.proofs.texts.file_contents.Goals as goal
 
 pub returns-in_err-found-clause-gives : goal.returns-in_err-found-clause-gives
 unfolding text_run
-returns-in_err-found-clause-gives g c = λ keys. let found = c.find_file.ensures.gives keys in grind (arith, stops, found)
+returns-in_err-found-clause-gives g c = λ keys. let found = c.find_file.ensures.gives keys in
+    grind (arith, stops, found)
 
 pub returns-clause-gives : goal.returns-clause-gives
 unfolding text_run

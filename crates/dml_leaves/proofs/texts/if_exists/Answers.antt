@@ -5,8 +5,10 @@ use Rattle.dml_leaves.proofs.texts.if_exists.Goals as goal
 
 pub returns-in_err-find_template_file-clause-gives : goal.returns-in_err-find_template_file-clause-gives
 unfolding text_run
-returns-in_err-find_template_file-clause-gives g c = λ keys. let found = c.find_template_file.ensures.gives keys in grind (arith, stops, found)
+returns-in_err-find_template_file-clause-gives g c = λ keys. let found =
+    c.find_template_file.ensures.gives keys in grind (arith, stops, found)
 
 pub returns-clause-gives : goal.returns-clause-gives
 unfolding text_run
-returns-clause-gives g c = λ keys. let found = c.find_template_file.ensures.gives keys in grind (arith, found)
+returns-clause-gives g c = λ keys. let found = c.find_template_file.ensures.gives keys in
+    grind (arith, found)

@@ -10,6 +10,8 @@ invariant-files g l =
     let asked = g.W.World.asked in
     let from = λ (o : Answers) (fs : List (List ℕ)). first_present l.place fs o (tt {0}) in
     record {
-      gives : ToldEnough g.W.World.answers (asked l.fn.world) (asked l.world) (λ told. from told (drop l.file-index l.files) (meter l.work (asked l.world)) ≡ from told l.files (meter l.fn.work (asked l.fn.world)));
+      gives : ToldEnough g.W.World.answers (asked l.fn.world) (asked l.world)
+          (λ told. from told (drop l.file-index l.files) (meter l.work (asked l.world))
+          ≡ from told l.files (meter l.fn.work (asked l.fn.world)));
       counted : l.steps + l.work.left ≡ l.fn.steps + l.fn.work.left;
     }

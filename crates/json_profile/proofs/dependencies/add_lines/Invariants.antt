@@ -4,4 +4,5 @@ use Rattle.json_profile.specs.Dependencies.{with_line}
 use Rattle.json_profile.proofs.dependencies.add_lines.Given as goal
 
 abbrev pub invariant-loop-item : goal.invariant-loop-item
-invariant-loop-item l = fold with_line l.lines.keys (pairs_of (drop l.item-index l.items)) ≡ fold with_line l.fn.lines.keys (pairs_of l.items)
+invariant-loop-item l = fold with_line l.lines.keys (pairs_of (drop l.item-index l.items))
+    ≡ fold with_line l.fn.lines.keys (pairs_of l.items)

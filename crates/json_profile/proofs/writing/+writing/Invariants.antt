@@ -21,7 +21,11 @@ abbrev pub decreases-write_item : goal.decreases-write_item
 decreases-write_item l = 3 * tree_size l.tree.now
 
 abbrev pub invariant-write_dict-loop-i : goal.invariant-write_dict-loop-i
-invariant-write_dict-loop-i l = (l.out.tokens ++ fields_tokens l.i l.tree ≡ l.fn.out.tokens ++ json_tokens (json l.tree)) × (l.out.before ≡ l.fn.out.before)
+invariant-write_dict-loop-i l =
+    (l.out.tokens ++ fields_tokens l.i l.tree ≡ l.fn.out.tokens ++ json_tokens (json l.tree))
+    × (l.out.before ≡ l.fn.out.before)
 
 abbrev pub invariant-write_list-loop-i : goal.invariant-write_list-loop-i
-invariant-write_list-loop-i l = (l.out.tokens ++ children_tokens l.i l.tree ≡ l.fn.out.tokens ++ json_tokens (json l.tree)) × (l.out.before ≡ l.fn.out.before)
+invariant-write_list-loop-i l =
+    (l.out.tokens ++ children_tokens l.i l.tree ≡ l.fn.out.tokens ++ json_tokens (json l.tree))
+    × (l.out.before ≡ l.fn.out.before)

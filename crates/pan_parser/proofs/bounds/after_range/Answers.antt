@@ -11,20 +11,28 @@ use Rattle.pan_parser.proofs.bounds.after_range.Goals as goal
 
 pub returns-in_err-high-clause-read : goal.returns-in_err-high-clause-read
 returns-in_err-high-clause-read c = λ k next q.
-    let p = err_from_is_err_and c.from_residual-in_err-high.result c.from_residual-in_err-high.ensures.1 in
+    let p = err_from_is_err_and c.from_residual-in_err-high.result
+    c.from_residual-in_err-high.ensures.1 in
     let w = c.args.sign in
     let b = c.args.place.now in
     let n = c.args.low in
-    rw (p.1, p.2) (fails_along c.in_err-high.field-0.0 _ _ (high_needed c.args.tokens.now w k b n next q c.in_default.ensures) (c.in_err-high.ensures.read (high_read k b n next)))
+    rw (p.1, p.2) (fails_along c.in_err-high.field-0.0 _ _
+    (high_needed c.args.tokens.now w k b n next q c.in_default.ensures)
+    (c.in_err-high.ensures.read (high_read k b n next)))
 
 pub returns-in_err-rest-clause-read : goal.returns-in_err-rest-clause-read
 returns-in_err-rest-clause-read c = λ k next q.
-    let p = err_from_is_err_and c.from_residual-in_err-rest.result c.from_residual-in_err-rest.ensures.1 in
+    let p = err_from_is_err_and c.from_residual-in_err-rest.result
+    c.from_residual-in_err-rest.ensures.1 in
     let w = c.args.sign in
     let b = c.args.place.now in
     let n = c.args.low in
     let m = c.in_ok-high.high in
-    rw (p.1, p.2) (fails_along c.in_err-rest.field-0.0 _ _ (high_needed c.args.tokens.now w k b n next q c.in_default.ensures ∙ c.in_ok-high.ensures.read (high_read k b n next)) (c.in_err-rest.ensures.read (high_read k b n next m) (λ t. next (bounds b (Some n) (Some m))) (refl, λ t. rw q refl, λ t. refl)))
+    rw (p.1, p.2) (fails_along c.in_err-rest.field-0.0 _ _
+    (high_needed c.args.tokens.now w k b n next q c.in_default.ensures
+    ∙ c.in_ok-high.ensures.read (high_read k b n next))
+    (c.in_err-rest.ensures.read (high_read k b n next m)
+    (λ t. next (bounds b (Some n) (Some m))) (refl, λ t. rw q refl, λ t. refl)))
 
 pub returns-clause-read : goal.returns-clause-read
 returns-clause-read c = λ k next q.
@@ -37,4 +45,8 @@ returns-clause-read c = λ k next q.
     let em = to_z-of_z w64 m fm in
     let en = to_z-of_z w64 n fn in
     let made = rw (em, en) at c.in_ok-make_bounds-2.ensures in
-    high_needed c.args.tokens.now w k b n next q c.in_default.ensures ∙ c.in_ok-high.ensures.read (high_read k b n next) ∙ c.in_ok-rest.ensures.read (high_read k b n next m) (λ t. next (bounds b (Some n) (Some m))) (refl, λ t. rw q refl, λ t. refl) ∙ ap (λ v. run c.in_ok-rest.rest.now (next v)) (sym made)
+    high_needed c.args.tokens.now w k b n next q c.in_default.ensures
+    ∙ c.in_ok-high.ensures.read (high_read k b n next)
+    ∙ c.in_ok-rest.ensures.read (high_read k b n next m)
+    (λ t. next (bounds b (Some n) (Some m))) (refl, λ t. rw q refl, λ t. refl)
+    ∙ ap (λ v. run c.in_ok-rest.rest.now (next v)) (sym made)

@@ -14,8 +14,10 @@ returns-in_ok-make_plain-in-Some-clause-read c = λ s low.
     let first = c.args.first.now in
     let rest = c.args.rest.now in
     let node = node_seen c.in-Some.node in
-    let is : literal (sort first) first ≡ Some node = sym c.in_ok-node.ensures.seen ∙ ap (option_map node_seen) c.in-Some.is in
+    let is : literal (sort first) first ≡ Some node =
+    sym c.in_ok-node.ensures.seen ∙ ap (option_map node_seen) c.in-Some.is in
     let unindexed : NotAt sorts.OpenBracket rest = search rules in
     let ends : ends_chains rest ≡ true = search rules in
-    let made : item_seen c.in_ok-make_plain-in-Some.field-0 ≡ plain node = c.in_ok-make_plain-in-Some.ensures.seen in
+    let made : item_seen c.in_ok-make_plain-in-Some.field-0 ≡ plain node =
+    c.in_ok-make_plain-in-Some.ensures.seen in
     alone first rest s node is unindexed ends low ∙ ap (λ i. run rest (HasItem i s)) (sym made)

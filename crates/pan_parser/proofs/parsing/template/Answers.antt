@@ -13,7 +13,8 @@ returns-then-is-clause-read c =
     let first = c.in-Some.first.now in
     let on = c.in-Some.rest.now in
     let x : at sorts.Template (sort first) ≡ true = search rules in
-    goes_along c.named_template.result _ _ _ (ordinary_turns c.args.tokens.now on first c.in-Some.ensures x) (rw c.place.ensures at c.named_template.ensures.read)
+    goes_along c.named_template.result _ _ _ (ordinary_turns c.args.tokens.now on first
+    c.in-Some.ensures x) (rw c.place.ensures at c.named_template.ensures.read)
 
 pub returns-in_err-rest-clause-read : goal.returns-in_err-rest-clause-read
 returns-in_err-rest-clause-read c =
@@ -23,7 +24,10 @@ returns-in_err-rest-clause-read c =
     let other : at sorts.Template (sort first) ≡ false = search rules in
     let k = c.in-Some-kind_of.kind in
     let e : kind_of (sort first) ≡ Some k = search rules in
-    rw (p.1, p.2) (fails_along c.in_err-rest.field-0.0 _ _ (kind_turns c.args.tokens.now on first k c.in-Some.ensures other e) (c.in_err-rest.ensures.read (kind_read first.place k) (λ w. name_wanted k first.place) (refl, λ t. refl, λ t. refl)))
+    rw (p.1, p.2) (fails_along c.in_err-rest.field-0.0 _ _
+    (kind_turns c.args.tokens.now on first k c.in-Some.ensures other e)
+    (c.in_err-rest.ensures.read (kind_read first.place k) (λ w. name_wanted k first.place)
+    (refl, λ t. refl, λ t. refl)))
 
 pub returns-clause-read : goal.returns-clause-read
 returns-clause-read c =
@@ -32,4 +36,7 @@ returns-clause-read c =
     let other : at sorts.Template (sort first) ≡ false = search rules in
     let k = c.in-Some-kind_of.kind in
     let e : kind_of (sort first) ≡ Some k = search rules in
-    goes_along c.named_template-2.result _ _ _ (kind_turns c.args.tokens.now on first k c.in-Some.ensures other e ∙ c.in_ok-rest.ensures.read (kind_read first.place k) (λ w. name_wanted k first.place) (refl, λ t. refl, λ t. refl)) (rw c.place-2.ensures at c.named_template-2.ensures.read)
+    goes_along c.named_template-2.result _ _ _ (kind_turns c.args.tokens.now on first k
+    c.in-Some.ensures other e ∙ c.in_ok-rest.ensures.read (kind_read first.place k)
+    (λ w. name_wanted k first.place) (refl, λ t. refl, λ t. refl))
+    (rw c.place-2.ensures at c.named_template-2.ensures.read)

@@ -12,14 +12,25 @@ use Rattle.pan_parser.proofs.statements.bind_form.Goals as goal
 pub returns-in_err-path-clause-read : goal.returns-in_err-path-clause-read
 returns-in_err-path-clause-read c = λ q h ss.
     let p = err_from_is_err_and c.from_residual.result c.from_residual.ensures.1 in
-    rw (p.1, p.2) (c.in_err-path.ensures.read (bind_read q h ss) (λ w. Takes AnAssign (λ e. full_of h ss (λ f. stated q (plain.Bind w.value f)))) (refl, λ t. refl, λ t. refl))
+    rw (p.1, p.2) (c.in_err-path.ensures.read (bind_read q h ss)
+    (λ w. Takes AnAssign (λ e. full_of h ss (λ f. stated q (plain.Bind w.value f))))
+    (refl, λ t. refl, λ t. refl))
 
 pub returns-in_err-full-clause-read : goal.returns-in_err-full-clause-read
 returns-in_err-full-clause-read c = λ q h ss.
-    let p = err_from_is_err_and c.from_residual-in_err-full.result c.from_residual-in_err-full.ensures.1 in
-    rw (p.1, p.2) (fails_along c.in_err-full.field-0.0 _ _ (c.in_ok-path.ensures.read (bind_read q h ss) (λ w. Takes AnAssign (λ e. full_of h ss (λ f. stated q (plain.Bind w.value f)))) (refl, λ t. refl, λ t. refl)) (c.in_err-full.ensures.read h ss (λ f. stated q (plain.Bind c.in_ok-path.path.now.value f))))
+    let p = err_from_is_err_and c.from_residual-in_err-full.result
+    c.from_residual-in_err-full.ensures.1 in
+    rw (p.1, p.2) (fails_along c.in_err-full.field-0.0 _ _
+    (c.in_ok-path.ensures.read (bind_read q h ss)
+    (λ w. Takes AnAssign (λ e. full_of h ss (λ f. stated q (plain.Bind w.value f))))
+    (refl, λ t. refl, λ t. refl)) (c.in_err-full.ensures.read h ss
+    (λ f. stated q (plain.Bind c.in_ok-path.path.now.value f))))
 
 pub returns-clause-read : goal.returns-clause-read
 returns-clause-read c = λ q h ss.
-    let made : form_seen c.in_ok-bind_statement.field-0 ≡ plain.Bind c.in_ok-path.path.now.value (full_seen c.in_ok-full.full) = search rules in
-    c.in_ok-path.ensures.read (bind_read q h ss) (λ w. Takes AnAssign (λ e. full_of h ss (λ f. stated q (plain.Bind w.value f)))) (refl, λ t. refl, λ t. refl) ∙ c.in_ok-full.ensures.read h ss (λ f. stated q (plain.Bind c.in_ok-path.path.now.value f)) ∙ ap (λ v. run c.in_ok-full.rest.now (Statements h (ss ++ stated q v ∷ []))) (sym made)
+    let made : form_seen c.in_ok-bind_statement.field-0
+    ≡ plain.Bind c.in_ok-path.path.now.value (full_seen c.in_ok-full.full) = search rules in
+    c.in_ok-path.ensures.read (bind_read q h ss) (λ w. Takes AnAssign
+    (λ e. full_of h ss (λ f. stated q (plain.Bind w.value f)))) (refl, λ t. refl, λ t. refl)
+    ∙ c.in_ok-full.ensures.read h ss (λ f. stated q (plain.Bind c.in_ok-path.path.now.value f))
+    ∙ ap (λ v. run c.in_ok-full.rest.now (Statements h (ss ++ stated q v ∷ []))) (sym made)

@@ -10,7 +10,13 @@ pub loop-after-preserved : goal.loop-after-preserved
 loop-after-preserved c = (
   λ h. c.loop-after.invariant.0 h
       ∙ c.in_ok-next.ensures.read h (map statement_seen c.loop-after.statements.items)
-      ∙ ap (λ ss. run c.in_ok-next.more.now (Statements h ss)) (sym (statements_seen_push _ _ _ c.in_ok-push.ensures.items)),
+      ∙ ap (λ ss. run c.in_ok-next.more.now (Statements h ss))
+      (sym (statements_seen_push _ _ _ c.in_ok-push.ensures.items)),
   omega (arith, c.in_ok-next.ensures.shorter, c.loop-after.invariant.1),
-  omega (arith, c.in_ok-next.ensures.pointers, statements_push _ _ _ c.in_ok-push.ensures.items, c.loop-after.invariant.2),
+  omega (
+    arith,
+    c.in_ok-next.ensures.pointers,
+    statements_push _ _ _ c.in_ok-push.ensures.items,
+    c.loop-after.invariant.2,
+  ),
 )

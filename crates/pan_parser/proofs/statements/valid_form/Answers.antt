@@ -12,14 +12,26 @@ use Rattle.pan_parser.proofs.statements.valid_form.Goals as goal
 pub returns-in_err-path-clause-read : goal.returns-in_err-path-clause-read
 returns-in_err-path-clause-read c = λ q h ss.
     let p = err_from_is_err_and c.from_residual.result c.from_residual.ensures.1 in
-    rw (p.1, p.2) (c.in_err-path.ensures.read (valid_read q h ss) (λ w. Takes AnAssign (λ e. item_of h ss (λ i. stated q (plain.Valid w.value i)))) (refl, λ t. refl, λ t. refl))
+    rw (p.1, p.2) (c.in_err-path.ensures.read (valid_read q h ss)
+    (λ w. Takes AnAssign (λ e. item_of h ss (λ i. stated q (plain.Valid w.value i))))
+    (refl, λ t. refl, λ t. refl))
 
 pub returns-in_err-body-clause-read : goal.returns-in_err-body-clause-read
 returns-in_err-body-clause-read c = λ q h ss.
-    let p = err_from_is_err_and c.from_residual-in_err-body.result c.from_residual-in_err-body.ensures.1 in
-    rw (p.1, p.2) (fails_along c.in_err-body.field-0.0 _ _ (c.in_ok-path.ensures.read (valid_read q h ss) (λ w. Takes AnAssign (λ e. item_of h ss (λ i. stated q (plain.Valid w.value i)))) (refl, λ t. refl, λ t. refl)) (c.in_err-body.ensures.read h ss (λ i. stated q (plain.Valid c.in_ok-path.path.now.value i))))
+    let p = err_from_is_err_and c.from_residual-in_err-body.result
+    c.from_residual-in_err-body.ensures.1 in
+    rw (p.1, p.2) (fails_along c.in_err-body.field-0.0 _ _
+    (c.in_ok-path.ensures.read (valid_read q h ss)
+    (λ w. Takes AnAssign (λ e. item_of h ss (λ i. stated q (plain.Valid w.value i))))
+    (refl, λ t. refl, λ t. refl)) (c.in_err-body.ensures.read h ss
+    (λ i. stated q (plain.Valid c.in_ok-path.path.now.value i))))
 
 pub returns-clause-read : goal.returns-clause-read
 returns-clause-read c = λ q h ss.
-    let made : form_seen c.in_ok-valid_statement.field-0 ≡ plain.Valid c.in_ok-path.path.now.value (item_seen c.in_ok-body.body) = search rules in
-    c.in_ok-path.ensures.read (valid_read q h ss) (λ w. Takes AnAssign (λ e. item_of h ss (λ i. stated q (plain.Valid w.value i)))) (refl, λ t. refl, λ t. refl) ∙ c.in_ok-body.ensures.read h ss (λ i. stated q (plain.Valid c.in_ok-path.path.now.value i)) ∙ ap (λ v. run c.in_ok-body.rest.now (Statements h (ss ++ stated q v ∷ []))) (sym made)
+    let made : form_seen c.in_ok-valid_statement.field-0
+    ≡ plain.Valid c.in_ok-path.path.now.value (item_seen c.in_ok-body.body) = search rules in
+    c.in_ok-path.ensures.read (valid_read q h ss)
+    (λ w. Takes AnAssign (λ e. item_of h ss (λ i. stated q (plain.Valid w.value i))))
+    (refl, λ t. refl, λ t. refl) ∙ c.in_ok-body.ensures.read h ss
+    (λ i. stated q (plain.Valid c.in_ok-path.path.now.value i))
+    ∙ ap (λ v. run c.in_ok-body.rest.now (Statements h (ss ++ stated q v ∷ []))) (sym made)

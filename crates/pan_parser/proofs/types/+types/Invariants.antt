@@ -20,7 +20,11 @@ abbrev pub decreases-fields : goal.decreases-fields
 decreases-fields l = 4 * length l.tokens.now + 2
 
 abbrev pub invariant-fields-loop-after : goal.invariant-fields-loop-after
-invariant-fields-loop-after l = ((e : Bool) (s : FullStack) → suc (suc (full_holders s)) ≡ l.fn.depth → run l.fn.tokens (FieldsOpen e [] s) ≡ run l.rest (FieldsOpen e (map field_seen l.fields.items) s)) × (length l.rest ≤ length l.fn.tokens) × Within 1 l.fn.depth (fields_pointers l.fields.items)
+invariant-fields-loop-after l =
+    ((e : Bool) (s : FullStack) → suc (suc (full_holders s))
+    ≡ l.fn.depth → run l.fn.tokens (FieldsOpen e [] s)
+    ≡ run l.rest (FieldsOpen e (map field_seen l.fields.items) s))
+    × (length l.rest ≤ length l.fn.tokens) × Within 1 l.fn.depth (fields_pointers l.fields.items)
 
 abbrev pub decreases-fields-loop-after : goal.decreases-fields-loop-after
 decreases-fields-loop-after l = length l.rest

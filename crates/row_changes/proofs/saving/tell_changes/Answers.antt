@@ -6,7 +6,8 @@ use Rattle.row_changes.specs.Differing.{gone_from, set_from, is_nothing}
 use Rattle.row_changes.proofs.Same.{nothing_where_same}
 use Rattle.row_changes.proofs.saving.tell_changes.Goals as goal
 
-failed_where : {T P : Type 0} → (P → ⊥) → (r : Result T StoreError) → IfErr r (λ e. e ≡ Failed → P → ⊥)
+failed_where : {T P : Type 0} → (P → ⊥) → (r : Result T StoreError)
+    → IfErr r (λ e. e ≡ Failed → P → ⊥)
 failed_where none (Ok x) = tt
 failed_where none (Err e) = λ failed p. none p
 
@@ -22,7 +23,8 @@ returns-clause-same g c = λ is.
     let told : is_nothing c.in_ok-changes.changes.gone.items c.in_ok-changes.changes.set.items
     ≡ true = ap (λ k. is_nothing k c.in_ok-changes.changes.set.items) gone
     ∙ ap (λ k. is_nothing (gone_from c.args.last.now c.args.wanted.now) k) set ∙ nothing in
-    let clash : c.is_empty.result ≡ true = c.is_empty.ensures ∙ told in absurd (cc c.if-is_empty.false)
+    let clash : c.is_empty.result ≡ true = c.is_empty.ensures ∙ told in
+    absurd (cc c.if-is_empty.false)
 
 -- a call was made, so something differs
 pub returns-clause-differ : goal.returns-clause-differ
@@ -34,7 +36,9 @@ returns-clause-differ g c = failed_where (λ is. clash is) c.replace.result
         (set_from c.args.last.now c.args.wanted.now) ≡ true =
         nothing_where_same c.args.last.now c.args.wanted.now c.requires.last_rises is in
         let told : is_nothing c.in_ok-changes.changes.gone.items c.in_ok-changes.changes.set.items
-        ≡ true = ap (λ k. is_nothing k c.in_ok-changes.changes.set.items) c.in_ok-changes.ensures.gone
+        ≡ true = ap (λ k. is_nothing k c.in_ok-changes.changes.set.items)
+        c.in_ok-changes.ensures.gone
         ∙ ap (λ k. is_nothing (gone_from c.args.last.now c.args.wanted.now) k)
         c.in_ok-changes.ensures.set ∙ nothing in
-        let was : c.is_empty.result ≡ true = c.is_empty.ensures ∙ told in absurd (cc c.if-is_empty.false)
+        let was : c.is_empty.result ≡ true = c.is_empty.ensures ∙ told in
+        absurd (cc c.if-is_empty.false)

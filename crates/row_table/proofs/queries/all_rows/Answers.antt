@@ -3,13 +3,22 @@ use Rattle.row_table.proofs.Asking.{all_told, all_reading, all_survives}
 use Rattle.row_table.proofs.queries.all_rows.Goals as goal
 
 pub returns-clause-shown : goal.returns-clause-shown
-returns-clause-shown g c = λ clean. all_told (λ rows. rows.items) _ _ c.requires.ours c.query_all.result (c.query_all.ensures.ok clean)
+returns-clause-shown g c =
+    λ clean. all_told (λ rows. rows.items) _ _ c.requires.ours c.query_all.result
+    (c.query_all.ensures.ok clean)
 
 pub returns-clause-reading : goal.returns-clause-reading
-returns-clause-reading g c = λ clean. all_reading (λ rows. rows.items) _ _ c.requires.ours c.query_all.result (c.query_all.ensures.ok clean) (c.query_all.ensures.err clean)
+returns-clause-reading g c =
+    λ clean. all_reading (λ rows. rows.items) _ _ c.requires.ours c.query_all.result
+    (c.query_all.ensures.ok clean) (c.query_all.ensures.err clean)
 
 pub returns-clause-survives : goal.returns-clause-survives
-returns-clause-survives g c = all_survives (λ rows. rows.items) _ _ c.requires.ours c.query_all.result c.query_all.ensures.survives
+returns-clause-survives g c =
+    all_survives (λ rows. rows.items) _ _ c.requires.ours c.query_all.result
+    c.query_all.ensures.survives
 
 pub returns-clause-turns : goal.returns-clause-turns
-returns-clause-turns g c = λ settled. turns_reading _ _ c.query_all.result settled (λ clean. all_reading (λ rows. rows.items) _ _ c.requires.ours c.query_all.result (c.query_all.ensures.ok clean) (c.query_all.ensures.err clean))
+returns-clause-turns g c =
+    λ settled. turns_reading _ _ c.query_all.result settled
+    (λ clean. all_reading (λ rows. rows.items) _ _ c.requires.ours c.query_all.result
+    (c.query_all.ensures.ok clean) (c.query_all.ensures.err clean))

@@ -11,4 +11,6 @@ invariant-loop-row g l =
     let old = state g.S.Store l.initial.tx.conn.now in
     let now = state g.S.Store l.tx.conn.now in
     (l.tx.conn.ghost_name ≡ l.initial.tx.conn.ghost_name) × IsStep old now
-    × (HasCleanDisk now → IsReady old → IsReady now × ((n : List ℕ) → all_set (drop l.row-index l.rows) n (held (now.now.trees 0) n) ≡ all_set l.rows n (held (old.now.trees 0) n)))
+    × (HasCleanDisk now → IsReady old → IsReady now
+    × ((n : List ℕ) → all_set (drop l.row-index l.rows) n (held (now.now.trees 0) n)
+    ≡ all_set l.rows n (held (old.now.trees 0) n)))

@@ -8,5 +8,10 @@ use Rattle.template_run.proofs.assignments.assign_at.Goals as goal
 
 pub returns-in_err-present-clause-gives : goal.returns-in_err-present-clause-gives
 returns-in_err-present-clause-gives g c = λ keys.
-    let leaves = assign_terms_leave (site_of c.args.site.now g.W.World.reading g.W.World.calls) g.W.World.plain (inside_of c.args.inside.now) c.args.assignment.place.now c.args.assignment.last c.args.assignment.path.now c.args.assignment.conditional (item_seen c.args.assignment.item.now) c.args.terms.now (only keys g.W.World.answers) (program_of c.args.program.now) (meter c.args.work.now (g.W.World.asked c.args.world.now)) in
+    let leaves = assign_terms_leave (site_of c.args.site.now g.W.World.reading g.W.World.calls)
+    g.W.World.plain (inside_of c.args.inside.now) c.args.assignment.place.now
+    c.args.assignment.last c.args.assignment.path.now c.args.assignment.conditional
+    (item_seen c.args.assignment.item.now) c.args.terms.now (only keys g.W.World.answers)
+    (program_of c.args.program.now) (meter c.args.work.now (g.W.World.asked c.args.world.now))
+    in
     grind (arith, leaves)

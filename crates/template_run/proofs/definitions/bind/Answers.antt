@@ -5,4 +5,5 @@ use Rattle.template_run.proofs.definitions.bind.Goals as goal
 
 pub returns-in_err-terms-clause-gives : goal.returns-in_err-terms-clause-gives
 unfolding bind_run
-returns-in_err-terms-clause-gives g c = λ keys. let terms = c.path_terms.ensures keys in grind (arith, leaving, terms)
+returns-in_err-terms-clause-gives g c = λ keys. let terms = c.path_terms.ensures keys in
+    grind (arith, leaving, terms)

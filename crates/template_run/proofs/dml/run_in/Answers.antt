@@ -8,5 +8,8 @@ use Rattle.template_run.proofs.dml.run_in.Goals as goal
 
 pub returns-in_err-share-clause-gives : goal.returns-in_err-share-clause-gives
 returns-in_err-share-clause-gives g c = λ keys.
-    let leaves = dml_in_leaves (site_of c.args.site.now g.W.World.reading g.W.World.calls) g.W.World.plain (inside_of c.args.inside.now) (is_fixed c.args.self_use) c.args.self_value (item_seen c.args.item.now) (only keys g.W.World.answers) (program_of c.args.program.now) (meter c.args.work.now (g.W.World.asked c.args.world.now)) in
+    let leaves = dml_in_leaves (site_of c.args.site.now g.W.World.reading g.W.World.calls)
+    g.W.World.plain (inside_of c.args.inside.now) (is_fixed c.args.self_use) c.args.self_value
+    (item_seen c.args.item.now) (only keys g.W.World.answers) (program_of c.args.program.now)
+    (meter c.args.work.now (g.W.World.asked c.args.world.now)) in
     grind (arith, leaves)

@@ -9,15 +9,22 @@ use Rattle.template_run.proofs.objects.run_from.Goals as goal
 
 pub returns-in_err-place-clause-gives : goal.returns-in_err-place-clause-gives
 returns-in_err-place-clause-gives g c = λ keys.
-    let leaves = object_leaves (site_of c.args.site.now g.W.World.reading g.W.World.calls) g.W.World.plain (only keys g.W.World.answers) no_program (meter c.args.work.now (g.W.World.asked c.args.world.now)) in
+    let leaves = object_leaves (site_of c.args.site.now g.W.World.reading g.W.World.calls)
+    g.W.World.plain (only keys g.W.World.answers) no_program
+    (meter c.args.work.now (g.W.World.asked c.args.world.now)) in
     grind (arith, leaves)
 
 pub returns-in_err-share-clause-gives : goal.returns-in_err-share-clause-gives
 returns-in_err-share-clause-gives g c = λ keys.
-    let leaves = object_leaves (site_of c.args.site.now g.W.World.reading g.W.World.calls) g.W.World.plain (only keys g.W.World.answers) no_program (meter c.args.work.now (g.W.World.asked c.args.world.now)) in
+    let leaves = object_leaves (site_of c.args.site.now g.W.World.reading g.W.World.calls)
+    g.W.World.plain (only keys g.W.World.answers) no_program
+    (meter c.args.work.now (g.W.World.asked c.args.world.now)) in
     grind (arith, leaves)
 
 pub returns-in_err-template-clause-gives : goal.returns-in_err-template-clause-gives
 returns-in_err-template-clause-gives g c = λ keys.
-    let stops = object_stops (site_of c.args.site.now g.W.World.reading g.W.World.calls) g.W.World.plain c.in_err-template.field-0.0 (only keys g.W.World.answers) (meter c.args.work.now (g.W.World.asked c.args.world.now)) (meter c.find_named.new.work (g.W.World.asked c.find_named.new.world)) in
+    let stops = object_stops (site_of c.args.site.now g.W.World.reading g.W.World.calls)
+    g.W.World.plain c.in_err-template.field-0.0 (only keys g.W.World.answers)
+    (meter c.args.work.now (g.W.World.asked c.args.world.now))
+    (meter c.find_named.new.work (g.W.World.asked c.find_named.new.world)) in
     grind (arith, stops)

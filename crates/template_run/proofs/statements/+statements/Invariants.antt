@@ -35,6 +35,10 @@ invariant-run_statements-statements g l =
     let site = site_of l.site g.W.World.reading g.W.World.calls in
     let from = statements_run (included l.inside.includes_left site) site (inside_of l.inside) in
     record {
-      gives : ToldEnough g.W.World.answers (asked l.fn.world) (asked l.world) (λ told. from l.prefix (map statement_seen (drop l.statement-index l.statements)) told (program_of l.program) (meter l.work (asked l.world)) ≡ from None (map statement_seen l.statements) told (program_of l.fn.program) (meter l.fn.work (asked l.fn.world)));
+      gives : ToldEnough g.W.World.answers (asked l.fn.world) (asked l.world)
+          (λ told. from l.prefix (map statement_seen (drop l.statement-index l.statements)) told
+          (program_of l.program) (meter l.work (asked l.world))
+          ≡ from None (map statement_seen l.statements) told (program_of l.fn.program)
+          (meter l.fn.work (asked l.fn.world)));
       counted : l.steps + l.work.left ≡ l.fn.steps + l.fn.work.left;
     }

@@ -8,5 +8,9 @@ use Rattle.template_run.proofs.variables.run_value.Goals as goal
 
 pub returns-in_err-present-clause-gives : goal.returns-in_err-present-clause-gives
 returns-in_err-present-clause-gives g c = λ keys.
-    let leaves = variable_value_leaves (site_of c.args.site.now g.W.World.reading g.W.World.calls) g.W.World.plain (inside_of c.args.inside.now) c.args.variable.place.now c.args.variable.last c.args.variable.name.now c.args.variable.conditional (item_seen c.args.variable.item.now) (only keys g.W.World.answers) (program_of c.args.program.now) (meter c.args.work.now (g.W.World.asked c.args.world.now)) in
+    let leaves = variable_value_leaves (site_of c.args.site.now g.W.World.reading g.W.World.calls)
+    g.W.World.plain (inside_of c.args.inside.now) c.args.variable.place.now c.args.variable.last
+    c.args.variable.name.now c.args.variable.conditional (item_seen c.args.variable.item.now)
+    (only keys g.W.World.answers) (program_of c.args.program.now)
+    (meter c.args.work.now (g.W.World.asked c.args.world.now)) in
     grind (arith, leaves)

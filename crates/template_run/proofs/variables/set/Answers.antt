@@ -5,7 +5,8 @@ use Rattle.template_run.proofs.variables.set.Goals as goal
 
 pub returns-then-not-is_value_for : goal.returns-then-not-is_value_for
 unfolding set_run
-returns-then-not-is_value_for g c = λ keys. (omega arith, λ told. first_of (search rules, grind arith))
+returns-then-not-is_value_for g c =
+    λ keys. (omega arith, λ told. first_of (search rules, grind arith))
 
 pub returns-in-Ok : goal.returns-in-Ok
 unfolding set_run
@@ -13,4 +14,8 @@ returns-in-Ok g c = λ keys. (omega arith, λ told. first_of (search rules, grin
 
 pub returns-in-Err : goal.returns-in-Err
 unfolding set_run
-returns-in-Err g c = λ keys. (omega arith, λ told. first_of (search (rules, unset_comes), grind (arith, unset_comes)))
+returns-in-Err g c = λ keys. (
+  omega arith,
+  λ told. first_of
+      (search (rules, unset_comes), grind (arith, unset_comes)),
+)

@@ -5,4 +5,6 @@ use Rattle.template_run.specs.Seen.{items_at}
 use Rattle.template_run.proofs.written_types.+written.Given as goal
 
 abbrev pub invariant-push_of_fields-fields : goal.invariant-push_of_fields-fields
-invariant-push_of_fields-fields l = items_at l.list.items ++ fields_defaults (fields_seen (drop l.field-index l.fields)) ≡ items_at l.fn.list.items ++ fields_defaults (fields_seen l.fields)
+invariant-push_of_fields-fields l =
+    items_at l.list.items ++ fields_defaults (fields_seen (drop l.field-index l.fields))
+    ≡ items_at l.fn.list.items ++ fields_defaults (fields_seen l.fields)

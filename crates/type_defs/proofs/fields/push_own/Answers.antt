@@ -6,5 +6,6 @@ use Rattle.type_defs.proofs.fields.push_own.Goals as goal
 
 pub returns-clause-measured : goal.returns-clause-measured
 returns-clause-measured c =
-    let e = pushed_deepest (all_seen c.args.done.now.list.items) (all_seen c.push_field.new.list.items) _ c.in_ok-push_field.ensures in
+    let e = pushed_deepest (all_seen c.args.done.now.list.items)
+    (all_seen c.push_field.new.list.items) _ c.in_ok-push_field.ensures in
     omega arith

@@ -8,7 +8,8 @@ use Rattle.type_defs.proofs.resolving.+resolving.Given as goal
 -- what is done and what is left gives the whole
 abbrev pub invariant-resolve_fields-loop-field : goal.invariant-resolve_fields-loop-field
 invariant-resolve_fields-loop-field l = record {
-  gives : fields_resolved (known l.types) l.template (fields_seen (drop l.field-index l.fields)) (done_seen l.done) l.left
+  gives : fields_resolved (known l.types) l.template (fields_seen (drop l.field-index l.fields))
+      (done_seen l.done) l.left
       ≡ fields_resolved (known l.types) l.template (fields_seen l.fields) [] l.values;
   measured : IsMeasured l.done;
 }

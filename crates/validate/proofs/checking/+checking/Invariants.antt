@@ -14,7 +14,10 @@ invariant-check_items-loop-i g l =
     let f = check g.E.Evaluator.means l.place (resolved_seen l.inner) in
     let asked = g.E.Evaluator.asked in
     record {
-      gives : ToldEnough g.E.Evaluator.answers (asked l.fn.evaluator) (asked l.evaluator) (λ told. items_run f l.i (items_from l.i l.value) told tt (meter l.work (asked l.evaluator)) ≡ items_run f 0 (child_items l.value) told tt (meter l.fn.work (asked l.fn.evaluator)));
+      gives : ToldEnough g.E.Evaluator.answers (asked l.fn.evaluator) (asked l.evaluator)
+          (λ told. items_run f l.i (items_from l.i l.value) told tt
+          (meter l.work (asked l.evaluator)) ≡ items_run f 0 (child_items l.value) told tt
+          (meter l.fn.work (asked l.fn.evaluator)));
       counted : l.steps + l.work.left ≡ l.fn.steps + l.fn.work.left;
     }
 
@@ -23,7 +26,9 @@ invariant-check_entries-loop-i g l =
     let f = check g.E.Evaluator.means l.place (resolved_seen l.inner) in
     let asked = g.E.Evaluator.asked in
     record {
-      gives : ToldEnough g.E.Evaluator.answers (asked l.fn.evaluator) (asked l.evaluator) (λ told. values_run f (fields_from l.i l.value) told tt (meter l.work (asked l.evaluator)) ≡ values_run f (child_fields l.value) told tt (meter l.fn.work (asked l.fn.evaluator)));
+      gives : ToldEnough g.E.Evaluator.answers (asked l.fn.evaluator) (asked l.evaluator)
+          (λ told. values_run f (fields_from l.i l.value) told tt (meter l.work (asked l.evaluator))
+          ≡ values_run f (child_fields l.value) told tt (meter l.fn.work (asked l.fn.evaluator)));
       counted : l.steps + l.work.left ≡ l.fn.steps + l.fn.work.left;
     }
 
@@ -32,6 +37,9 @@ invariant-check_fields-loop-field g l =
     let run = fields_run g.E.Evaluator.means l.place in
     let asked = g.E.Evaluator.asked in
     record {
-      gives : ToldEnough g.E.Evaluator.answers (asked l.fn.evaluator) (asked l.evaluator) (λ told. run (fields_of (all_seen (drop l.field-index l.fields))) (child_fields l.value) told tt (meter l.work (asked l.evaluator)) ≡ run (fields_of (all_seen l.fields)) (child_fields l.value) told tt (meter l.fn.work (asked l.fn.evaluator)));
+      gives : ToldEnough g.E.Evaluator.answers (asked l.fn.evaluator) (asked l.evaluator)
+          (λ told. run (fields_of (all_seen (drop l.field-index l.fields))) (child_fields l.value)
+          told tt (meter l.work (asked l.evaluator)) ≡ run (fields_of (all_seen l.fields))
+          (child_fields l.value) told tt (meter l.fn.work (asked l.fn.evaluator)));
       counted : l.steps + l.work.left ≡ l.fn.steps + l.fn.work.left;
     }

@@ -9,5 +9,6 @@ use Rattle.validate.proofs.extra.other_key.Given as goal
 abbrev pub invariant-loop-i : goal.invariant-loop-i
 invariant-loop-i l = record {
   keys : HasKeys l.keys (fields_of (all_seen l.fields));
-  other : other_key (fields_of (all_seen l.fields)) (fields_from l.i l.value) ≡ other_key (fields_of (all_seen l.fields)) (child_fields l.value);
+  other : other_key (fields_of (all_seen l.fields)) (fields_from l.i l.value)
+      ≡ other_key (fields_of (all_seen l.fields)) (child_fields l.value);
 }

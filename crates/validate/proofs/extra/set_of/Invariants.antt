@@ -8,4 +8,7 @@ use Rattle.validate.proofs.extra.set_of.Given as goal
 
 -- a key is in the set, or that of a field that is left
 abbrev pub invariant-loop-field : goal.invariant-loop-field
-invariant-loop-field l = (k : List ℕ) → (contains bytes_eq l.keys k || has_key k (fields_of (all_seen (drop l.field-index l.fields)))) ≡ has_key k (fields_of (all_seen l.fields))
+invariant-loop-field l =
+    (k : List ℕ) → (contains bytes_eq l.keys k || has_key k
+    (fields_of (all_seen (drop l.field-index l.fields))))
+    ≡ has_key k (fields_of (all_seen l.fields))

@@ -20,7 +20,9 @@ abbrev pub decreases-undef_at_key : goal.decreases-undef_at_key
 decreases-undef_at_key l = 3 * tree_size l.tree.now
 
 abbrev pub invariant-undef_in_list-loop-i : goal.invariant-undef_in_list-loop-i
-invariant-undef_in_list-loop-i l = undef_in_items l.i (items_from l.i l.tree) ≡ undef_in_items 0 (child_items l.tree)
+invariant-undef_in_list-loop-i l =
+    undef_in_items l.i (items_from l.i l.tree) ≡ undef_in_items 0 (child_items l.tree)
 
 abbrev pub invariant-undef_in_dict-loop-i : goal.invariant-undef_in_dict-loop-i
-invariant-undef_in_dict-loop-i l = undef_in_fields (fields_from l.i l.tree) ≡ undef_in_fields (child_fields l.tree)
+invariant-undef_in_dict-loop-i l =
+    undef_in_fields (fields_from l.i l.tree) ≡ undef_in_fields (child_fields l.tree)

@@ -5,4 +5,5 @@ use Rattle.validate.proofs.whole.check.Goals as goal
 
 pub returns-in_err-check_undef-clause-gives : goal.returns-in_err-check_undef-clause-gives
 unfolding checked
-returns-in_err-check_undef-clause-gives g c = λ keys. let left = c.check_undef.ensures keys in grind (arith, leaving, left)
+returns-in_err-check_undef-clause-gives g c = λ keys. let left = c.check_undef.ensures keys in
+    grind (arith, leaving, left)

@@ -10,6 +10,9 @@ invariant-loop-valid g l =
     let run = valids_run g.E.Evaluator.means l.root in
     let asked = g.E.Evaluator.asked in
     record {
-      gives : ToldEnough g.E.Evaluator.answers (asked l.fn.evaluator) (asked l.evaluator) (λ told. run (valids_seen (drop l.valid-index l.valids)) told tt (meter l.work (asked l.evaluator)) ≡ run (valids_seen l.valids) told tt (meter l.fn.work (asked l.fn.evaluator)));
+      gives : ToldEnough g.E.Evaluator.answers (asked l.fn.evaluator) (asked l.evaluator)
+          (λ told. run (valids_seen (drop l.valid-index l.valids)) told tt
+          (meter l.work (asked l.evaluator)) ≡ run (valids_seen l.valids) told tt
+          (meter l.fn.work (asked l.fn.evaluator)));
       counted : l.steps + l.work.left ≡ l.fn.steps + l.fn.work.left;
     }

@@ -1,0 +1,4 @@
+pub mod Reading
+pub mod Could
+pub mod Sifting
+pub mod Beginning
