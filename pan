@@ -425,6 +425,11 @@ notes_on() {
   [ -z "$place" ] || awk -v place="--> $place " 'BEGIN { RS = ""; ORS = "\n\n" } index($0, place)' "$room/notes"
 }
 
+# Of lines as compilers print them the errors of one object, each with the notes behind it.
+lines_on() {
+  awk -v mark="(object $1)" '/: error: / { mine = index($0, mark) > 0 } mine'
+}
+
 # The faults of a build that is not published: all of them, or those of one object.
 check() {
   local program=$1 status=0
@@ -439,7 +444,7 @@ check() {
   of_object "$only" >"$room/own"
   [ -s "$room/own" ] || exit 0
   case $form in
-    gcc) grep -F "(object $only)" "$room/notes" | placed ;;
+    gcc) lines_on "$only" <"$room/notes" | placed ;;
     json) grep -F "{\"object\":\"$only\"," "$room/notes" ;;
     *) cat "$room/own"; notes_on "$room/own" >&2 ;;
   esac

@@ -423,8 +423,9 @@ def for_programs(folder):
     machines(folder, 1)
     write(folder, "site/web2.pan", "object template web2;\nbind '/port' = long(1..9);\n'/port' = 80;\n")
     line = "site/web2.pan:2:1: error: F36 out of range: /port (object web2)\n"
+    line += "site/web2.pan:3:1: note: set here: 80, wanted long(1..9)\n"
     of_json = {"object": "web2", "code": "F36", "name": "out of range", "file": "web2.pan", "line": 2, "column": 1}
-    of_json = {**of_json, "detail": "/port"}
+    of_json = {**of_json, "detail": "/port", "value": "80", "expected": "long(1..9)", "set_by": "web2.pan:3:1"}
     ended = pan(folder, "build", "site", "out", "--format", "gcc")
     yield "as compilers print faults", (ended.status, ended.text) == (1, line)
     yield "the profiles are published", profiles(folder) == ["web1.json"]
@@ -434,6 +435,8 @@ def for_programs(folder):
     yield "of a check", (ended.status, ended.text) == (1, line)
     ended = pan(folder, "check", "site", "--format", "json", "--only", "web2")
     yield "of one object", ended.status == 1 and objects_in(ended.text) == [of_json]
+    ended = pan(folder, "check", "site", "--format", "gcc", "--only", "web2")
+    yield "and as compilers print it", (ended.status, ended.text) == (1, line)
     ended = pan(folder, "check", "nowhere", "--format", "gcc")
     yield "a call that fails", ended.status == 3 and ended.text == "source fault\n" and "nowhere" in ended.notes
     ended = pan(folder, "build", "nowhere", "new/out", "--format", "json")

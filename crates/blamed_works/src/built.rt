@@ -13,12 +13,11 @@ ghost use Rattle.compiler.specs.Standing.{IsFaithful};
 use crate::texts::push_leaves;
 use base::Steps;
 use compiler::Works;
-use engine_turns::row_in;
 use path_tree::Term;
-use run_again::run_again;
 use runner::{Built, Runner};
 use std::alloc::{AllocError, Global};
 use std::sync::ledger::Ledger;
+use works_again::build_end_again;
 
 /// Writes the leaves at and below the terms of what a build made.
 pub(crate) fn push_built<R: Runner>(
@@ -67,10 +66,7 @@ pub(crate) fn build_again<R: Runner, L: Ledger>(
         (R.runs_of works.old.runner) (R.runs_of works.new.runner) }
     ensures engine { works.new.engine ≡ works.old.engine }
 {
-    let Some(row) = row_in(&works.engine.core().rows, name) else {
-        return Err(AllocError);
-    };
-    match run_again(&works.engine, &row.name, &mut works.runner, steps)? {
+    match build_end_again(works, name, steps)? {
         Ok(built) => Ok(built),
         Err(_fault) => Err(AllocError),
     }

@@ -1,26 +1,14 @@
 ghost use Rattle.std.specs.Prelude.{◌≡◌, ◌++◌, [], OnOk, codes, map};
-ghost use Rattle.pan_ast.specs.Printed.{line_of, place_text};
+ghost use Rattle.pan_ast.specs.Printed.{line_of};
 ghost use Rattle.pan_blame.specs.Blamed.{leaf_seen};
 ghost use Rattle.session.specs.Texts.{name_lines};
 ghost use Rattle.compiler.specs.Blaming.{default_text, leaf_text};
 
-use itoa::Buffer;
-use pan_ast::{Fault, Place, fault_line};
+use pan_ast::{Fault, fault_line};
 use pan_blame::Leaf;
 use path_tree::{Anchor, Path};
 use std::alloc::{AllocError, Global};
-
-/// `FILE:LINE:COLUMN`
-fn push_place(text: &mut Vec<u8>, place: &Place) -> Result<(), AllocError>
-    ensures { OnOk result (text.new.items ≡ text.old.items ++ place_text place.now) }
-{
-    let mut buffer = Buffer::new();
-    text.extend_from_slice(place.file.as_str().as_bytes())?;
-    text.push(b':')?;
-    text.extend_from_slice(buffer.format(place.line).as_bytes())?;
-    text.push(b':')?;
-    text.extend_from_slice(buffer.format(place.column).as_bytes())
-}
+use works_again::push_place;
 
 /// ` default`, where it is one.
 fn push_default(text: &mut Vec<u8>, default: bool) -> Result<(), AllocError>

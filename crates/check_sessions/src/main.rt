@@ -219,7 +219,7 @@ fn print_ended(rt: &HostRuntime, ended: &Ended) -> Result<()> {
         devices.shelf.faults(),
         ended.keeper.faults(),
         devices.out.faults(),
-        ended.runner.runs(),
+        ended.works.runner.runs(),
         str::from_utf8(devices.out.written())?
     )?;
     print_shelf(rt, devices.shelf.held())?;

@@ -19,7 +19,7 @@ mod works;
 pub use answering::{deps, push_cause, shown};
 pub use building::{Built, build};
 pub use impact::{touched, unused};
-pub use laws::{object_lists, untouched_answers};
+pub use laws::{object_lists, session_rounds, untouched_answers};
 pub use starting::{new_works, start};
 pub use taking::{Took, take_next};
 pub use turning::{make_all_turns, make_turns};

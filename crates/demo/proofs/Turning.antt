@@ -14,27 +14,45 @@ use Rattle.demo.specs.Demo.{shortened, builds}
 use Rattle.demo.specs.Reports.{last_line}
 
 pub below_on : {E : Type 0} (s t u : State E) → IsBelow s t → IsBelow t u → IsBelow s u
-below_on s t u a b = record { in_runs = let x = a.in_runs in let y = b.in_runs in omega (arith, x, y); in_steps = let x = a.in_steps in let y = b.in_steps in omega (arith, x, y) }
+below_on s t u a b = record {
+  in_runs = let x = a.in_runs in let y = b.in_runs in
+      omega (arith, x, y);
+  in_steps = let x = a.in_steps in let y = b.in_steps in
+      omega (arith, x, y);
+}
 
-pub shortened_below : {E : Type 0} (text : List ℕ) (continue : State E → Next E) → IsRising continue → (n : Next E) → IsBelow (state_in n) (state_in (shortened text continue n))
-shortened_below text continue rising (GoesOn t) = let h = rising (record t { text = text ++ last_line t.text }) in record { in_runs = h.in_runs; in_steps = h.in_steps }
-shortened_below text continue rising (Quits t) = record { in_runs = omega arith; in_steps = omega arith }
-shortened_below text continue rising (SpendsNumbers t) = record { in_runs = omega arith; in_steps = omega arith }
-shortened_below text continue rising (IsTooMuch t) = record { in_runs = omega arith; in_steps = omega arith }
+pub shortened_below : {E : Type 0} (text : List ℕ) (continue : State E → Next E) → IsRising continue
+    → (n : Next E) → IsBelow (state_in n) (state_in (shortened text continue n))
+shortened_below text continue rising (GoesOn t) = let h =
+    rising (record t { text = text ++ last_line t.text }) in
+    record { in_runs = h.in_runs; in_steps = h.in_steps }
+shortened_below text continue rising (Quits t) =
+    record { in_runs = omega arith; in_steps = omega arith }
+shortened_below text continue rising (SpendsNumbers t) =
+    record { in_runs = omega arith; in_steps = omega arith }
+shortened_below text continue rising (IsTooMuch t) =
+    record { in_runs = omega arith; in_steps = omega arith }
 
 -- what is written goes on from here
 abbrev pub Grows : {E : Type 0} → List ℕ → Next E → Type 0
 Grows text n = (more : List ℕ) × ((state_in n).text ≡ text ++ more)
 
-shortened_grows : {E : Type 0} (text : List ℕ) (continue : State E → Next E) → ((t : State E) → Grows t.text (continue t)) → (n : Next E) → Grows text (shortened text continue n)
-shortened_grows text continue go (GoesOn t) = let h = go (record t { text = text ++ last_line t.text }) in (last_line t.text ++ h.0, h.1 ∙ append_assoc text (last_line t.text) h.0)
+shortened_grows : {E : Type 0} (text : List ℕ) (continue : State E → Next E)
+    → ((t : State E) → Grows t.text (continue t)) → (n : Next E)
+    → Grows text (shortened text continue n)
+shortened_grows text continue go (GoesOn t) = let h =
+    go (record t { text = text ++ last_line t.text }) in
+    (last_line t.text ++ h.0, h.1 ∙ append_assoc text (last_line t.text) h.0)
 shortened_grows text continue go (Quits t) = ([], sym (append-nil text))
 shortened_grows text continue go (SpendsNumbers t) = ([], sym (append-nil text))
 shortened_grows text continue go (IsTooMuch t) = ([], sym (append-nil text))
 
-pub grows : {E : Type 0} (machine : Machine E) (k : ℕ) (s : State E) → Grows s.text (builds machine k s)
+pub grows : {E : Type 0} (machine : Machine E) (k : ℕ) (s : State E)
+    → Grows s.text (builds machine k s)
 grows machine zero s = ([], sym (append-nil s.text))
-grows machine (suc k) s = shortened_grows s.text (builds machine k) (grows machine k) (next machine build_round (record s { text = [] }))
+grows machine (suc k) s =
+    shortened_grows s.text (builds machine k) (grows machine k)
+    (next machine build_round (record s { text = [] }))
 
 module _ {T : Type 0} (machine : Machine (Compiled T)) where
   abbrev pub at_end : Here T → Next (Compiled T)
@@ -65,15 +83,26 @@ take_front : (p q : List ℕ) → take (length p) (p ++ q) ≡ p
 take_front [] q = refl
 take_front (x ∷ p) q = ap (λ t. x ∷ t) (take_front p q)
 
-pub part_by : (held_old held_new : Option (List ℕ)) (text p q : List ℕ) → held_new ≡ option_map (λ h. h ++ p) held_old → text ≡ p ++ q → AppendsPart held_old text held_new
-part_by held_old held_new text p q e is = (length p, e ∙ ap (λ t. option_map (λ h. h ++ t) held_old) (sym (ap (take (length p)) is ∙ take_front p q)))
+pub part_by : (held_old held_new : Option (List ℕ)) (text p q : List ℕ) → held_new
+    ≡ option_map (λ h. h ++ p) held_old → text ≡ p ++ q → AppendsPart held_old text held_new
+part_by held_old held_new text p q e is = (
+  length p,
+  e ∙ ap (λ t. option_map (λ h. h ++ t) held_old)
+      (sym (ap (take (length p)) is ∙ take_front p q)),
+)
 
-pub text_by : (held mid now : Option (List ℕ)) (before text : List ℕ) → mid ≡ option_map (λ h. h ++ before) held → now ≡ option_map (λ h. h ++ text) mid → now ≡ option_map (λ h. h ++ (before ++ text)) held
+pub text_by : (held mid now : Option (List ℕ)) (before text : List ℕ) → mid
+    ≡ option_map (λ h. h ++ before) held → now ≡ option_map (λ h. h ++ text) mid → now
+    ≡ option_map (λ h. h ++ (before ++ text)) held
 text_by None mid now before text e f = f ∙ ap (option_map (λ h. h ++ text)) e
-text_by (Some b) mid now before text e f = f ∙ ap (option_map (λ h. h ++ text)) e ∙ ap (λ t. Some t) (append_assoc b before text)
+text_by (Some b) mid now before text e f =
+    f ∙ ap (option_map (λ h. h ++ text)) e ∙ ap (λ t. Some t) (append_assoc b before text)
 
-pub part_on : (a line more : List ℕ) (n : ℕ) → (a ++ line) ++ more ≡ (a ++ take n line) ++ (drop n line ++ more)
-part_on a line more n = ap (λ l. (a ++ l) ++ more) (sym (take-append-drop n line)) ∙ ap (λ t. t ++ more) (sym (append_assoc a (take n line) (drop n line))) ∙ append_assoc (a ++ take n line) (drop n line) more
+pub part_on : (a line more : List ℕ) (n : ℕ) → (a ++ line) ++ more ≡ (a ++ take n line)
+    ++ (drop n line ++ more)
+part_on a line more n = ap (λ l. (a ++ l) ++ more) (sym (take-append-drop n line))
+    ∙ ap (λ t. t ++ more) (sym (append_assoc a (take n line) (drop n line)))
+    ∙ append_assoc (a ++ take n line) (drop n line) more
 
 pub nothing_written : (held : Option (List ℕ)) → held ≡ option_map (λ h. h ++ []) held
 nothing_written None = refl

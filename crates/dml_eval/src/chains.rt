@@ -105,6 +105,7 @@ pub(crate) fn run_chain<W: World, L: Ledger>(
 }
 
 /// The left operand of a chain, and its first step.
+#[inline(always)]
 #[cycle(eval)]
 #[tactic(auto, using(dml_meaning::proofs::Leaving::leaving), unfolding(dml_meaning::specs::Meaning::steps_run))]
 fn start<'a, W: World, L: Ledger>(
@@ -179,6 +180,7 @@ fn take_up<'a, W: World, L: Ledger>(
 }
 
 /// A step over the value to its left, before those behind it.
+#[inline(always)]
 #[cycle(eval)]
 #[tactic(auto, using(pan_ast::proofs::Forms::steps))]
 fn run_step<'a, W: World, L: Ledger>(
@@ -247,6 +249,7 @@ fn run_index<'a, W: World, L: Ledger>(
 }
 
 /// An operator and its right operand.
+#[inline(always)]
 #[cycle(eval)]
 #[tactic(auto, using(dml_meaning::proofs::Chains::then_then, dml_meaning::proofs::Leaving::leaving), unfolding(dml_meaning::specs::Meaning::step_run))]
 fn run_binary<'a, W: World, L: Ledger>(

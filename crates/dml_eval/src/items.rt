@@ -42,6 +42,7 @@ pub(crate) fn open_item<W: World, L: Ledger>(
 }
 
 /// An item that has begun.
+#[inline(always)]
 #[cycle(eval)]
 #[tactic(auto, using(pan_ast::proofs::Forms::items), unfolding(dml_meaning::specs::Meaning::item_run))]
 fn run_item<W: World, L: Ledger>(
@@ -168,6 +169,7 @@ pub(crate) fn open_values<W: World, L: Ledger>(
 }
 
 /// Whether a condition holds.
+#[inline(always)]
 #[cycle(eval)]
 #[tactic(auto, using(pan_ast::proofs::Places::item_place_seen), unfolding(dml_meaning::specs::Meaning::condition_run))]
 pub(crate) fn holds<W: World, L: Ledger>(
@@ -250,6 +252,7 @@ fn run_if_else<W: World, L: Ledger>(
 }
 
 /// An assignment: first whether the name may be changed.
+#[inline(always)]
 #[cycle(eval)]
 #[tactic(auto, using(pan_ast::proofs::Forms::seen_reference, dml_meaning::proofs::Leaving::leaving), unfolding(dml_meaning::specs::Meaning::assign_run))]
 fn run_assign<W: World, L: Ledger>(
@@ -286,6 +289,7 @@ fn run_assign<W: World, L: Ledger>(
 }
 
 /// The indexes, the right side, and then the change.
+#[inline(always)]
 #[cycle(eval)]
 #[tactic(auto, using(dml_meaning::proofs::Leaving::leaving), unfolding(dml_meaning::specs::Meaning::set_run))]
 fn run_set<W: World, L: Ledger>(

@@ -26,6 +26,7 @@ pub(crate) enum Operand<'a> {
 }
 
 /// An operand, or a chain.
+#[inline(always)]
 #[cycle(eval)]
 pub(crate) fn run_node<W: World, L: Ledger>(
     alloc: Global,

@@ -89,6 +89,7 @@ fn automatic_named<W: World>(
 }
 
 /// The value of a name: of the local, else of the automatic name, else of the global.
+#[inline(always)]
 pub fn find_value<W: World>(
     alloc: Global,
     name: &Text,
@@ -112,6 +113,7 @@ pub fn find_value<W: World>(
 }
 
 /// The value of a name that has one.
+#[inline(always)]
 fn read<W: World>(
     alloc: Global,
     place: &Place,
@@ -130,6 +132,7 @@ fn read<W: World>(
 }
 
 /// A name, with its step.
+#[inline(always)]
 pub fn run_name<W: World, L: Ledger>(
     alloc: Global,
     place: &Place,
@@ -159,6 +162,7 @@ pub fn is_whole(indexes: &[Item]) -> bool
 }
 
 /// Whether a name is that of a global and of no local.
+#[inline(always)]
 fn is_only_global(name: &Text, around: &Around<'_>, live: &Live) -> bool
     ensures { result ≡ (is_some (found around.now.frame.now.globals.now.variables name.now)
         && not (is_some (found live.now.locals name.now))) }
@@ -167,6 +171,7 @@ fn is_only_global(name: &Text, around: &Around<'_>, live: &Live) -> bool
 }
 
 /// Whether a name may be changed, at an index or as a whole.
+#[inline(always)]
 pub fn may_change<W: World>(
     alloc: Global,
     place: &Place,
@@ -258,6 +263,7 @@ pub fn change<W: World>(
 }
 
 /// A step for each index, and the change.
+#[inline(always)]
 pub fn set_value<W: World, L: Ledger>(
     alloc: Global,
     place: &Place,

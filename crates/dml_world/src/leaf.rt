@@ -125,6 +125,7 @@ pub fn spend_step<W: World, L: Ledger>(
 }
 
 /// One step of work, at a place.
+#[inline(always)]
 pub fn take_step<W: World, L: Ledger>(
     alloc: Global,
     place: &Place,
@@ -177,6 +178,7 @@ pub fn text_value(text: &Text) -> Result<Tree, AllocError>
 }
 
 /// A literal.
+#[inline(always)]
 pub fn literal<W: World, L: Ledger>(
     alloc: Global,
     place: &Place,
@@ -194,6 +196,7 @@ pub fn literal<W: World, L: Ledger>(
 }
 
 /// The boolean that a value is.
+#[inline(always)]
 #[tactic(auto, using(crate::proofs::Booleans::booleans))]
 pub fn boolean<W: World>(
     alloc: Global,
@@ -235,6 +238,7 @@ pub fn apply_unary<W: World, L: Ledger>(
 }
 
 /// An operator between its operands.
+#[inline(always)]
 #[tactic(auto, using(crate::proofs::Ends::refused_comes))]
 pub fn apply_binary<W: World, L: Ledger>(
     alloc: Global,

@@ -47,7 +47,8 @@ fits : is_fit two ≡ true
 fits = refl
 
 -- a path of the tree has the number that was read, another one and a failed object's have none
-path_number : (restored_situation {T = ℕ} two).state.table (Under (codes "b") (Index 0 ∷ [])) ≡ Some 5
+path_number : (restored_situation {T = ℕ} two).state.table (Under (codes "b") (Index 0 ∷ []))
+    ≡ Some 5
 path_number = refl
 
 no_number : (restored_situation {T = ℕ} two).state.table (Under (codes "b") []) ≡ None

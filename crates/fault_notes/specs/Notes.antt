@@ -6,6 +6,9 @@ use Rattle.pan_ast.specs.declared.fault.Code.{Code}
 use Rattle.fault_notes.specs.Lines.{code_in, file_in, line_in, column_in, detail_in}
 use Rattle.fault_notes.specs.Meanings.{meaning_of}
 use Rattle.fault_notes.specs.Excerpts.{place_number, line_at, shown_line, shown_byte, indent_to}
+use Rattle.fault_notes.specs.Causes.{at_place, default_mark}
+use Rattle.fault_notes.specs.declared.cause.Cause.{Cause}
+use Rattle.fault_notes.specs.declared.cause.Setter.{Setter}
 use Rattle.fault_notes.specs.declared.meanings.TheConstants.{CODES}
 use Rattle.fault_notes.specs.declared.note.Colours.{Colours}
 use Rattle.fault_notes.specs.declared.note.Colours.TheVariants.{On, Off}
@@ -107,11 +110,45 @@ abbrev pub excerpt_part : Colours → List ℕ → Option (List ℕ) → List �
 excerpt_part colours fault None = []
 excerpt_part colours fault (Some source) = excerpt_in colours fault source
 
--- the note, from the bytes of the file in which the fault is
-abbrev pub note_of : Colours → Repeated → Option (List ℕ) → List ℕ
-note_of colours told source =
+-- ` = ` behind the margin
+abbrev pub equals : Colours → List ℕ → List ℕ
+equals colours fault = margin fault ++ codes " " ++ in_blue colours (codes "=") ++ codes " "
+
+-- ` = LABEL TEXT`, where there is a text
+abbrev pub fact : Colours → List ℕ → List ℕ → Option (List ℕ) → List ℕ
+fact colours fault label None = []
+fact colours fault label (Some text) =
+    equals colours fault ++ label ++ map shown_byte text ++ codes "\n"
+
+-- ` = set by FILE:LINE:COLUMN`, and whether that was a default
+abbrev pub setter_line : Colours → List ℕ → Setter → List ℕ
+setter_line colours fault s =
+    equals colours fault ++ codes "set by " ++ s.place ++ default_mark s.default ++ codes "\n"
+
+-- .. with the line of the file
+abbrev pub setter_part : Colours → List ℕ → Option Setter → Option (List ℕ) → List ℕ
+setter_part colours fault None source = []
+setter_part colours fault (Some s) source =
+    setter_line colours fault s ++ excerpt_part colours (at_place s.place) source
+
+-- the value, what is wanted, and the files that were looked for
+abbrev pub facts_part : Colours → List ℕ → Cause → List ℕ
+facts_part colours fault cause =
+    fact colours fault (codes "value: ") cause.value
+    ++ fact colours fault (codes "wanted: ") cause.wanted
+    ++ fact colours fault (codes "looked for: ") cause.looked_for
+
+-- .. and who set the value, from the bytes of the setter's file
+abbrev pub cause_part : Colours → List ℕ → Cause → Option (List ℕ) → List ℕ
+cause_part colours fault cause source =
+    facts_part colours fault cause ++ setter_part colours fault cause.set_by source
+
+-- the note, from the bytes of the file in which the fault is, and of the setter's file
+abbrev pub note_of : Colours → Repeated → Option (List ℕ) → Cause → Option (List ℕ) → List ℕ
+note_of colours told source cause set_in =
     headline colours told.fault ++ place_line colours told.fault told.objects
-    ++ excerpt_part colours told.fault source ++ codes "\n"
+    ++ excerpt_part colours told.fault source ++ cause_part colours told.fault cause set_in
+    ++ codes "\n"
 
 -- how many different faults are not told
 abbrev pub rest_of : ℕ → List ℕ

@@ -1,5 +1,5 @@
 -- A fault of a report for other programs: as a compiler prints it, and as JSON.
-use Rattle.std.specs.Prelude.{ℕ, List, [], ◌∷◌, ◌++◌, Option, Some, None, bytes_eq, codes, decimal}
+use Rattle.std.specs.Prelude.{ℕ, List, [], ◌∷◌, ◌++◌, Option, Some, None, bytes_eq, map, codes, decimal}
 use Rattle.std.specs.List.{find}
 use Rattle.std.specs.Str.Lossy.{utf8_lossy}
 use Rattle.json.specs.Json.{Json, null, number, string, object, Members, no_members, member}
@@ -10,8 +10,12 @@ use Rattle.pan_ast.specs.Codes.{code_text}
 use Rattle.pan_ast.specs.declared.fault.Code.{Code}
 use Rattle.fault_notes.specs.Lines.{object_in, fault_in, code_in, file_in, line_in, column_in, detail_in}
 use Rattle.fault_notes.specs.Meanings.{meaning_of}
-use Rattle.fault_notes.specs.Excerpts.{place_number}
+use Rattle.fault_notes.specs.Excerpts.{place_number, shown_byte}
 use Rattle.fault_notes.specs.Notes.{place, detail_part}
+use Rattle.fault_notes.specs.Causes.{default_mark}
+use Rattle.fault_notes.specs.declared.cause.Cause.{Cause}
+use Rattle.fault_notes.specs.declared.cause.Setter.{Setter}
+use Rattle.fault_notes.specs.declared.printed.Explained.{Explained}
 use Rattle.fault_notes.specs.declared.meanings.TheConstants.{CODES}
 
 -- the code that is printed so
@@ -30,11 +34,27 @@ told_fault fault =
 abbrev pub owner : List ℕ → List ℕ
 owner name = codes " (object " ++ name ++ codes ")\n"
 
--- of a line of a report `FILE:LINE:COLUMN: error: CODE MEANING: DETAIL (object NAME)`
-abbrev pub compiler_line : List ℕ → List ℕ
-compiler_line line =
-    place (fault_in line) ++ codes ": error: " ++ told_fault (fault_in line)
-    ++ owner (object_in line)
+abbrev pub value_text : Option (List ℕ) → List ℕ
+value_text None = []
+value_text (Some value) = codes ": " ++ map shown_byte value
+
+abbrev pub wanted_text : Option (List ℕ) → List ℕ
+wanted_text None = []
+wanted_text (Some wanted) = codes ", wanted " ++ map shown_byte wanted
+
+-- `FILE:LINE:COLUMN: note: set here: VALUE, wanted TYPE`
+abbrev pub setter_note : Option (List ℕ) → Option (List ℕ) → Option Setter → List ℕ
+setter_note value wanted None = []
+setter_note value wanted (Some s) =
+    s.place ++ codes ": note: set here" ++ default_mark s.default ++ value_text value
+    ++ wanted_text wanted ++ codes "\n"
+
+-- of a line of a report `FILE:LINE:COLUMN: error: CODE MEANING: DETAIL (object NAME)`, and behind
+-- it who set the value
+abbrev pub compiler_line : Explained → List ℕ
+compiler_line e =
+    place (fault_in e.line) ++ codes ": error: " ++ told_fault (fault_in e.line)
+    ++ owner (object_in e.line) ++ setter_note e.cause.value e.cause.wanted e.cause.set_by
 
 -- what is not UTF-8 is U+FFFD
 abbrev pub text_json : List ℕ → Json
@@ -48,21 +68,36 @@ abbrev pub name_json : Option Code → Json
 name_json None = null
 name_json (Some code) = string (meaning_of code)
 
+abbrev pub option_json : Option (List ℕ) → Json
+option_json None = null
+option_json (Some bytes) = text_json bytes
+
+abbrev pub setter_place : Option Setter → Option (List ℕ)
+setter_place None = None
+setter_place (Some s) = Some s.place
+
+-- the value, what is wanted in its place, and where it was set
+abbrev pub cause_members : Cause → Members
+cause_members cause =
+    member (codes "value") (option_json cause.value)
+    (member (codes "expected") (option_json cause.wanted)
+    (member (codes "set_by") (option_json (setter_place cause.set_by)) no_members))
+
 -- where a fault is, and its detail
-abbrev pub place_members : List ℕ → Members
-place_members fault =
+abbrev pub place_members : List ℕ → Members → Members
+place_members fault others =
     member (codes "file") (text_json (file_in fault))
     (member (codes "line") (number_json (place_number (line_in fault)))
     (member (codes "column") (number_json (place_number (column_in fault)))
-    (member (codes "detail") (text_json (detail_in fault)) no_members)))
+    (member (codes "detail") (text_json (detail_in fault)) others)))
 
 -- one object of JSON for a line of a report
-abbrev pub fault_json : List ℕ → Json
-fault_json line = object
+abbrev pub fault_json : List ℕ → Cause → Json
+fault_json line cause = object
     (member (codes "object") (text_json (object_in line))
     (member (codes "code") (text_json (code_in (fault_in line)))
     (member (codes "name") (name_json (code_named (code_in (fault_in line))))
-    (place_members (fault_in line)))))
+    (place_members (fault_in line) (cause_members cause)))))
 
-abbrev pub json_line : List ℕ → List ℕ
-json_line line = print (json_tokens (fault_json line)) ++ line_feed ∷ []
+abbrev pub json_line : Explained → List ℕ
+json_line e = print (json_tokens (fault_json e.line e.cause)) ++ line_feed ∷ []

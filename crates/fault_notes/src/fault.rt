@@ -45,14 +45,14 @@ fn named(line: &[u8]) -> &[u8]
 }
 
 /// The object of a line `fault NAME CODE FILE:LINE:COLUMN DETAIL`.
-pub(crate) fn object_in(line: &[u8]) -> &[u8]
+pub fn object_in(line: &[u8]) -> &[u8]
     ensures { result.now ≡ object_in line.now }
 {
     before(b' ', named(line))
 }
 
 /// What stands behind the object: the fault.
-pub(crate) fn fault_in(line: &[u8]) -> &[u8]
+pub fn fault_in(line: &[u8]) -> &[u8]
     ensures { result.now ≡ fault_in line.now }
 {
     after(b' ', named(line))
@@ -85,7 +85,7 @@ fn behind_file(fault: &[u8]) -> &[u8]
 }
 
 /// The digits of the line.
-pub(crate) fn line_in(fault: &[u8]) -> &[u8]
+pub fn line_in(fault: &[u8]) -> &[u8]
     ensures { result.now ≡ line_in fault.now }
 {
     before(b':', behind_file(fault))
@@ -98,14 +98,14 @@ fn behind_line(fault: &[u8]) -> &[u8]
 }
 
 /// The digits of the column.
-pub(crate) fn column_in(fault: &[u8]) -> &[u8]
+pub fn column_in(fault: &[u8]) -> &[u8]
     ensures { result.now ≡ column_in fault.now }
 {
     before(b' ', behind_line(fault))
 }
 
 /// The detail of a fault; nothing where there is none.
-pub(crate) fn detail_in(fault: &[u8]) -> &[u8]
+pub fn detail_in(fault: &[u8]) -> &[u8]
     ensures { result.now ≡ detail_in fault.now }
 {
     after(b' ', behind_line(fault))

@@ -56,7 +56,7 @@ const CODES: [Code; 46] = [
 ];
 
 /// The first of these codes that is printed so.
-fn first_of(among: &[Code], text: &[u8]) -> Option<Code>
+pub(crate) fn first_of(among: &[Code], text: &[u8]) -> Option<Code>
     ensures { result ≡ find (λ code. bytes_eq (code_text code) text.now) among.now }
 {
     for code in among {

@@ -1,6 +1,9 @@
-ghost use Rattle.std.specs.Prelude.{◌≡◌, ◌++◌, IfOk, OnOk, map, option_map, codes, decimal};
-ghost use Rattle.fault_notes.specs.Notes.{red, blue, plain, in_red, in_blue, meaning_part, detail_part, headline, others, objects_part, margin, place, place_line, bar, mark, excerpt, excerpt_in, note_of, rest_of};
+ghost use Rattle.std.specs.Prelude.{◌≡◌, ◌++◌, IfOk, OnOk, map, option_map, option_copied, codes, decimal};
+ghost use Rattle.fault_notes.specs.Causes.{at_place};
+ghost use Rattle.fault_notes.specs.Notes.{red, blue, plain, in_red, in_blue, meaning_part, detail_part, headline, others, objects_part, margin, place, place_line, bar, mark, excerpt, excerpt_in, excerpt_part, equals, fact, facts_part, setter_line, setter_part, cause_part, note_of, rest_of};
+ghost use Rattle.fault_notes.specs.Excerpts.{shown_byte};
 
+use crate::cause::{Cause, Setter, at_place, push_default_mark};
 use crate::excerpt::{line_at, place_number, push_blanks, push_indent, push_shown, shown_line};
 use crate::fault::{code_in, column_in, detail_in, file_in, line_in};
 use crate::meanings::{code_of, meaning};
@@ -239,26 +242,154 @@ fn push_source(
     }
 }
 
+/// The line of the file in which a fault is, where `source` has the bytes of the file.
+fn push_excerpt_of(
+    alloc: Global,
+    into: &mut Vec<u8>,
+    colours: Colours,
+    fault: &[u8],
+    source: Option<&[u8]>,
+) -> Result<(), AllocError>
+    ensures { OnOk result (into.new.items ≡ into.old.items
+        ++ excerpt_part colours fault.now (option_map (λ s. s.now) source.entry)) }
+{
+    let Some(source) = source else {
+        return Ok(());
+    };
+    push_source(alloc, into, colours, fault, source)
+}
+
+/// ` = ` behind the margin.
+fn push_equals(into: &mut Vec<u8>, colours: Colours, fault: &[u8]) -> Result<(), AllocError>
+    ensures { OnOk result (into.new.items ≡ into.old.items ++ equals colours fault.now) }
+{
+    push_margin(into, fault)?;
+    into.extend_from_slice(b" ")?;
+    into.extend_from_slice(blue(colours))?;
+    into.extend_from_slice(b"=")?;
+    into.extend_from_slice(plain(colours))?;
+    into.extend_from_slice(b" ")
+}
+
+/// ` = LABEL TEXT`, where there is a text.
+fn push_fact(
+    into: &mut Vec<u8>,
+    colours: Colours,
+    fault: &[u8],
+    label: &[u8],
+    text: Option<&Bytes>,
+) -> Result<(), AllocError>
+    ensures { OnOk result (into.new.items ≡ into.old.items
+        ++ fact colours fault.now label.now (option_copied text.entry)) }
+{
+    let Some(text) = text else {
+        return Ok(());
+    };
+    push_equals(into, colours, fault)?;
+    into.extend_from_slice(label)?;
+    push_shown(into, text.as_slice())?;
+    into.extend_from_slice(b"\n")
+}
+
+/// ` = set by FILE:LINE:COLUMN`
+fn push_setter_line(
+    into: &mut Vec<u8>,
+    colours: Colours,
+    fault: &[u8],
+    setter: &Setter,
+) -> Result<(), AllocError>
+    ensures { OnOk result (into.new.items ≡ into.old.items
+        ++ setter_line colours fault.now setter.now) }
+{
+    push_equals(into, colours, fault)?;
+    into.extend_from_slice(b"set by ")?;
+    into.extend_from_slice(setter.place.as_slice())?;
+    push_default_mark(into, setter.default)?;
+    into.extend_from_slice(b"\n")
+}
+
+/// Who set a value, with the line of the file.
+fn push_setter(
+    alloc: Global,
+    into: &mut Vec<u8>,
+    colours: Colours,
+    fault: &[u8],
+    setter: Option<&Setter>,
+    source: Option<&[u8]>,
+) -> Result<(), AllocError>
+    ensures { OnOk result (into.new.items ≡ into.old.items ++ setter_part colours fault.now
+        (option_copied setter.entry) (option_map (λ s. s.now) source.entry)) }
+{
+    let Some(setter) = setter else {
+        return Ok(());
+    };
+    push_setter_line(into, colours, fault, setter)?;
+    let place = at_place(alloc, setter.place.as_slice())?;
+    push_excerpt_of(alloc, into, colours, &place, source)
+}
+
+/// The value that a fault is about, what is wanted, and the files that were looked for.
+fn push_facts(
+    into: &mut Vec<u8>,
+    colours: Colours,
+    fault: &[u8],
+    cause: &Cause,
+) -> Result<(), AllocError>
+    ensures { OnOk result (into.new.items ≡ into.old.items
+        ++ facts_part colours fault.now cause.now) }
+{
+    push_fact(into, colours, fault, b"value: ", cause.value.as_ref())?;
+    push_fact(into, colours, fault, b"wanted: ", cause.wanted.as_ref())?;
+    push_fact(
+        into,
+        colours,
+        fault,
+        b"looked for: ",
+        cause.looked_for.as_ref(),
+    )
+}
+
+/// What is known beside its line of a fault.
+fn push_cause(
+    alloc: Global,
+    into: &mut Vec<u8>,
+    colours: Colours,
+    fault: &[u8],
+    cause: &Cause,
+    source: Option<&[u8]>,
+) -> Result<(), AllocError>
+    ensures { OnOk result (into.new.items ≡ into.old.items ++ cause_part colours fault.now cause.now
+        (option_map (λ s. s.now) source.entry)) }
+{
+    push_facts(into, colours, fault, cause)?;
+    push_setter(alloc, into, colours, fault, cause.set_by.as_ref(), source)
+}
+
 /// The text for a fault, with a blank line at its end: its code, what that means and the detail; the place and the
-/// objects; and the line of the file with a mark below the column, where `source` has the bytes of the file.
+/// objects; the line of the file with a mark below the column, where `source` has the bytes of the file; and what is
+/// known of the value that it is about, or of the file that is not there: the value, what is wanted, the files that were
+/// looked for, and who set the value, with that line, where `set_in` has the bytes of the setter's file.
 ///
-/// A line of over `MAX_SHOWN_BYTES` bytes is not shown. In a line control characters are shown as blanks, but for tabs.
+/// A line of over `MAX_SHOWN_BYTES` bytes is not shown. In a line, a value and what is wanted control characters are shown
+/// as blanks, but for tabs.
 pub fn note_of(
     alloc: Global,
     colours: Colours,
     told: &Repeated,
     source: Option<&[u8]>,
+    cause: &Cause,
+    set_in: Option<&[u8]>,
 ) -> Result<Vec<u8>, AllocError>
     ensures { IfOk result (λ text. text.items
-        ≡ note_of colours told.now (option_map (λ s. s.now) source.entry)) }
+        ≡ note_of colours told.now (option_map (λ s. s.now) source.entry) cause.now
+        (option_map (λ s. s.now) set_in.entry)) }
 {
     let mut text = Vec::new(alloc);
     let fault = told.fault.as_slice();
     push_headline(&mut text, colours, fault)?;
     push_place_line(&mut text, colours, fault, told.objects.as_slice())?;
-    if let Some(source) = source {
-        push_source(alloc, &mut text, colours, fault, source)?;
-    }
+    push_excerpt_of(alloc, &mut text, colours, fault, source)?;
+    push_cause(alloc, &mut text, colours, fault, cause, set_in)?;
     text.extend_from_slice(b"\n")?;
     Ok(text)
 }

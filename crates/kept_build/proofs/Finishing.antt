@@ -89,7 +89,8 @@ module _ {T : Type 0} (M : Meanings T) (e : Compiled T) (w : Work) (ps : List (L
       (wants_of (profiles_of (answers_in (engine_for M w) t.engine))))
     where
       at : (p : Publication) → kept_behind w.directories (limits_of w) p
-          (reported (engine_for M w) (Done []) NotSaved t).engine ≡ kept_behind w.directories (limits_of w) p
+          (reported (engine_for M w) (Done []) NotSaved t).engine
+          ≡ kept_behind w.directories (limits_of w) p
           t.engine
       at (Done troubles) = refl
       at (TooManyRemovals removals) = refl

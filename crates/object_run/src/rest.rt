@@ -1,3 +1,6 @@
+ghost use Rattle.std.specs.Prelude.{◌≡◌};
+ghost use Rattle.type_defs.specs.BindingsSeen.{bindings_seen};
+
 use assign_rules::Globals;
 use dml_world::Functions;
 use pan_ast::{Change, Place};
@@ -38,4 +41,13 @@ impl Model for Rest {
       valids = map valid_seen r.valids.items;
       log = r.log.items;
     } };
+}
+
+impl Rest {
+    /// The types that the build binds to paths.
+    pub fn bindings(&self) -> &Bindings
+        ensures { bindings_seen result.now ≡ self.now.bindings }
+    {
+        &self.bindings
+    }
 }

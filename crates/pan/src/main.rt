@@ -4,6 +4,7 @@
 
 ghost use Rattle.std.specs.Prelude.{◌≡◌, ◌<◌};
 
+mod causes;
 mod notes;
 
 use crate::notes::{Told, write_notes};
@@ -52,7 +53,7 @@ fn run<L: Ledger>(rt: &HostRuntime, blank: Blank) -> Result<Status, AllocError>
     let keeper = HostKeeper::new(rt.clone()?);
     let HandedBack {
         status,
-        runner: _,
+        mut works,
         devices,
         keeper,
     } = pan(rt.alloc(), words, runner, devices, keeper, &mut steps);
@@ -62,7 +63,7 @@ fn run<L: Ledger>(rt: &HostRuntime, blank: Blank) -> Result<Status, AllocError>
         shelf: devices.shelf.trouble(),
         faults: devices.out.fault_lines(),
     };
-    write_notes(rt, status, &told, keeper.trouble());
+    write_notes(rt, status, &told, keeper.trouble(), &mut works, &mut steps);
     // What is not copied back stays in the log beside the file, which the next opening reads.
     let _ = keeper.close();
     Ok(status)

@@ -46,22 +46,35 @@ still shelf cell = ([], record { others = λ n other. refl; own = λ n closed. i
 
 pub nothing_done : {T : Type 0} (M : Meanings T) (command : Option Command) (s : Scene)
     (store : Store) → PlainCall M command S.Memory s s store
-nothing_done M None s store = record { only = refl; spent = refl; line = inr (inr refl, none_of (codes "usage fault\n") s.held); out_count = uncounted s.out_count }
+nothing_done M None s store =
+    record {
+      only = refl;
+      spent = refl;
+      line =
+          inr (inr refl, none_of (codes "usage fault\n") s.held);
+      out_count = uncounted s.out_count;
+    }
 nothing_done M (Some (Build w)) s store = record {
   session = inr (record {
     end = E.Memory;
     is = inl refl;
     names = [];
     listed = inl (refl, λ n. refl);
-    text = if_told (λ ps. Wrote (session_for M w [] ps).text E.Memory S.Memory s.held s.held) s.coming (λ ps told. (refl, none_of (session_for M w [] ps).text s.held));
-    shelf = if_told (λ ps. Stopped E.Memory (session_for M w [] ps).shelf s.cell s.cell) s.coming (λ ps told. still (session_for M w [] ps).shelf s.cell);
-    order = λ tells. if_told (λ ps. BegunOver (session_for M w [] ps).wants [] s.cell s.cell s.changes s.changes) s.coming (λ ps told. over_none (session_for M w [] ps).wants [] s.cell s.cell s.changes s.changes (λ n. refl) refl);
+    text = if_told (λ ps. Wrote (session_for M w [] ps).text E.Memory S.Memory s.held s.held)
+        s.coming (λ ps told. (refl, none_of (session_for M w [] ps).text s.held));
+    shelf = if_told (λ ps. Stopped E.Memory (session_for M w [] ps).shelf s.cell s.cell) s.coming
+        (λ ps told. still (session_for M w [] ps).shelf s.cell);
+    order = λ tells. if_told (λ ps. BegunOver (session_for M w [] ps).wants [] s.cell s.cell
+        s.changes s.changes) s.coming (λ ps told. over_none (session_for M w [] ps).wants [] s.cell
+        s.cell s.changes s.changes (λ n. refl) refl);
     spent = if_told _ s.coming (λ ps told. spent_nothing (state_for M w ps) s.spent);
     taken = inl refl;
     source_opened = inl refl;
     shelf_opened = inl refl;
-    source_count = counted_same (IsFailureOf D.Source E.Memory) s.source_count s.source_count refl (λ is. cc);
-    shelf_count = counted_same (IsFailureOf D.Shelf E.Memory) s.shelf_count s.shelf_count refl (λ is. cc);
+    source_count = counted_same (IsFailureOf D.Source E.Memory) s.source_count s.source_count refl
+        (λ is. cc);
+    shelf_count = counted_same (IsFailureOf D.Shelf E.Memory) s.shelf_count s.shelf_count refl
+        (λ is. cc);
     out_count = uncounted s.out_count;
   });
   lines = refl;
@@ -79,23 +92,43 @@ nothing_done M (Some (Watch w)) s store = inr (record {
   spent = refl;
   source_opened = inl refl;
   shelf_opened = inl refl;
-  source_count = counted_same (IsFailureOf D.Source E.Memory) s.source_count s.source_count refl (λ is. cc);
-  shelf_count = counted_same (IsFailureOf D.Shelf E.Memory) s.shelf_count s.shelf_count refl (λ is. cc);
+  source_count = counted_same (IsFailureOf D.Source E.Memory) s.source_count s.source_count refl
+      (λ is. cc);
+  shelf_count = counted_same (IsFailureOf D.Shelf E.Memory) s.shelf_count s.shelf_count refl
+      (λ is. cc);
   out_count = uncounted s.out_count;
 })
-nothing_done M (Some (Demo d)) s store = record { only = refl; shows = inr (inr refl, none_of (text_after (shown_by M d)) s.held, spent_nothing (state_in (shown_by M d)) s.spent); out_count = uncounted s.out_count }
+nothing_done M (Some (Demo d)) s store =
+    record {
+      only = refl;
+      shows =
+          inr (
+            inr refl,
+            none_of (text_after (shown_by M d)) s.held,
+            spent_nothing
+                (state_in (shown_by M d)) s.spent,
+          );
+      out_count = uncounted s.out_count;
+    }
 nothing_done M (Some (Format p)) s store = inr (record {
   end = E.Memory;
   is = inl refl;
-  text = if_told (λ ps. Wrote (formatting_for ps).text E.Memory S.Memory s.held s.held) s.coming (λ ps told. (refl, none_of (formatting_for ps).text s.held));
-  shelf = if_told (λ ps. formats.Stopped E.Memory (formatting_for ps).wants s.cell s.cell) s.coming (λ ps told. ([], record { each = λ n closed. inl refl }));
-  order = λ tells. if_told (λ ps. BeginsPuts (formatting_for ps).wants s.cell s.cell s.changes s.changes) s.coming (λ ps told. begun_none (formatting_for ps).wants (flat_map (putting s.cell) (formatting_for ps).wants) s.cell s.cell s.changes s.changes (λ n. refl) refl);
+  text = if_told (λ ps. Wrote (formatting_for ps).text E.Memory S.Memory s.held s.held) s.coming
+      (λ ps told. (refl, none_of (formatting_for ps).text s.held));
+  shelf = if_told (λ ps. formats.Stopped E.Memory (formatting_for ps).wants s.cell s.cell) s.coming
+      (λ ps told. ([], record { each = λ n closed. inl refl }));
+  order = λ tells. if_told (λ ps. BeginsPuts (formatting_for ps).wants s.cell s.cell s.changes
+      s.changes) s.coming (λ ps told. begun_none (formatting_for ps).wants
+      (flat_map (putting s.cell) (formatting_for ps).wants) s.cell s.cell s.changes s.changes
+      (λ n. refl) refl);
   spent = refl;
   taken = inl refl;
   source_opened = inl refl;
   shelf_opened = inl refl;
-  source_count = counted_same (IsFailureOf D.Source E.Memory) s.source_count s.source_count refl (λ is. cc);
-  shelf_count = counted_same (IsFailureOf D.Shelf E.Memory) s.shelf_count s.shelf_count refl (λ is. cc);
+  source_count = counted_same (IsFailureOf D.Source E.Memory) s.source_count s.source_count refl
+      (λ is. cc);
+  shelf_count = counted_same (IsFailureOf D.Shelf E.Memory) s.shelf_count s.shelf_count refl
+      (λ is. cc);
   out_count = uncounted s.out_count;
   lines = refl;
   lines_count = refl;

@@ -20,7 +20,7 @@ use Rattle.publication.specs.Listings.{Lists}
 use Rattle.row_changes.specs.Stores.{Store}
 use Rattle.stored_rows.specs.declared.row.StoredRow.{StoredRow}
 use Rattle.publication.specs.declared.publisher.Publisher.{Publisher}
-use Rattle.std.specs.List.Sorted.{IsSorted}
+use Rattle.std.specs.List.Sorted.{IsStrictlySortedBy}
 use Rattle.std.specs.Cmp.Lexicographic.{slice_cmp}
 use Rattle.std.specs.Ordering.{nat_cmp}
 use Rattle.rebuild.specs.Engines.{Meanings}
@@ -46,35 +46,68 @@ use Rattle.pan_top.specs.declared.status.Status.TheVariants as S
 use Rattle.pan_top.proofs.Counting.{counted_by, counted_same, not_out_after}
 
 -- what the source was opened at, by how the opening ended
-source_failed : (e : early.End) (folder : List ℕ) (old new : Option (List ℕ)) → IsEndOf OfSource e → new ≡ old → SourceAt e folder old new
+source_failed : (e : early.End) (folder : List ℕ) (old new : Option (List ℕ)) → IsEndOf OfSource e
+    → new ≡ old → SourceAt e folder old new
 source_failed E.Source folder old new kind same = same
 source_failed E.Shelf folder old new kind same = cc
 source_failed (E.Publishing m) folder old new kind same = cc
 source_failed E.Out folder old new kind same = cc
 source_failed E.Memory folder old new kind same = inl same
 
-shelf_failed : (e : early.End) (folder : List ℕ) (old new : Option (List ℕ)) → IsEndOf OfShelf e → new ≡ Some folder → SourceAt e folder old new
+shelf_failed : (e : early.End) (folder : List ℕ) (old new : Option (List ℕ)) → IsEndOf OfShelf e
+    → new ≡ Some folder → SourceAt e folder old new
 shelf_failed E.Source folder old new kind is = cc
 shelf_failed E.Shelf folder old new kind is = is
 shelf_failed (E.Publishing m) folder old new kind is = cc
 shelf_failed E.Out folder old new kind is = cc
 shelf_failed E.Memory folder old new kind is = inr is
 
-pub source_failed_at : {T : Type 0} (r : Result T early.End) (folder : List ℕ) (old new : Option (List ℕ)) → IfErr r (IsEndOf OfSource) → new ≡ old → IfErr r (λ e. SourceAt e folder old new)
+pub source_failed_at : {T : Type 0} (r : Result T early.End) (folder : List ℕ)
+    (old new : Option (List ℕ)) → IfErr r (IsEndOf OfSource) → new ≡ old
+    → IfErr r (λ e. SourceAt e folder old new)
 source_failed_at (Ok x) folder old new kind same = tt
 source_failed_at (Err e) folder old new kind same = source_failed e folder old new kind same
 
-pub shelf_failed_at : {T : Type 0} (r : Result T early.End) (folder : List ℕ) (old new : Option (List ℕ)) → IfErr r (IsEndOf OfShelf) → new ≡ Some folder → IfErr r (λ e. SourceAt e folder old new)
+pub shelf_failed_at : {T : Type 0} (r : Result T early.End) (folder : List ℕ)
+    (old new : Option (List ℕ)) → IfErr r (IsEndOf OfShelf) → new ≡ Some folder
+    → IfErr r (λ e. SourceAt e folder old new)
 shelf_failed_at (Ok x) folder old new kind is = tt
 shelf_failed_at (Err e) folder old new kind is = shelf_failed e folder old new kind is
 
 -- the devices tell the same, but for where they are open
-pub ready_scene : (w : Work) (before : Scene) (coming : Option (List (List MemFile))) (source out : Option (List ℕ)) (sources shelves : ℕ) (cell : List ℕ → Cell) (changes : Option (List Change)) (spent : Counts)
-    → coming ≡ before.coming → source ≡ Some w.source → sources ≡ before.source_count → AreSame before.cell cell → changes ≡ before.changes → out ≡ Some w.out → shelves ≡ before.shelf_count → spent ≡ before.spent
-    → record before { coming = coming; source_opened = source; source_count = sources; cell = cell; changes = changes; shelf_opened = out; shelf_count = shelves; spent = spent } ≡ record before { source_opened = Some w.source; shelf_opened = Some w.out }
-ready_scene w before coming source out sources shelves cell changes spent pictures at_source counted same kept at_out failed made =
+pub ready_scene : (w : Work) (before : Scene) (coming : Option (List (List MemFile)))
+    (source out : Option (List ℕ)) (sources shelves : ℕ) (cell : List ℕ → Cell)
+    (changes : Option (List Change)) (spent : Counts)
+    → coming ≡ before.coming → source ≡ Some w.source → sources ≡ before.source_count
+    → AreSame before.cell cell → changes ≡ before.changes → out ≡ Some w.out → shelves
+    ≡ before.shelf_count → spent ≡ before.spent
+    → record before {
+      coming = coming;
+      source_opened = source;
+      source_count = sources;
+      cell =
+          cell;
+      changes = changes;
+      shelf_opened = out;
+      shelf_count = shelves;
+      spent = spent;
+    }
+    ≡ record before { source_opened = Some w.source; shelf_opened = Some w.out }
+ready_scene w before coming source out sources shelves cell changes spent pictures at_source counted
+    same kept at_out failed made =
     let cells : cell ≡ before.cell = fun_ext same in
-    λ i. record before { coming = pictures i; source_opened = at_source i; source_count = counted i; cell = cells i; changes = kept i; shelf_opened = at_out i; shelf_count = failed i; spent = made i }
+    λ i. record before {
+      coming = pictures i;
+      source_opened = at_source i;
+      source_count =
+          counted i;
+      cell = cells i;
+      changes = kept i;
+      shelf_opened = at_out i;
+      shelf_count =
+          failed i;
+      spent = made i;
+    }
 
 module _ {T : Type 0} (M : Meanings T) (ready : Type 0) (first last : Holds T) (status : Status)
     (before after : Scene) (store store_now : Store)
@@ -146,7 +179,8 @@ played_where M P Q where_so first status before after store store_now a = record
   out_count = a.out_count;
 }
 
-module _ {T : Type 0} (M : Meanings T) (w : Work) (ready sound : Type 0) (sound_ready : sound → ready)
+module _ {T : Type 0} (M : Meanings T) (w : Work) (ready sound : Type 0)
+    (sound_ready : sound → ready)
     (first : Holds T) (e : Compiled T) (names : List (List ℕ))
     (is : IsIn w.directories (limits_of w) first.core e) (fresh : first.has_taken ≡ false)
     (has : HasNames first.publisher names) (mid after : Scene) (store store_now : Store)
@@ -273,8 +307,23 @@ pub memory_wrote : (held : Option (List ℕ)) → Wrote [] E.Memory S.Memory hel
 memory_wrote held = (refl, none_of [] held)
 
 -- the names that were listed, as the shelf told them before
-pub listed_before : (publisher : Publisher) (names : List (List ℕ)) (old mid : List ℕ → Cell) → AreSame old mid → Lists names mid → IsSorted (slice_cmp nat_cmp) names → HasNames publisher names → HasListed publisher old
-listed_before publisher names old mid same lists sorted has = record { names = names; listed = record { lists = λ n. rw (same n) at (lists n); sorted = sorted }; has = has }
+pub listed_before : (publisher : Publisher) (names : List (List ℕ)) (old mid : List ℕ → Cell)
+    → AreSame old mid → Lists names mid → IsStrictlySortedBy (slice_cmp nat_cmp) names
+    → HasNames publisher names → HasListed publisher old
+listed_before publisher names old mid same lists sorted has =
+    record {
+      names = names;
+      listed =
+          record { lists = λ n. rw (same n) at (lists n); sorted = sorted };
+      has = has;
+    }
 
-pub listed_after : (publisher : Publisher) (old mid : List ℕ → Cell) → AreSame old mid → HasListed publisher old → HasListed publisher mid
-listed_after publisher old mid same h = record { names = h.names; listed = record { lists = λ n. rw (same n) (h.listed.lists n); sorted = h.listed.sorted }; has = h.has }
+pub listed_after : (publisher : Publisher) (old mid : List ℕ → Cell) → AreSame old mid
+    → HasListed publisher old → HasListed publisher mid
+listed_after publisher old mid same h =
+    record {
+      names = h.names;
+      listed =
+          record { lists = λ n. rw (same n) (h.listed.lists n); sorted = h.listed.sorted };
+      has = h.has;
+    }

@@ -7,7 +7,14 @@ ghost use Rattle.kept_build.specs.Kept.{IsSoundStart};
 ghost use Rattle.kept_build.specs.Stores.{store_of};
 ghost use Rattle.kept_state.specs.Stored.{Stored};
 ghost use Rattle.record_rows.specs.Rows.{Give};
+ghost use Rattle.blamed_works.specs.Profiles.{TellsProfiles};
+ghost use Rattle.compiler.specs.Rounds.{HasRounds};
 ghost use Rattle.compiler.specs.Untouched.{LeavesRest};
+ghost use Rattle.engine_laws.specs.Circles.{AreCircles};
+ghost use Rattle.engine_laws.specs.Names.{Name};
+ghost use Rattle.engine_machine.specs.Machine.{runner_of};
+ghost use Rattle.engine_machine.specs.Pictures.{picture_in};
+ghost use Rattle.load_path.specs.declared.picture.PictureFile.{PictureFile};
 ghost use Rattle.pan_ast.specs.declared.work.Limits.{Limits};
 ghost use Rattle.site_build.specs.Scenes.{scene};
 ghost use Rattle.pan_top.specs.Calls.{CallOf};
@@ -44,7 +51,7 @@ fn carry_out_build<R: Runner, S: Source, H: Shelf, K: Keeper, N: Lines, O: Sink,
 ) -> HandedBack<R, S, H, K, N, O>
     ensures { CallOf R.meaning (Some (Build work.now)) result.status
         (scene R.Runner S.Source H.Shelf N.Lines O.Sink works.runner devices steps.old)
-        (scene R.Runner S.Source H.Shelf N.Lines O.Sink result.runner result.devices steps.new)
+        (scene R.Runner S.Source H.Shelf N.Lines O.Sink result.works.runner result.devices steps.new)
         (store_of K.Keeper keeper) (store_of K.Keeper result.keeper) }
 {
     let mut works = works;
@@ -73,7 +80,7 @@ fn carry_out<R: Runner, S: Source, H: Shelf, K: Keeper, N: Lines, O: Sink, L: Le
 ) -> HandedBack<R, S, H, K, N, O>
     ensures { CallOf R.meaning (command_of words.now) result.status
         (scene R.Runner S.Source H.Shelf N.Lines O.Sink runner devices steps.old)
-        (scene R.Runner S.Source H.Shelf N.Lines O.Sink result.runner result.devices steps.new)
+        (scene R.Runner S.Source H.Shelf N.Lines O.Sink result.works.runner result.devices steps.new)
         (store_of K.Keeper keeper) (store_of K.Keeper result.keeper) }
 {
     let mut works = new_works(alloc, runner);
@@ -106,15 +113,18 @@ fn carry_out<R: Runner, S: Source, H: Shelf, K: Keeper, N: Lines, O: Sink, L: Le
 /// wants it. What the call writes, what it leaves on the shelf and its status are those of the words' session with the
 /// pictures that the source has to give, by what the runner means; a fault of a device, and want of memory, end it early.
 /// Each profile keeps what the runner's checks promise (`profiles`), and an edit of one file changes no answer but those
-/// of the objects that a watcher's `impact` names (`edits`). A layout keeps the template, its comments and its annotations
-/// (`layouts`), and has itself as its layout (`settled`).
+/// of the objects that a watcher's `impact` names (`edits`). The leaves that its `blame` tells are those of the profile
+/// (`leaves`). What a round runs is what had changed, and its turns cost at most what the records and those runs may cost
+/// (`rounds`). An object is circular exactly where its chain of reads never ends (`circles`). A layout keeps the template,
+/// its comments and its annotations (`layouts`), and has itself as its layout (`settled`).
 ///
 /// Where the words name a file of rows, the keeper is opened there: a build and a watcher go on from the rows of an
 /// earlier run, and keep their own behind each publication. What is said of them stands on the rows at the beginning being
 /// sound, as those are that a build has kept, and as none are (`unkept`); no other command does anything with the keeper.
 ///
-/// The runner, the devices and the keeper are handed back with the status. `steps` rises by the session's steps: one for each file that is taken, for each item that is compared, and the work of
-/// each run.
+/// The devices and the keeper are handed back with the status, and so is the runner, with the engine that it ended with.
+/// `steps` rises by the session's steps: one for each file that is taken, for each item that is compared, and the work
+/// of each run.
 pub fn pan<R: Runner, S: Source, H: Shelf, K: Keeper, N: Lines, O: Sink, L: Ledger>(
     alloc: Global,
     words: &[Text],
@@ -125,13 +135,20 @@ pub fn pan<R: Runner, S: Source, H: Shelf, K: Keeper, N: Lines, O: Sink, L: Ledg
 ) -> HandedBack<R, S, H, K, N, O>
     ensures call { CallOf R.meaning (command_of words.now) result.status
         (scene R.Runner S.Source H.Shelf N.Lines O.Sink runner devices steps.old)
-        (scene R.Runner S.Source H.Shelf N.Lines O.Sink result.runner result.devices steps.new)
+        (scene R.Runner S.Source H.Shelf N.Lines O.Sink result.works.runner result.devices steps.new)
         (store_of K.Keeper keeper) (store_of K.Keeper result.keeper) }
     ensures unkept { (work : Work) (found : Stored) → Give [] found
         → IsSoundStart R.meaning work found }
     ensures profiles { AreKept R.meaning R.promises }
     ensures edits { (dirs : List (List ℕ)) (limits : Limits) → length dirs ≤ MAX_WORK
         → LeavesRest (R.meaning dirs limits) dirs }
+    ensures leaves { (dirs : List (List ℕ)) (limits : Limits)
+        → TellsProfiles (R.meaning dirs limits) }
+    ensures rounds { (dirs : List (List ℕ)) (limits : Limits)
+        → HasRounds (R.meaning dirs limits) dirs }
+    ensures circles { (dirs : List (List ℕ)) (limits : Limits) (files : List PictureFile)
+        (objects : List Name) → AreCircles (runner_of (R.meaning dirs limits).build)
+        (picture_in files objects) }
     ensures layouts { LayoutsKeep }
     ensures settled { LayoutsSettle }
 {

@@ -146,7 +146,7 @@ fn play_all<R: Runner, S: Source, H: Shelf, K: Keeper, N: Lines, O: Sink, L: Led
     })
         result.status
         (scene R.Runner S.Source H.Shelf N.Lines O.Sink works.runner devices.devices steps.old)
-        (scene R.Runner S.Source H.Shelf N.Lines O.Sink result.runner result.devices steps.new)
+        (scene R.Runner S.Source H.Shelf N.Lines O.Sink result.works.runner result.devices steps.new)
         (store_of K.Keeper devices.keeper) (store_of K.Keeper result.keeper) }
 {
     let KeptDevices { devices, keeper } = devices;
@@ -180,7 +180,7 @@ fn leave<R: Runner, S: Source, H: Shelf, K: Keeper, N: Lines, O: Sink>(
     out: O,
 ) -> HandedBack<R, S, H, K, N, O>
     ensures status { result.status ≡ status }
-    ensures runner { result.runner ≡ site.works.runner }
+    ensures works { result.works ≡ site.works }
     ensures devices { result.devices ≡ record {
       source = site.source;
       shelf = site.shelf;
@@ -219,7 +219,7 @@ fn watch_unkept<R: Runner, S: Source, H: Shelf, K: Keeper, N: Lines, O: Sink, L:
 ) -> HandedBack<R, S, H, K, N, O>
     ensures call { WatchCall R.meaning work.now result.status
         (scene R.Runner S.Source H.Shelf N.Lines O.Sink works.runner devices steps.old)
-        (scene R.Runner S.Source H.Shelf N.Lines O.Sink result.runner result.devices steps.new)
+        (scene R.Runner S.Source H.Shelf N.Lines O.Sink result.works.runner result.devices steps.new)
         (store_of K.Keeper keeper) }
     ensures store { store_of K.Keeper result.keeper ≡ store_of K.Keeper keeper }
 {
@@ -278,7 +278,7 @@ fn watch_kept<R: Runner, S: Source, H: Shelf, K: Keeper, N: Lines, O: Sink, L: L
 ) -> HandedBack<R, S, H, K, N, O>
     ensures { KeptWatchCall R.meaning request.now.work.now request.now.file.now result.status
         (scene R.Runner S.Source H.Shelf N.Lines O.Sink works.runner devices.devices steps.old)
-        (scene R.Runner S.Source H.Shelf N.Lines O.Sink result.runner result.devices steps.new)
+        (scene R.Runner S.Source H.Shelf N.Lines O.Sink result.works.runner result.devices steps.new)
         (store_of K.Keeper devices.keeper) (store_of K.Keeper result.keeper) }
 {
     let mut works = works;
@@ -310,7 +310,7 @@ pub fn watch<R: Runner, S: Source, H: Shelf, K: Keeper, N: Lines, O: Sink, L: Le
 ) -> HandedBack<R, S, H, K, N, O>
     ensures { CallOf R.meaning (Some (Watch work.now)) result.status
         (scene R.Runner S.Source H.Shelf N.Lines O.Sink works.runner devices steps.old)
-        (scene R.Runner S.Source H.Shelf N.Lines O.Sink result.runner result.devices steps.new)
+        (scene R.Runner S.Source H.Shelf N.Lines O.Sink result.works.runner result.devices steps.new)
         (store_of K.Keeper keeper) (store_of K.Keeper result.keeper) }
 {
     let Some(file) = &work.state else {

@@ -14,7 +14,12 @@ use Rattle.publication.specs.Wants.{wants_of, goes}
 use Rattle.publication.proofs.Logging.{goes_exactly}
 
 -- names that go, and the answer to so many
-pub bounded : (p : Publisher) (profiles : List Profile) (gone : List (List ℕ)) (answer : Publication) → list_all (goes (wants_of profiles)) gone ≡ true → Covers gone (wants_of profiles) p → ((n : List ℕ) → list_any (λ m. bytes_eq m n) gone ≡ true → may_stand_in p n ≡ true) → IsSorted (slice_cmp nat_cmp) gone → IsDistinct bytes_eq gone → IsAnswer p.most (length gone) answer → Bounded p.most (wants_of profiles) (may_stand_in p) answer
+pub bounded : (p : Publisher) (profiles : List Profile) (gone : List (List ℕ))
+    (answer : Publication) → list_all (goes (wants_of profiles)) gone ≡ true
+    → Covers gone (wants_of profiles) p → ((n : List ℕ) → list_any (λ m. bytes_eq m n) gone
+    ≡ true → may_stand_in p n ≡ true) → IsSorted (slice_cmp nat_cmp) gone → IsDistinct bytes_eq gone
+    → IsAnswer p.most (length gone) answer → Bounded p.most (wants_of profiles) (may_stand_in p)
+    answer
 bounded p profiles gone answer going covers known sorted once is = record {
   gone = gone;
   sorted = sorted;

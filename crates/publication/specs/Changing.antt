@@ -1,7 +1,7 @@
 -- A publication as a list of changes of the shelf, which are made one after the other.
 use Rattle.std.specs.Prelude.{◌≡◌, ℕ, Bool, true, false, List, [], ◌∷◌, ◌++◌, Option, Some, None, is_some, option_map, flat_map, bytes_eq, if◌then◌else◌}
 use Rattle.std.specs.List.{list_any}
-use Rattle.std.specs.List.Sorted.{IsSorted}
+use Rattle.std.specs.List.Sorted.{IsStrictlySortedBy}
 use Rattle.std.specs.Cmp.Lexicographic.{slice_cmp}
 use Rattle.std.specs.Ordering.{nat_cmp}
 use Rattle.outside.specs.Cells.{Cell, AreSame, with_content}
@@ -70,10 +70,10 @@ pub record Begun (ws : List Want) (plan : List Change) (old new : List ℕ
 abbrev pub Tells : (List ℕ → Cell) → Type 0
 Tells cell = (n : List ℕ) → is_some (cell n) ≡ true
 
--- the names are all those on the shelf, in byte order
+-- the names are all those on the shelf, each once, in byte order
 pub record AreListed (names : List (List ℕ)) (cell : List ℕ → Cell) : Type 0 where
   pub lists : Lists names cell
-  pub sorted : IsSorted (slice_cmp nat_cmp) names
+  pub sorted : IsStrictlySortedBy (slice_cmp nat_cmp) names
 
 -- a publication over these names was made
 abbrev pub Makes : List Want → List (List ℕ) → (List ℕ → Cell) → (List ℕ → Cell)

@@ -33,7 +33,17 @@ ready_is c e =
     let g = both (none_before is_unchecked c.first_check c.rows.items) _ f.1 in
     let h = both (are_graded c.rows.items) _ g.1 in
     let i = both (is_chain c.chain) _ h.1 in
-    record { three = leb-true 3 c.counter a.0; rising = b.0; files = d.0; builds = f.0; checks = g.0; graded = h.0; chain = i.0; known = i.1 }
+    record {
+      three = leb-true 3 c.counter a.0;
+      rising = b.0;
+      files = d.0;
+      builds = f.0;
+      checks =
+          g.0;
+      graded = h.0;
+      chain = i.0;
+      known = i.1;
+    }
 
 pub is_ready_of : {T : Type 0} → (c : Core T) → IsReady c → is_ready c ≡ true
 is_ready_of c r =
@@ -42,9 +52,11 @@ is_ready_of c r =
     (both_true (are_rising (file_names c.files.items)) _ r.files
     (both_true (none_before is_open c.first_build c.rows.items) _ r.builds
     (both_true (none_before is_unchecked c.first_check c.rows.items) _ r.checks
-    (both_true (are_graded c.rows.items) _ r.graded (both_true (is_chain c.chain) _ r.chain r.known))))))
+    (both_true (are_graded c.rows.items) _ r.graded
+    (both_true (is_chain c.chain) _ r.chain r.known))))))
 
-pub same_count : {T : Type 0} → (c n : Core T) → names n.rows.items ≡ names c.rows.items → length n.rows.items ≡ length c.rows.items
+pub same_count : {T : Type 0} → (c n : Core T) → names n.rows.items ≡ names c.rows.items
+    → length n.rows.items ≡ length c.rows.items
 same_count c n e = sym (names_length n.rows.items) ∙ ap length e ∙ names_length c.rows.items
 
 -- what holds of the engine after a turn, refused or not
@@ -53,7 +65,9 @@ pub record AfterTurn {T : Type 0} (n : Core T) : Type 0 where
   pub low : n.counter ≤ END_OF_NUMBERS
   pub few : length n.rows.items ≤ MAX_OBJECTS
 
-pub turn_facts : {T A : Type 0} → (c n : Core T) (r : Result A TurnError) → OnOk r (StaysReady c n) → OnErr r (n ≡ c) → is_ready c ≡ true → c.counter ≤ END_OF_NUMBERS → length c.rows.items ≤ MAX_OBJECTS → AfterTurn n
+pub turn_facts : {T A : Type 0} → (c n : Core T) (r : Result A TurnError) → OnOk r (StaysReady c n)
+    → OnErr r (n ≡ c) → is_ready c ≡ true → c.counter ≤ END_OF_NUMBERS
+    → length c.rows.items ≤ MAX_OBJECTS → AfterTurn n
 turn_facts c n (Ok t) stays before ready low few = record {
   ready = is_ready_of n stays.ready;
   low = stays.low low;
@@ -66,33 +80,50 @@ turn_facts c n (Err e) stays before ready low few = record {
 }
 
 module _ {T : Type 0} (m : Meanings T) where
-  pub turn_situation : (c n : Core T) (dirs : List (List ℕ)) → dirs ≡ c.dirs → core_state n ≡ turned (m dirs c.limits).build (m dirs c.limits).check c → StaysReady c n → situation_of n ≡ after_turn m (value_of c)
+  pub turn_situation : (c n : Core T) (dirs : List (List ℕ)) → dirs ≡ c.dirs → core_state n
+      ≡ turned (m dirs c.limits).build (m dirs c.limits).check c → StaysReady c n → situation_of n
+      ≡ after_turn m (value_of c)
   turn_situation c n dirs same state stays i = record {
     picture = picture_of (stays.files i) (stays.objects i);
     state = (state ∙ ap (λ d. turned (m d c.limits).build (m d c.limits).check c) same) i;
   }
 
-  -- the work of the turn, and the counter to which it would lead, of a runner with the engine's directories
-  pub work_is : (c : Core T) (dirs : List (List ℕ)) → dirs ≡ c.dirs → core_work (m dirs c.limits) c ≡ turn_work_of m (value_of c)
+  -- the work of the turn, and the counter to which it would lead, of a runner with the engine's
+  -- directories
+  pub work_is : (c : Core T) (dirs : List (List ℕ)) → dirs ≡ c.dirs → core_work (m dirs c.limits) c
+      ≡ turn_work_of m (value_of c)
   work_is c dirs same = ap (λ d. core_work (m d c.limits) c) same
 
-  pub refused_by : (c : Core T) (dirs : List (List ℕ)) → dirs ≡ c.dirs → (e : TurnError) → IsTurnRefused e (turned (m dirs c.limits).build (m dirs c.limits).check c).counter → IsTurnRefused e (after_turn m (value_of c)).state.counter
-  refused_by c dirs same e = subst (IsTurnRefused e) (ap (λ d. (turned (m d c.limits).build (m d c.limits).check c).counter) same)
+  pub refused_by : (c : Core T) (dirs : List (List ℕ)) → dirs ≡ c.dirs → (e : TurnError)
+      → IsTurnRefused e (turned (m dirs c.limits).build (m dirs c.limits).check c).counter
+      → IsTurnRefused e (after_turn m (value_of c)).state.counter
+  refused_by c dirs same e =
+      subst (IsTurnRefused e) (ap
+      (λ d. (turned (m d c.limits).build (m d c.limits).check c).counter) same)
 
-  pub engine_after : (c n : Core T) → StaysReady c n → situation_of n ≡ after_turn m (value_of c) → IsEngine m (value_of c) → IsEngine m (value_of n)
+  pub engine_after : (c n : Core T) → StaysReady c n → situation_of n ≡ after_turn m (value_of c)
+      → IsEngine m (value_of c) → IsEngine m (value_of n)
   engine_after c n stays is e =
-      let next = leads_on (runner_of (m c.dirs c.limits).build) keeping (judge_of (m c.dirs c.limits).check) (situation_of c) e Turn tt in
-      let P : Limits → List (List ℕ) → EngineSituation T → Type 0 = λ l d x. IsReached (runner_of (m d l).build) keeping (judge_of (m d l).check) x in
-      subst (λ l. P l n.dirs (situation_of n)) (sym stays.limits) (subst (λ d. P c.limits d (situation_of n)) (sym stays.dirs) (subst (P c.limits c.dirs) (sym is) next))
+      let next = leads_on (runner_of (m c.dirs c.limits).build) keeping
+      (judge_of (m c.dirs c.limits).check) (situation_of c) e Turn tt in
+      let P : Limits → List (List ℕ) → EngineSituation T → Type 0 =
+      λ l d x. IsReached (runner_of (m d l).build) keeping (judge_of (m d l).check) x in
+      subst (λ l. P l n.dirs (situation_of n)) (sym stays.limits)
+      (subst (λ d. P c.limits d (situation_of n)) (sym stays.dirs)
+      (subst (P c.limits c.dirs) (sym is) next))
 
   pub true_of : (e : _) → ∥ IsEngine m e ∥₁ → ∥ IsTrue m e ∥₁
-  true_of e kept = ∥∥₁_map kept (λ r. reached_scratch (runner_of (m e.dirs e.limits).build) keeping (judge_of (m e.dirs e.limits).check) e.situation r)
+  true_of e kept = ∥∥₁_map kept (λ r. reached_scratch (runner_of (m e.dirs e.limits).build) keeping
+      (judge_of (m e.dirs e.limits).check) e.situation r)
 
   pub kept_of : (e : _) → ∥ IsEngine m e ∥₁ → ∥ AreKept m e ∥₁
-  kept_of e kept = ∥∥₁_map kept (λ r. kept_numbers (runner_of (m e.dirs e.limits).build) keeping (judge_of (m e.dirs e.limits).check) e.situation r)
+  kept_of e kept = ∥∥₁_map kept (λ r. kept_numbers (runner_of (m e.dirs e.limits).build) keeping
+      (judge_of (m e.dirs e.limits).check) e.situation r)
 
   pub spared_of : (e : _) → ∥ IsEngine m e ∥₁ → ∥ AreSpared m e ∥₁
   spared_of e kept = ∥∥₁_map kept (λ r o i off. record {
-    narrowed = narrowed (runner_of (m e.dirs e.limits).build) keeping (judge_of (m e.dirs e.limits).check) e.situation r o i off;
-    left = left_alone (runner_of (m e.dirs e.limits).build) keeping (judge_of (m e.dirs e.limits).check) e.situation r o i off;
+    narrowed = narrowed (runner_of (m e.dirs e.limits).build) keeping
+        (judge_of (m e.dirs e.limits).check) e.situation r o i off;
+    left = left_alone (runner_of (m e.dirs e.limits).build) keeping
+        (judge_of (m e.dirs e.limits).check) e.situation r o i off;
   })

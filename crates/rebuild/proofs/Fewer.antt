@@ -42,15 +42,19 @@ not_true false e = refl
 pub once_is : (xs : List Name) → are_once xs ≡ true → IsOnce xs
 once_is [] once = tt
 once_is (x ∷ xs) once =
-    let two = both (not (is_among x xs)) (are_once xs) once in
-    (λ i. let clash : true ≡ false = sym (in_among x xs i) ∙ not_true _ two.0 in cc, once_is xs two.1)
+    let two = both (not (is_among x xs)) (are_once xs) once in (
+      λ i. let clash : true ≡ false = sym (in_among x xs i) ∙ not_true _ two.0 in
+          cc,
+      once_is xs two.1,
+    )
 
 builds_count : (ps : List Part) → are_builds ps ≡ true → length ps ≡ length (chain_of ps)
 builds_count [] e = refl
 builds_count (part.Build p ∷ ps) e = ap suc (builds_count ps e)
 builds_count (part.Check p ∷ ps) e = absurd (let clash : false ≡ true = e in cc)
 
-pub parts_count : (ps : List Part) → is_chain ps ≡ true → length ps ≡ length (chain_of ps) + if_checking (checking_of ps)
+pub parts_count : (ps : List Part) → is_chain ps ≡ true → length ps
+    ≡ length (chain_of ps) + if_checking (checking_of ps)
 parts_count [] e = refl
 parts_count (part.Build p ∷ ps) e = let n = builds_count ps e in omega (arith, n)
 parts_count (part.Check p ∷ []) e = refl
@@ -65,7 +69,9 @@ idle_is : (before after : ℕ) → after ≡ before → turned_by before after �
 idle_is before after e =
     let less = le-ltb after before (omega (arith, e)) in
     let same = eq-eqb after before e in
-    ap (λ b. cond b Settled (cond (nat_eq after before) Idle (cond (nat_eq before 0) Opened Demanded))) less ∙ ap (λ b. cond b Idle (cond (nat_eq before 0) Opened Demanded)) same
+    ap (λ b. cond b Settled (cond (nat_eq after before) Idle
+    (cond (nat_eq before 0) Opened Demanded))) less
+    ∙ ap (λ b. cond b Idle (cond (nat_eq before 0) Opened Demanded)) same
 
 is_idle : (before after : ℕ) → turned_by before after ≡ Idle → after ≡ before
 is_idle before after e = at (nat_lt after before) (nat_eq after before) refl e
@@ -74,30 +80,43 @@ is_idle before after e = at (nat_lt after before) (nat_eq after before) refl e
     at_last true e = let clash : Opened ≡ Idle = e in cc
     at_last false e = let clash : Demanded ≡ Idle = e in cc
 
-    at : (b d : Bool) → nat_eq after before ≡ d → cond b Settled (cond d Idle (cond (nat_eq before 0) Opened Demanded)) ≡ Idle → after ≡ before
+    at : (b d : Bool) → nat_eq after before ≡ d → cond b Settled
+        (cond d Idle (cond (nat_eq before 0) Opened Demanded)) ≡ Idle → after ≡ before
     at true d same e = absurd (let clash : Settled ≡ Idle = e in cc)
     at false true same e = eqb-true after before same
     at false false same e = absurd (at_last (nat_eq before 0) e)
 
-module _ {T : Type 0} (m : Meanings T) (lawful : (dirs : List (List ℕ)) (limits : Limits) → IsLawful (m dirs limits)) (c : Core T) (ready : IsReady c) where
-  pub counts : (e : IsEngine m (value_of c)) → IsCounted (runner_of (m c.dirs c.limits).build) keeping (judge_of (m c.dirs c.limits).check) (situation_of c)
+module _ {T : Type 0} (m : Meanings T) (lawful : (dirs : List (List ℕ)) (limits : Limits) → IsLawful
+    (m dirs limits)) (c : Core T) (ready : IsReady c) where
+  pub counts : (e : IsEngine m (value_of c)) → IsCounted (runner_of (m c.dirs c.limits).build)
+      keeping (judge_of (m c.dirs c.limits).check) (situation_of c)
   counts e =
-      let soon = ends_soon (m c.dirs c.limits) (lawful c.dirs c.limits) (pictured c.files.items) (names c.rows.items) (once_is (names c.rows.items) (rising_once (names c.rows.items) ready.rising)) in
-      counted (runner_of (m c.dirs c.limits).build) keeping (judge_of (m c.dirs c.limits).check) (situation_of c) e soon
+      let soon = ends_soon (m c.dirs c.limits) (lawful c.dirs c.limits) (pictured c.files.items)
+      (names c.rows.items) (once_is (names c.rows.items)
+      (rising_once (names c.rows.items) ready.rising)) in
+      counted (runner_of (m c.dirs c.limits).build) keeping (judge_of (m c.dirs c.limits).check)
+      (situation_of c) e soon
 
-  moved : IsEngine m (value_of c) → turns_left (names c.rows.items) (after_turn m (value_of c)).state ≡ turns_left_of c - 1
-  moved e = one_less _ _ (⊎_elim inl (λ same. inr (ap (turns_left (names c.rows.items)) same.0, same.1)) (counts e).one_fewer)
+  moved : IsEngine m (value_of c) → turns_left (names c.rows.items)
+      (after_turn m (value_of c)).state ≡ turns_left_of c - 1
+  moved e = one_less _ _ (⊎_elim inl (λ same. inr
+      (ap (turns_left (names c.rows.items)) same.0, same.1)) (counts e).one_fewer)
 
-  pub fewer : (n : Core T) → StaysReady c n → situation_of n ≡ after_turn m (value_of c) → ∥ IsEngine m (value_of c) ∥₁ → turns_left_of n ≡ turns_left_of c - 1
+  pub fewer : (n : Core T) → StaysReady c n → situation_of n ≡ after_turn m (value_of c)
+      → ∥ IsEngine m (value_of c) ∥₁ → turns_left_of n ≡ turns_left_of c - 1
   fewer n stays is kept =
       ap (λ ns. turns_left ns (core_state n)) stays.objects
       ∙ ap (λ x. turns_left (names c.rows.items) x.state) is
       ∙ ∥∥₁_elim kept (ℕ_set _ _) moved
 
   -- the idle turn is the one where no turn is left
-  pub idles : (n : Core T) → situation_of n ≡ after_turn m (value_of c) → ∥ IsEngine m (value_of c) ∥₁ → (turned_by (parts_of c) (parts_of n) ≡ Idle) ↔ (turns_left_of c ≡ 0)
+  pub idles : (n : Core T) → situation_of n ≡ after_turn m (value_of c)
+      → ∥ IsEngine m (value_of c) ∥₁ → (turned_by (parts_of c) (parts_of n) ≡ Idle)
+      ↔ (turns_left_of c ≡ 0)
   idles n is kept =
       let parts = ap (λ x. on_chain x.state) is in (
-        λ idle. ∥∥₁_elim kept (ℕ_set _ _) (λ e. (counts e).idle.0 (sym parts ∙ is_idle (parts_of c) (parts_of n) idle)),
-        λ none. idle_is (parts_of c) (parts_of n) (∥∥₁_elim kept (ℕ_set _ _) (λ e. parts ∙ (counts e).idle.1 none)),
+        λ idle. ∥∥₁_elim kept (ℕ_set _ _) (λ e. (counts e).idle.0
+            (sym parts ∙ is_idle (parts_of c) (parts_of n) idle)),
+        λ none. idle_is (parts_of c) (parts_of n) (∥∥₁_elim kept (ℕ_set _ _)
+            (λ e. parts ∙ (counts e).idle.1 none)),
       )

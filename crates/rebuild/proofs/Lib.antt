@@ -19,3 +19,4 @@ pub mod Answering
 pub mod Fewer
 pub mod Forgetting
 pub mod Sound
+pub mod RoundLaws

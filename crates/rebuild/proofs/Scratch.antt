@@ -31,7 +31,8 @@ module _ {T : Type 0} (c : Core T) (p : Name) where
   pub row_answers : answer_found (row_in p c.rows.items) ≡ answer_at (situation_of c) p
   row_answers = at (row_in p c.rows.items) refl
     where
-      at : (x : Option (Row T)) → row_in p c.rows.items ≡ x → answer_found x ≡ answer_at (situation_of c) p
+      at : (x : Option (Row T)) → row_in p c.rows.items ≡ x → answer_found x
+          ≡ answer_at (situation_of c) p
       at None e = rw (no_row p c.rows.items e) refl
       at (Some r) e = rw (some_row p c.rows.items r e) (rw e refl)
 
@@ -54,34 +55,63 @@ verdict_seen : (t : Plain) (f : Verdict) → by_verdict t f ≡ settled (kept_by
 verdict_seen t None = refl
 verdict_seen t (Some f) = refl
 
-module _ {T : Type 0} (m : Meanings T) (lawful : (dirs : List (List ℕ)) (limits : Limits) → IsLawful (m dirs limits)) (c : Core T) (ready : IsReady c) where
+module _ {T : Type 0} (m : Meanings T) (lawful : (dirs : List (List ℕ)) (limits : Limits) → IsLawful
+    (m dirs limits)) (c : Core T) (ready : IsReady c) where
   abbrev means : Meaning T
   means = m c.dirs c.limits
 
-  settled_is : IsEngine m (value_of c) → (p : Name) → IsIn p (names c.rows.items) → (core_state c).open_build p ≡ false → (core_state c).open_check p ≡ false → by_last ((core_state c).last p) ((core_state c).checked p) ≡ settled (checked_end means (pictured c.files.items) (names c.rows.items) (built_end means (pictured c.files.items) (names c.rows.items) p))
-  settled_is e p i builds checks = ap (λ l. by_last l ((core_state c).checked p)) ((reached_scratch (runner_of means.build) keeping (judge_of means.check) (situation_of c) e).builds p i builds).1 ∙ at (built_end means (pictured c.files.items) (names c.rows.items) p) refl
+  settled_is : IsEngine m (value_of c) → (p : Name) → IsIn p (names c.rows.items)
+      → (core_state c).open_build p ≡ false → (core_state c).open_check p ≡ false
+      → by_last ((core_state c).last p) ((core_state c).checked p)
+      ≡ settled (checked_end means (pictured c.files.items) (names c.rows.items)
+      (built_end means (pictured c.files.items) (names c.rows.items) p))
+  settled_is e p i builds checks =
+      ap (λ l. by_last l ((core_state c).checked p))
+      ((reached_scratch (runner_of means.build) keeping (judge_of means.check) (situation_of c)
+      e).builds p i builds).1 ∙ at (built_end means (pictured c.files.items) (names c.rows.items) p)
+      refl
     where
-      at : (r : End T) → built_end means (pictured c.files.items) (names c.rows.items) p ≡ r → by_result (keep r) ((core_state c).checked p) ≡ settled (checked_end means (pictured c.files.items) (names c.rows.items) r)
+      at : (r : End T) → built_end means (pictured c.files.items) (names c.rows.items) p ≡ r
+          → by_result (keep r) ((core_state c).checked p)
+          ≡ settled (checked_end means (pictured c.files.items) (names c.rows.items) r)
       at (Err f) is = refl
       at (Ok b) is =
-          let soon = ends_soon means (lawful c.dirs c.limits) (pictured c.files.items) (names c.rows.items) (once_is (names c.rows.items) (rising_once (names c.rows.items) ready.rising)) in
-          let v = verdicts (runner_of means.build) keeping (judge_of means.check) (situation_of c) e soon p i checks (ap (λ r. grade (keep r)) is) in
-          let of : End T → Verdict = verdict (runner_of means.build) (judge_of means.check) (core_picture c) in
-          ap (by_check b.tree) (v.1 ∙ ap (λ r. Some (v.0, of r)) is) ∙ verdict_seen b.tree (of (Ok b))
+          let soon = ends_soon means (lawful c.dirs c.limits) (pictured c.files.items)
+          (names c.rows.items) (once_is (names c.rows.items)
+          (rising_once (names c.rows.items) ready.rising)) in
+          let v = verdicts (runner_of means.build) keeping (judge_of means.check) (situation_of c) e
+          soon p i checks (ap (λ r. grade (keep r)) is) in
+          let of : End T → Verdict =
+          verdict (runner_of means.build) (judge_of means.check) (core_picture c) in
+          ap (by_check b.tree) (v.1 ∙ ap (λ r. Some (v.0, of r)) is)
+          ∙ verdict_seen b.tree (of (Ok b))
 
-  scratch_at : (p : Name) → IsEngine m (value_of c) → answer_at (situation_of c) p ≡ answer_of m (value_of c) p
+  scratch_at : (p : Name) → IsEngine m (value_of c) → answer_at (situation_of c) p
+      ≡ answer_of m (value_of c) p
   scratch_at p e = at (is_among p (names c.rows.items)) refl
     where
-      at_open : (b k : Bool) → (core_state c).open_build p ≡ b → (core_state c).open_check p ≡ k → IsIn p (names c.rows.items) → cond (b || k) pending (by_last ((core_state c).last p) ((core_state c).checked p)) ≡ cond (b || k) pending (settled (checked_end means (pictured c.files.items) (names c.rows.items) (built_end means (pictured c.files.items) (names c.rows.items) p)))
+      at_open : (b k : Bool) → (core_state c).open_build p ≡ b → (core_state c).open_check p ≡ k
+          → IsIn p (names c.rows.items) → cond (b || k) pending
+          (by_last ((core_state c).last p) ((core_state c).checked p))
+          ≡ cond (b || k) pending (settled (checked_end means (pictured c.files.items)
+          (names c.rows.items) (built_end means (pictured c.files.items) (names c.rows.items) p)))
       at_open true k builds checks i = refl
       at_open false true builds checks i = refl
       at_open false false builds checks i = settled_is e p i builds checks
 
-      at : (b : Bool) → is_among p (names c.rows.items) ≡ b → cond b (cond (is_pending (situation_of c) p) pending (by_last ((core_state c).last p) ((core_state c).checked p))) no_object ≡ cond b (cond (is_pending (situation_of c) p) pending (settled (checked_end means (pictured c.files.items) (names c.rows.items) (built_end means (pictured c.files.items) (names c.rows.items) p)))) no_object
-      at true is = at_open ((core_state c).open_build p) ((core_state c).open_check p) refl refl (is_in p (names c.rows.items) is)
+      at : (b : Bool) → is_among p (names c.rows.items) ≡ b
+          → cond b (cond (is_pending (situation_of c) p) pending
+          (by_last ((core_state c).last p) ((core_state c).checked p))) no_object
+          ≡ cond b (cond (is_pending (situation_of c) p) pending
+          (settled (checked_end means (pictured c.files.items) (names c.rows.items)
+          (built_end means (pictured c.files.items) (names c.rows.items) p)))) no_object
+      at true is = at_open ((core_state c).open_build p) ((core_state c).open_check p) refl refl
+          (is_in p (names c.rows.items) is)
       at false is = refl
 
-  pub answered : ∥ IsEngine m (value_of c) ∥₁ → (p : Name) → answer_at (situation_of c) p ≡ answer_of m (value_of c) p
+  pub answered : ∥ IsEngine m (value_of c) ∥₁ → (p : Name) → answer_at (situation_of c) p
+      ≡ answer_of m (value_of c) p
   answered kept p =
-      let prop : IsProp (answer_at (situation_of c) p ≡ answer_of m (value_of c) p) = seen_set (answer_at (situation_of c) p) (answer_of m (value_of c) p) in
+      let prop : IsProp (answer_at (situation_of c) p ≡ answer_of m (value_of c) p) =
+      seen_set (answer_at (situation_of c) p) (answer_of m (value_of c) p) in
       ∥∥₁_elim kept prop (scratch_at p)

@@ -7,7 +7,7 @@ use Rattle.questions.specs.Contents.{Content}
 use Rattle.runner.specs.Ends.{End, Verdict}
 use Rattle.runner.specs.Meaning.{Meaning}
 use Rattle.engine_laws.specs.Names.{Name}
-use Rattle.engine_laws.specs.Engine.{Situation, Event, Take, Turn, Forget, happens, on_chain, turns_left, IsFromScratch}
+use Rattle.engine_laws.specs.Engine.{Situation, Event, Take, Turn, Forget, happens, IsAllowed, on_chain, turns_left, IsFromScratch}
 use Rattle.engine_laws.specs.Reached.{IsReached}
 use Rattle.engine_laws.specs.Runner.{IsIn}
 use Rattle.engine_laws.specs.Numbers.{KeepsNumbers}
@@ -113,6 +113,19 @@ abbrev pub after_take : {T : Type 0} → Meanings T → EngineValue T → List P
     → EngineSituation T
 after_take m e files objects =
     after_event m e (take_of e.files e.situation.state.counter files objects)
+
+-- such a take, and forgetting the runs, are events of which the machine's laws speak
+abbrev pub IsAllowedEvent : {T : Type 0} → Meanings T → EngineValue T → Event Key Content → Type 0
+IsAllowedEvent m e event = IsAllowed (runner_of (m e.dirs e.limits).build) keeping
+    (judge_of (m e.dirs e.limits).check) e.situation event
+
+abbrev pub IsTakeAllowed : {T : Type 0} → Meanings T → EngineValue T → List PictureFile → List Name
+    → Type 0
+IsTakeAllowed m e files objects =
+    IsAllowedEvent m e (take_of e.files e.situation.state.counter files objects)
+
+abbrev pub IsForgetAllowed : {T : Type 0} → Meanings T → EngineValue T → Type 0
+IsForgetAllowed m e = IsAllowedEvent m e Forget
 
 -- the runs and the steps of its next turn
 abbrev pub turn_work_of : {T : Type 0} → Meanings T → EngineValue T → Work

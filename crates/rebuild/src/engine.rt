@@ -52,7 +52,7 @@ impl<R: Runner> Engine<R> {
     ghost use Rattle.read_index.specs.Readers.{asks};
     ghost use Rattle.rebuild.specs.Answers.{seen_answer, answer_at, answer_of, seen_why, why_at, seen_reads, reads_at, runs_at};
     ghost use Rattle.rebuild.specs.Sound.{IsSound};
-    ghost use Rattle.rebuild.specs.Engines.{situation_of, value_of, new_situation, after_take, after_turn, after_forget, turn_work_of, IsTrue, AreKept, AreSpared, objects_of, parts_of, turns_left_of};
+    ghost use Rattle.rebuild.specs.Engines.{situation_of, value_of, new_situation, after_take, after_turn, after_forget, turn_work_of, IsTakeAllowed, IsForgetAllowed, IsTrue, AreKept, AreSpared, objects_of, parts_of, turns_left_of};
     ghost use Rattle.engine_turns.specs.Opening.{turned_by};
     ghost use Rattle.engine_turns.specs.Spent.{Spends, IsTurnRefused};
     ghost use Rattle.engine_turns.specs.declared.turned.Turned.TheVariants.{Idle};
@@ -121,6 +121,9 @@ impl<R: Runner> Engine<R> {
         ensures state { IsSound R.meaning self.old.core (asks self.old.index)
             → OnOk result (situation_of self.new.core
             ≡ after_take R.meaning (value_of self.old.core) picture (objects_of self.new.core)) }
+        ensures allowed { IsSound R.meaning self.old.core (asks self.old.index)
+            → OnOk result (∥ IsTakeAllowed R.meaning (value_of self.old.core) picture
+            (objects_of self.new.core) ∥₁) }
         ensures files { OnOk result (pictured self.new.core.files.items ≡ picture) }
         ensures dirs { self.new.core.dirs ≡ self.old.core.dirs }
         ensures limits { self.new.core.limits ≡ self.old.core.limits }
@@ -211,6 +214,8 @@ impl<R: Runner> Engine<R> {
         requires { turns_left_of self.old.core ≡ 0 }
         ensures state { situation_of self.new.core
             ≡ after_forget R.meaning (value_of self.old.core) }
+        ensures allowed { IsSound R.meaning self.old.core (asks self.old.index)
+            → ∥ IsForgetAllowed R.meaning (value_of self.old.core) ∥₁ }
         ensures files { self.new.core.files.items ≡ self.old.core.files.items }
         ensures dirs { self.new.core.dirs ≡ self.old.core.dirs }
         ensures limits { self.new.core.limits ≡ self.old.core.limits }

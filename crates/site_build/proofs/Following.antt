@@ -27,7 +27,12 @@ never_ok : {T E : Type 0} (r : Result T E) (e : E) (P : T → Type 0) → r ≡ 
 never_ok r e P is = subst (λ x. IfOk x P) (sym is) tt
 
 -- it was broken off
-pub broken_follows : (s : Session) (names : List (List ℕ)) (r : Result Ended End) (before after : Outs) (e : End) → r ≡ Err e → IfErr r (λ e. WritesEarly s.text e before.held after.held) → IfErr r (λ e. Stopped e s.shelf before.cell after.cell) → OnErr r (Tells before.cell → BegunOver s.wants names before.cell after.cell before.changes after.changes) → Follows s names r before after
+pub broken_follows : (s : Session) (names : List (List ℕ)) (r : Result Ended End)
+    (before after : Outs) (e : End) → r ≡ Err e → IfErr r
+    (λ e. WritesEarly s.text e before.held after.held)
+    → IfErr r (λ e. Stopped e s.shelf before.cell after.cell)
+    → OnErr r (Tells before.cell → BegunOver s.wants names before.cell after.cell before.changes
+    after.changes) → Follows s names r before after
 broken_follows s names r before after e is text shelf begun = record {
   ok = never_ok r e _ is;
   text = text;
@@ -37,7 +42,8 @@ broken_follows s names r before after e is text shelf begun = record {
 }
 
 -- .. before anything was done
-pub untouched_follows : (s : Session) (names : List (List ℕ)) (r : Result Ended End) (o : Outs) (e : End) → r ≡ Err e → IsEndOf OfSource e → Follows s names r o o
+pub untouched_follows : (s : Session) (names : List (List ℕ)) (r : Result Ended End) (o : Outs)
+    (e : End) → r ≡ Err e → IsEndOf OfSource e → Follows s names r o o
 untouched_follows s names r o e is kind = subst (λ x. Follows s names x o o) (sym is) (record {
   ok = tt;
   text = early_none s.text o.held e;
@@ -46,23 +52,42 @@ untouched_follows s names r o e is kind = subst (λ x. Follows s names x o o) (s
   begun = λ tells. over_none s.wants names o.cell o.cell o.changes o.changes (λ n. refl) refl;
 })
 
-pub untouched_at : (told : Option (List (List MemFile))) (F : List (List MemFile) → Session) (names : List (List ℕ)) (r : Result Ended End) (o : Outs) (e : End) → r ≡ Err e → IsEndOf OfSource e → IfSome told (λ ps. Follows (F ps) names r o o)
-untouched_at told F names r o e is kind = all_told told (λ ps. Follows (F ps) names r o o) (λ ps. untouched_follows (F ps) names r o e is kind)
+pub untouched_at : (told : Option (List (List MemFile))) (F : List (List MemFile) → Session)
+    (names : List (List ℕ)) (r : Result Ended End) (o : Outs) (e : End) → r ≡ Err e
+    → IsEndOf OfSource e → IfSome told (λ ps. Follows (F ps) names r o o)
+untouched_at told F names r o e is kind =
+    all_told told (λ ps. Follows (F ps) names r o o)
+    (λ ps. untouched_follows (F ps) names r o e is kind)
 
 -- a line was written, and the shelf stands as it was
-pub line_follows : (how : Ended) (names : List (List ℕ)) (r : Result Ended End) (o : Outs) (held : Option (List ℕ)) → IfOk r (λ reached. reached ≡ how) → OnOk r (Appends o.held (end_line how) held) → OnErr r (AppendsPart o.held (end_line how) held) → IfErr r (IsEndOf OfSink) → Follows (line_alone how) names r o (record o { held = held })
+pub line_follows : (how : Ended) (names : List (List ℕ)) (r : Result Ended End) (o : Outs)
+    (held : Option (List ℕ)) → IfOk r (λ reached. reached ≡ how)
+    → OnOk r (Appends o.held (end_line how) held) → OnErr r (AppendsPart o.held (end_line how) held)
+    → IfErr r (IsEndOf OfSink) → Follows (line_alone how) names r o (record o { held = held })
 line_follows how names r o held ended ok err kind = record {
   ok = line_written how o.held held o.cell r ended ok;
   text = line_unwritten (end_line how) o.held held r kind err;
-  shelf = IfErr-weaker r (IsEndOf OfSink) (λ e. Stopped e untouched o.cell o.cell) (λ e is. done_stopped e None o.cell o.cell is (λ n. refl)) kind;
+  shelf = IfErr-weaker r (IsEndOf OfSink) (λ e. Stopped e untouched o.cell o.cell)
+      (λ e is. done_stopped e None o.cell o.cell is (λ n. refl)) kind;
   made = on_ok r (λ tells. (refl, λ n. refl));
   begun = on_err r (λ tells. (refl, λ n. refl));
 }
 
 -- runs and steps where it was broken off
-pub spends_err : {E : Type 0} (S : List (List MemFile) → State E) (told : Option (List (List MemFile))) (r : Result Ended End) (e : End) (before now : Counts) → r ≡ Err e → IfSome told (λ ps. HasSpentAtMost (S ps) before now) → IfSome told (λ ps. Spends r (S ps) before now)
-spends_err S told r e before now is most = subst (λ x. IfSome told (λ ps. Spends x (S ps) before now)) (sym is) most
+pub spends_err : {E : Type 0} (S : List (List MemFile) → State E)
+    (told : Option (List (List MemFile))) (r : Result Ended End) (e : End) (before now : Counts) → r
+    ≡ Err e → IfSome told (λ ps. HasSpentAtMost (S ps) before now)
+    → IfSome told (λ ps. Spends r (S ps) before now)
+spends_err S told r e before now is most =
+    subst (λ x. IfSome told (λ ps. Spends x (S ps) before now)) (sym is) most
 
 -- .. before anything was run
-pub spends_none : {E : Type 0} (S : List (List MemFile) → State E) (told : Option (List (List MemFile))) (r : Result Ended End) (e : End) (runs runs' steps : ℕ) → r ≡ Err e → runs' ≡ runs → IfSome told (λ ps. Spends r (S ps) (counts runs steps) (counts runs' steps))
-spends_none S told r e runs runs' steps is same = spends_err S told r e (counts runs steps) (counts runs' steps) is (all_told told (λ ps. HasSpentAtMost (S ps) (counts runs steps) (counts runs' steps)) (λ ps. subst (λ n. HasSpentAtMost (S ps) (counts runs steps) (counts n steps)) (sym same) (spent_nothing (S ps) (counts runs steps))))
+pub spends_none : {E : Type 0} (S : List (List MemFile) → State E)
+    (told : Option (List (List MemFile))) (r : Result Ended End) (e : End) (runs runs' steps : ℕ)
+    → r ≡ Err e → runs' ≡ runs
+    → IfSome told (λ ps. Spends r (S ps) (counts runs steps) (counts runs' steps))
+spends_none S told r e runs runs' steps is same =
+    spends_err S told r e (counts runs steps) (counts runs' steps) is
+    (all_told told (λ ps. HasSpentAtMost (S ps) (counts runs steps) (counts runs' steps))
+    (λ ps. subst (λ n. HasSpentAtMost (S ps) (counts runs steps) (counts n steps)) (sym same)
+    (spent_nothing (S ps) (counts runs steps))))

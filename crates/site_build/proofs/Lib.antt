@@ -5,3 +5,4 @@ pub mod Settling
 pub mod Finishing
 pub mod Following
 pub mod Opening
+pub mod Once

@@ -1,5 +1,6 @@
-ghost use Rattle.std.specs.Prelude.{◌≡◌, IfOk, IfErr, OnOk, OnErr, Some, true, []};
-ghost use Rattle.std.specs.List.Sorted.{IsSorted};
+ghost use Rattle.std.specs.Prelude.{◌≡◌, ℕ, List, IfOk, IfErr, OnOk, OnErr, Some, true, [], bytes_eq};
+ghost use Rattle.std.specs.List.{list_any};
+ghost use Rattle.std.specs.List.Sorted.{IsSorted, IsStrictlySortedBy};
 ghost use Rattle.std.specs.Cmp.Lexicographic.{slice_cmp};
 ghost use Rattle.std.specs.Ordering.{nat_cmp};
 ghost use Rattle.outside.specs.Causes.{Caused};
@@ -52,10 +53,20 @@ pub fn open_shelf<H: Shelf>(shelf: &mut H, root: &str) -> Result<(), End>
     }
 }
 
-/// All names of the shelf, in byte order.
+/// Takes out what stands twice in a list in byte order.
+fn keep_once(names: &mut Vec<Text>)
+    requires sorted { IsSorted (slice_cmp nat_cmp) names.old.items }
+    ensures sorted { IsStrictlySortedBy (slice_cmp nat_cmp) names.new.items }
+    ensures same { (n : List ℕ) → list_any (λ m. bytes_eq m n) names.new.items
+        ≡ list_any (λ m. bytes_eq m n) names.old.items }
+{
+    names.dedup();
+}
+
+/// All names of the shelf, each once, in byte order.
 pub fn list_shelf<H: Shelf>(alloc: Global, shelf: &mut H) -> Result<Vec<Text>, End>
     ensures ok { IfOk result (λ names. Lists names.items (H.cell shelf.old)) }
-    ensures sorted { IfOk result (λ names. IsSorted (slice_cmp nat_cmp) names.items) }
+    ensures sorted { IfOk result (λ names. IsStrictlySortedBy (slice_cmp nat_cmp) names.items) }
     ensures changes { H.changes shelf.new ≡ H.changes shelf.old }
     ensures same { AreSame (H.cell shelf.old) (H.cell shelf.new) }
     ensures opened { H.opened shelf.new ≡ H.opened shelf.old }
@@ -64,7 +75,10 @@ pub fn list_shelf<H: Shelf>(alloc: Global, shelf: &mut H) -> Result<Vec<Text>, E
         (H.fault_count shelf.new) result }
 {
     match listed(alloc, shelf) {
-        Ok(names) => Ok(names),
+        Ok(mut names) => {
+            keep_once(&mut names);
+            Ok(names)
+        }
         Err(StoreError::Failed) => Err(End::Shelf),
         Err(StoreError::Memory) => Err(End::Memory),
     }

@@ -156,7 +156,8 @@ impl<S: Alter + Drop> Keeper for SqliteKeeper<S> {
             (cells (state S.Store self.new.connection)) }
         ensures cause { HasCause self.old.faults.count self.new.faults.count result }
         // What a crash may leave, it could leave before.
-        ensures survives { Survives (state S.Store self.old.connection) (state S.Store self.new.connection) (λ _. ⊥) }
+        ensures survives { Survives (state S.Store self.old.connection)
+            (state S.Store self.new.connection) (λ _. ⊥) }
     {
         if self.opened.is_none() {
             return refuse(&mut self.faults, &mut self.last, Refusal::NotOpened);

@@ -11,5 +11,9 @@ loop-file-preserved c =
     let same = c.files-file-items.ensures.files in
     let within = subst (λ fs. i < length fs) same c.loop-file-test.true in
     let here = subst (λ fs. file ≡ get_or fs i file) same c.file-item.is in
-    let added = subst (λ f. Adds c.args.picture.now c.args.dirs.now (λ name. c.args.front.now ++ (name ++ codes ".pan") ≡ f) c.loop-file.names.items c.add_file.new.names.items) c.as_str.ensures.text c.in_ok-add_file.ensures in
-    added_next c.args.picture.now c.args.dirs.now i c.args.front.now c.args.names.now.items c.loop-file.names.items c.add_file.new.names.items file within here c.loop-file.invariant added
+    let added = subst (λ f. Adds c.args.picture.now c.args.dirs.now
+    (λ name. c.args.front.now ++ (name ++ codes ".pan") ≡ f) c.loop-file.names.items
+    c.add_file.new.names.items) c.as_str.ensures.text c.in_ok-add_file.ensures in
+    added_next c.args.picture.now c.args.dirs.now i c.args.front.now c.args.names.now.items
+    c.loop-file.names.items c.add_file.new.names.items file within here c.loop-file.invariant
+    added

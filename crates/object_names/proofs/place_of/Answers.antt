@@ -6,5 +6,8 @@ use Rattle.object_names.proofs.place_of.Goals as goal
 
 pub returns : goal.returns
 returns c =
-    let point = IsPartitionPoint-from_clause (λ (x : List ℕ). is_below x c.args.name.now) _ _ c.partition_point.ensures.partitioned (partitioned c.args.name.now c.args.names.now c.requires) (λ a r q k. search rules) in
-    place_is c.args.name.now c.args.names.now c.partition_point.result c.partition_point.ensures.bound point
+    let point = IsPartitionPoint-from_clause (λ (x : List ℕ). is_below x c.args.name.now) _ _
+    c.partition_point.ensures.partitioned (partitioned c.args.name.now c.args.names.now
+    c.requires) (λ a r q k. search rules) in
+    place_is c.args.name.now c.args.names.now c.partition_point.result
+    c.partition_point.ensures.bound point

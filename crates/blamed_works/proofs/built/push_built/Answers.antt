@@ -1,5 +1,5 @@
 use Rattle.runner.specs.Logged.{seen_log}
-use Rattle.blamed_works.proofs.Logs.{logged_values}
+use Rattle.works_again.proofs.Logs.{logged_values}
 use Rattle.blamed_works.proofs.built.push_built.Goals as goal
 
 pub blame-requires : goal.blame-requires

@@ -7,9 +7,16 @@ use Rattle.compiler.proofs.Said.{item_among}
 use Rattle.compiler.proofs.impact.register_of.Goals as goal
 
 pub add_object-requires-clause-object : goal.add_object-requires-clause-object
-add_object-requires-clause-object g c = subst (λ os. is_among c.name-item.result os ≡ true) (c.deref-name-items.ensures.value ∙ c.in_ok-names.ensures) (item_among c.deref-name-items.result.now c.loop-name.name-index c.name-item.result c.loop-name-test.true c.name-item.is)
+add_object-requires-clause-object g c =
+    subst (λ os. is_among c.name-item.result os ≡ true)
+    (c.deref-name-items.ensures.value ∙ c.in_ok-names.ensures)
+    (item_among c.deref-name-items.result.now c.loop-name.name-index c.name-item.result
+    c.loop-name-test.true c.name-item.is)
 
 pub loop-name-preserved : goal.loop-name-preserved
 loop-name-preserved g c = λ f.
     let core = c.args.works.now.engine.core in
-    registered_more (g.R.Runner.meaning core.dirs core.limits) (pictured core.files.items) (objects_of core) c.deref-name-items.result.now c.loop-name.name-index c.name-item.result c.loop-name.register c.add_object.new.register c.loop-name-test.true c.name-item.is (c.loop-name.invariant f) (c.in_ok-add_object.ensures f)
+    registered_more (g.R.Runner.meaning core.dirs core.limits) (pictured core.files.items)
+    (objects_of core) c.deref-name-items.result.now c.loop-name.name-index c.name-item.result
+    c.loop-name.register c.add_object.new.register c.loop-name-test.true c.name-item.is
+    (c.loop-name.invariant f) (c.in_ok-add_object.ensures f)

@@ -5,4 +5,6 @@ use Rattle.engine_rows.specs.Restoring.{tree_items}
 use Rattle.engine_rows.proofs.restoring.add_items.Given as goal
 
 abbrev pub invariant-loop-item : goal.invariant-loop-item
-invariant-loop-item g l = map entry_pair l.made.items ++ tree_items l.rows (pairs_of (drop l.item-index l.items)) ≡ map entry_pair l.fn.made.items ++ tree_items l.rows (pairs_of l.items)
+invariant-loop-item g l =
+    map entry_pair l.made.items ++ tree_items l.rows (pairs_of (drop l.item-index l.items))
+    ≡ map entry_pair l.fn.made.items ++ tree_items l.rows (pairs_of l.items)

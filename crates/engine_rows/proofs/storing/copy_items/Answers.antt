@@ -12,4 +12,5 @@ push_copy-requires c =
     let lt : at < length items = search rules in
     let is : item ≡ get_or items at item = search rules in
     once_new c.loop-item.made item (drop (at + 1) items)
-    (ap (λ l. are_once (keys_in (c.loop-item.made ++ l))) (sym (split_at items at item lt is)) ∙ ap (λ l. are_once (keys_in l)) c.loop-item.invariant ∙ c.requires)
+    (ap (λ l. are_once (keys_in (c.loop-item.made ++ l))) (sym (split_at items at item lt is))
+    ∙ ap (λ l. are_once (keys_in l)) c.loop-item.invariant ∙ c.requires)

@@ -10,4 +10,11 @@ returns g c =
     let files : c.in_ok-files.files.items ≡ map kept_file core.files.items = search rules in
     let objects : c.in_ok-objects.objects.items ≡ kept_rows core.rows.items = search rules in
     let all = objects ∙ rows_kept core c.requires in
-    λ i. record { counter = core.counter; limits = core.limits; dirs = dirs i; files = files i; objects = all i }
+    λ i. record {
+      counter = core.counter;
+      limits = core.limits;
+      dirs = dirs i;
+      files =
+          files i;
+      objects = all i;
+    }

@@ -12,5 +12,6 @@ returns-then-eq c =
     let name = c.args.name.now in
     let same : bytes_eq file.name name ≡ true = search rules in
     let lookup = c.in-Some.ensures.lookup in
-    let found = keyed_near file_name name files c.args.near file c.requires lookup.3.0 (ap (λ z. equal z.name name) (sym lookup.1) ∙ same) in
+    let found = keyed_near file_name name files c.args.near file c.requires lookup.3.0
+    (ap (λ z. equal z.name name) (sym lookup.1) ∙ same) in
     ap number_or_none (ap Some lookup.1 ∙ sym found) ∙ number_of_file files name

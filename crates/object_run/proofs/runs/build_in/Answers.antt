@@ -21,22 +21,36 @@ returns-clause-answer g c =
     let tells = g.T.Words.tells in
     let object = c.args.name.now in
     let site = site_at c.args.dirs.now c.args.limits.now object in
-    let own = needs_own c.args.picture.now (g.K.Known.numbers c.args.known.now) (g.K.Known.objects c.args.known.now) tells c.requires.told in
+    let own = needs_own c.args.picture.now (g.K.Known.numbers c.args.known.now)
+    (g.K.Known.objects c.args.known.now) tells c.requires.told in
     let world = c.build_object-built.new.world in
     let after = meter c.build_object-built.new.work (keys_in world.notes) in
-    let from = λ (o : Answers) (items : List Item). Tells Ok c.build_object-built.result after (ended (build_ending site) (built_run site o no_program (record { left = MAX_WORK; asked = keys_in items }))) in
-    let all = subst (λ o. from o c.new.result) (only_all (answers_of tells)) ((c.build_object-built.ensures.gives (λ k. true)).1 (none_beyond _)) in
+    let from = λ (o : Answers) (items : List Item). Tells Ok c.build_object-built.result after
+    (ended (build_ending site) (built_run site o no_program
+    (record { left = MAX_WORK; asked = keys_in items }))) in
+    let all = subst (λ o. from o c.new.result) (only_all (answers_of tells))
+    ((c.build_object-built.ensures.gives (λ k. true)).1 (none_beyond _)) in
     let gives = subst (from (answers_of tells)) c.new.ensures all in
-    let ends = subst (λ items. IfOk c.build_end.result (λ e. IsBuildEnd c.build_object-built.result items e)) c.into_trace.ensures c.build_end.ensures in
-    let unknown = asks_unknown (MayAsk object) (built_run site) (build_is_lawful c.args.dirs.now c.args.limits.now object) (answers_of tells) no_program whole in
-    build_ended tells own world.notes after refl world.numbered c.build_object-built.result site (built_run site (answers_of tells) no_program whole) c.build_end.result gives (λ k e. unknown k after e) ends
+    let ends = subst (λ items. IfOk c.build_end.result
+    (λ e. IsBuildEnd c.build_object-built.result items e)) c.into_trace.ensures
+    c.build_end.ensures in
+    let unknown = asks_unknown (MayAsk object) (built_run site)
+    (build_is_lawful c.args.dirs.now c.args.limits.now object) (answers_of tells) no_program
+    whole in
+    build_ended tells own world.notes after refl world.numbered c.build_object-built.result site
+    (built_run site (answers_of tells) no_program whole) c.build_end.result gives
+    (λ k e. unknown k after e) ends
 
 pub returns-clause-spent : goal.returns-clause-spent
 returns-clause-spent g c =
     let tells = g.T.Words.tells in
     let site = site_at c.args.dirs.now c.args.limits.now c.args.name.now in
-    let after = meter c.build_object-built.new.work (keys_in c.build_object-built.new.world.notes) in
-    let from = λ (o : Answers) (items : List Item). Tells Ok c.build_object-built.result after (ended (build_ending site) (built_run site o no_program (record { left = MAX_WORK; asked = keys_in items }))) in
-    let all = subst (λ o. from o c.new.result) (only_all (answers_of tells)) ((c.build_object-built.ensures.gives (λ k. true)).1 (none_beyond _)) in
+    let after = meter c.build_object-built.new.work (keys_in c.build_object-built.new.world.notes)
+    in
+    let from = λ (o : Answers) (items : List Item). Tells Ok c.build_object-built.result after
+    (ended (build_ending site) (built_run site o no_program
+    (record { left = MAX_WORK; asked = keys_in items }))) in
+    let all = subst (λ o. from o c.new.result) (only_all (answers_of tells))
+    ((c.build_object-built.ensures.gives (λ k. true)).1 (none_beyond _)) in
     let gives = subst (from (answers_of tells)) c.new.ensures all in
     first_of (search (rules, gives), grind (arith, gives))

@@ -6,7 +6,12 @@ use Rattle.pan_top.proofs.building.build.Goals as goal
 
 pub returns-in-Ok : goal.returns-in-Ok
 returns-in-Ok g c = record {
-  session = inl (record { ended = c.in-Ok.ended; is = c.after.ensures; session = c.in-Ok.ensures.ok });
+  session = inl (record {
+    ended = c.in-Ok.ended;
+    is = c.after.ensures;
+    session =
+        c.in-Ok.ensures.ok;
+  });
   lines = c.in-Ok.ensures.ok.lines;
   lines_count = c.in-Ok.ensures.ok.lines_count;
 }
@@ -26,7 +31,11 @@ returns-in-Err g c =
         is = c.close_build.ensures.status;
         names = part.names;
         listed = part.listed;
-        text = some_map (g.S.Source.coming c.args.devices.now.source) (λ ps. WritesEarly (session_for M w part.names ps).text e old mid) (λ ps. Wrote (session_for M w part.names ps).text e c.close_build.result old new) (λ ps early. c.close_build.ensures.text (session_for M w part.names ps).text old early) part.text;
+        text = some_map (g.S.Source.coming c.args.devices.now.source)
+            (λ ps. WritesEarly (session_for M w part.names ps).text e old mid)
+            (λ ps. Wrote (session_for M w part.names ps).text e c.close_build.result old new)
+            (λ ps early. c.close_build.ensures.text (session_for M w part.names ps).text old early)
+            part.text;
         shelf = part.shelf;
         order = part.order;
         spent = part.spent;
@@ -35,7 +44,8 @@ returns-in-Err g c =
         shelf_opened = part.shelf_opened;
         source_count = part.source_count;
         shelf_count = part.shelf_count;
-        out_count = c.close_build.ensures.count (g.O.Sink.fault_count c.args.devices.now.out) part.out_count;
+        out_count = c.close_build.ensures.count (g.O.Sink.fault_count c.args.devices.now.out)
+            part.out_count;
       });
       lines = part.lines;
       lines_count = part.lines_count;

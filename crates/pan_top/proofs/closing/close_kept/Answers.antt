@@ -71,5 +71,6 @@ returns-in-BadRows-clause-closes g c =
 
 pub returns-in-BadRows-clause-count : goal.returns-in-BadRows-clause-count
 returns-in-BadRows-clause-count g c = λ before at.
-    counted_behind (IsFailure D.Out c.args.end.now) (c.say-in-BadRows.result ≡ S.OutFault) before _ _
+    counted_behind (IsFailure D.Out c.args.end.now) (c.say-in-BadRows.result ≡ S.OutFault) before _
+    _
     (λ is. subst (IsFailure D.Out) c.in-BadRows.is is) at c.say-in-BadRows.ensures.count

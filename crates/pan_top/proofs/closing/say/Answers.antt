@@ -11,10 +11,19 @@ pub returns-in-Ok-clause-line : goal.returns-in-Ok-clause-line
 returns-in-Ok-clause-line g c = inl (refl, c.in-Ok.ensures.ok)
 
 pub returns-in-Err-clause-line : goal.returns-in-Err-clause-line
-returns-in-Err-clause-line g c = inr (subst IsCut (sym c.of_end.ensures) (sink_cut c.in-Err.refused c.in-Err.ensures.kind), c.in-Err.ensures.err)
+returns-in-Err-clause-line g c =
+    inr (
+      subst IsCut (sym c.of_end.ensures) (sink_cut c.in-Err.refused c.in-Err.ensures.kind),
+      c.in-Err.ensures.err,
+    )
 
 pub returns-in-Ok-clause-count : goal.returns-in-Ok-clause-count
-returns-in-Ok-clause-count g c = counted_same (c.args.status ≡ S.OutFault) _ _ c.in-Ok.ensures.cause.done c.requires
+returns-in-Ok-clause-count g c =
+    counted_same (c.args.status ≡ S.OutFault) _ _ c.in-Ok.ensures.cause.done c.requires
 
 pub returns-in-Err-clause-count : goal.returns-in-Err-clause-count
-returns-in-Err-clause-count g c = counted_by (IsFailureOf D.Out c.in-Err.refused) (c.of_end.result ≡ S.OutFault) _ _ (λ is. c.of_end.ensures ∙ out_status c.in-Err.refused is) (λ is. out_device c.in-Err.refused (sym c.of_end.ensures ∙ is)) (counted_of c.in-Err.refused _ _ c.in-Err.ensures.cause)
+returns-in-Err-clause-count g c =
+    counted_by (IsFailureOf D.Out c.in-Err.refused) (c.of_end.result ≡ S.OutFault) _ _
+    (λ is. c.of_end.ensures ∙ out_status c.in-Err.refused is)
+    (λ is. out_device c.in-Err.refused (sym c.of_end.ensures ∙ is))
+    (counted_of c.in-Err.refused _ _ c.in-Err.ensures.cause)

@@ -12,8 +12,10 @@ returns-in-Ok-Some-Build g c =
     let before = scene g.R.Runner g.S.Source g.H.Shelf g.N.Lines g.O.Sink c.args.runner
     c.args.devices c.args.steps.now in
     let store = store_of g.K.Keeper c.args.keeper in
-    (called g.R.Runner.meaning c.args.words.now (Some (Build c.in-Ok-Some-Build.work)) c.carry_out_build.result.status before _ _ store _
-    (ap (λ command. Some command) (sym c.in-Ok-Some-Build.field-0-0-is) ∙ sym c.in-Ok-Some-Build.field-0-is
+    (called g.R.Runner.meaning c.args.words.now (Some (Build c.in-Ok-Some-Build.work))
+    c.carry_out_build.result.status before _ _ store _
+    (ap (λ command. Some command) (sym c.in-Ok-Some-Build.field-0-0-is)
+    ∙ sym c.in-Ok-Some-Build.field-0-is
     ∙ c.in-Ok-Some-Build.ensures)
     (ap (λ n. counts n c.args.steps.now) c.new_works-works.ensures.runs)
     c.carry_out_build.ensures)
@@ -23,8 +25,10 @@ returns-in-Ok-Some-Watch g c =
     let before = scene g.R.Runner g.S.Source g.H.Shelf g.N.Lines g.O.Sink c.args.runner
     c.args.devices c.args.steps.now in
     let store = store_of g.K.Keeper c.args.keeper in
-    (called g.R.Runner.meaning c.args.words.now (Some (Watch c.in-Ok-Some-Watch.work)) c.watch.result.status before _ _ store _
-    (ap (λ command. Some command) (sym c.in-Ok-Some-Watch.field-0-0-is) ∙ sym c.in-Ok-Some-Watch.field-0-is
+    (called g.R.Runner.meaning c.args.words.now (Some (Watch c.in-Ok-Some-Watch.work))
+    c.watch.result.status before _ _ store _
+    (ap (λ command. Some command) (sym c.in-Ok-Some-Watch.field-0-0-is)
+    ∙ sym c.in-Ok-Some-Watch.field-0-is
     ∙ c.in-Ok-Some-Watch.ensures)
     (ap (λ n. counts n c.args.steps.now) c.new_works-works.ensures.runs)
     c.watch.ensures)
@@ -36,15 +40,17 @@ returns-in-Ok-Some-Demo g c =
     let store = store_of g.K.Keeper c.args.keeper in
     rw (
       c.beside.ensures.status,
-      c.beside.ensures.runner,
+      c.beside.ensures.works,
       c.beside.ensures.devices,
       c.beside.ensures.keeper,
       c.hand_back.ensures.status,
-      c.hand_back.ensures.runner,
+      c.hand_back.ensures.works,
       c.hand_back.ensures.devices,
     )
-    (called g.R.Runner.meaning c.args.words.now (Some (Demo c.in-Ok-Some-Demo.demonstration)) c.show-status.result before _ _ store _
-    (ap (λ command. Some command) (sym c.in-Ok-Some-Demo.field-0-0-is) ∙ sym c.in-Ok-Some-Demo.field-0-is
+    (called g.R.Runner.meaning c.args.words.now (Some (Demo c.in-Ok-Some-Demo.demonstration))
+    c.show-status.result before _ _ store _
+    (ap (λ command. Some command) (sym c.in-Ok-Some-Demo.field-0-0-is)
+    ∙ sym c.in-Ok-Some-Demo.field-0-is
     ∙ c.in-Ok-Some-Demo.ensures)
     (ap (λ n. counts n c.args.steps.now) c.new_works-works.ensures.runs) (
       record {
@@ -62,15 +68,17 @@ returns-in-Ok-Some-Format g c =
     let store = store_of g.K.Keeper c.args.keeper in
     rw (
       c.beside-in-Ok-Some-Format.ensures.status,
-      c.beside-in-Ok-Some-Format.ensures.runner,
+      c.beside-in-Ok-Some-Format.ensures.works,
       c.beside-in-Ok-Some-Format.ensures.devices,
       c.beside-in-Ok-Some-Format.ensures.keeper,
       c.hand_back-in-Ok-Some-Format.ensures.status,
-      c.hand_back-in-Ok-Some-Format.ensures.runner,
+      c.hand_back-in-Ok-Some-Format.ensures.works,
       c.hand_back-in-Ok-Some-Format.ensures.devices,
     )
-    (called g.R.Runner.meaning c.args.words.now (Some (Format c.in-Ok-Some-Format.pair)) c.format_templates-status.result before _ _ store _
-    (ap (λ command. Some command) (sym c.in-Ok-Some-Format.field-0-0-is) ∙ sym c.in-Ok-Some-Format.field-0-is
+    (called g.R.Runner.meaning c.args.words.now (Some (Format c.in-Ok-Some-Format.pair))
+    c.format_templates-status.result before _ _ store _
+    (ap (λ command. Some command) (sym c.in-Ok-Some-Format.field-0-0-is)
+    ∙ sym c.in-Ok-Some-Format.field-0-is
     ∙ c.in-Ok-Some-Format.ensures)
     (ap (λ n. counts n c.args.steps.now) c.new_works-works.ensures.runs) (
       c.format_templates-status.ensures
@@ -85,11 +93,11 @@ returns-in-Ok-None g c =
     let store = store_of g.K.Keeper c.args.keeper in
     rw (
       c.beside-in-Ok-None.ensures.status,
-      c.beside-in-Ok-None.ensures.runner,
+      c.beside-in-Ok-None.ensures.works,
       c.beside-in-Ok-None.ensures.devices,
       c.beside-in-Ok-None.ensures.keeper,
       c.hand_back-in-Ok-None.ensures.status,
-      c.hand_back-in-Ok-None.ensures.runner,
+      c.hand_back-in-Ok-None.ensures.works,
       c.hand_back-in-Ok-None.ensures.devices,
     )
     (called g.R.Runner.meaning c.args.words.now None c.say-status.result before _ _ store _
@@ -113,11 +121,11 @@ returns-in-Err g c =
     let store = store_of g.K.Keeper c.args.keeper in
     rw (
       c.beside-in-Err.ensures.status,
-      c.beside-in-Err.ensures.runner,
+      c.beside-in-Err.ensures.works,
       c.beside-in-Err.ensures.devices,
       c.beside-in-Err.ensures.keeper,
       c.hand_back-in-Err.ensures.status,
-      c.hand_back-in-Err.ensures.runner,
+      c.hand_back-in-Err.ensures.works,
       c.hand_back-in-Err.ensures.devices,
     )
     (called g.R.Runner.meaning c.args.words.now (command_of c.args.words.now) _ before _ _ store _

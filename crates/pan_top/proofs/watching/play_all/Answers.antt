@@ -7,7 +7,7 @@ pub returns : goal.returns
 returns g c =
     rw (
       c.leave.ensures.status,
-      c.leave.ensures.runner,
+      c.leave.ensures.works,
       c.leave.ensures.devices,
       c.leave.ensures.keeper,
     )

@@ -30,7 +30,7 @@ returns-in-Err g c =
     let unbegun = c.in-Err.ensures.part before.spent in
     rw (
       c.hand_back_kept.ensures.status,
-      c.hand_back_kept.ensures.runner,
+      c.hand_back_kept.ensures.works,
       c.hand_back_kept.ensures.devices,
       c.hand_back_kept.ensures.keeper,
     ) (inr (record {
@@ -64,7 +64,7 @@ returns-in_default g c =
     (c.in-Ok.ensures.ok before.spent) in
     rw (
       c.hand_back_kept-in_default.ensures.status,
-      c.hand_back_kept-in_default.ensures.runner,
+      c.hand_back_kept-in_default.ensures.works,
       c.hand_back_kept-in_default.ensures.devices,
       c.hand_back_kept-in_default.ensures.keeper,
     ) (inr (record {
@@ -89,7 +89,8 @@ returns g c =
     c.args.devices.devices c.args.steps.now in
     let mid = scene g.R.Runner g.S.Source g.H.Shelf g.N.Lines g.O.Sink c.go_on.new.works.runner
     c.open.new.devices.devices c.args.steps.now in
-    let after = scene g.R.Runner g.S.Source g.H.Shelf g.N.Lines g.O.Sink c.play_all.result.runner
+    let after = scene g.R.Runner g.S.Source g.H.Shelf g.N.Lines g.O.Sink
+    c.play_all.result.works.runner
     c.play_all.result.devices c.play_all.new.steps in
     let store = store_of g.K.Keeper c.args.devices.keeper in
     let read = store_of g.K.Keeper c.open.new.devices.keeper in

@@ -18,10 +18,10 @@ use Rattle.pan_top.proofs.watching.watch_unkept.Goals as goal
 pub returns-in-Err-clause-call : goal.returns-in-Err-clause-call
 returns-in-Err-clause-call g c = rw (
   c.beside.ensures.status,
-  c.beside.ensures.runner,
+  c.beside.ensures.works,
   c.beside.ensures.devices,
   c.hand_back.ensures.status,
-  c.hand_back.ensures.runner,
+  c.hand_back.ensures.works,
   c.hand_back.ensures.devices,
 ) (inr (record {
   end = c.in-Err.end;
@@ -47,10 +47,10 @@ returns-in-Err-clause-call g c = rw (
 pub returns-in_default-clause-call : goal.returns-in_default-clause-call
 returns-in_default-clause-call g c = rw (
   c.beside-in_default.ensures.status,
-  c.beside-in_default.ensures.runner,
+  c.beside-in_default.ensures.works,
   c.beside-in_default.ensures.devices,
   c.hand_back-in_default.ensures.status,
-  c.hand_back-in_default.ensures.runner,
+  c.hand_back-in_default.ensures.works,
   c.hand_back-in_default.ensures.devices,
 ) (inr (record {
   end = E.Memory;
@@ -78,7 +78,8 @@ returns-clause-call g c =
     let w = c.args.work.now in
     let before = scene g.R.Runner g.S.Source g.H.Shelf g.N.Lines g.O.Sink c.args.works.runner
     c.args.devices c.args.steps.now in
-    let after = scene g.R.Runner g.S.Source g.H.Shelf g.N.Lines g.O.Sink c.play_all.result.runner
+    let after = scene g.R.Runner g.S.Source g.H.Shelf g.N.Lines g.O.Sink
+    c.play_all.result.works.runner
     c.play_all.result.devices c.play_all.new.steps in
     let store = store_of g.K.Keeper c.args.keeper in
     let works = c.start.new.works in

@@ -11,7 +11,13 @@ invariant-loop-want g l = record {
   faults : g.H.Shelf.fault_count l.shelf ≡ g.H.Shelf.fault_count l.fn.shelf;
   opened : g.H.Shelf.opened l.shelf ≡ g.H.Shelf.opened l.fn.shelf;
   apart : are_apart (drop l.want-index l.wants) ≡ true;
-  pending : Pending l.wants (drop l.want-index l.wants) (flat_map (putting (g.H.Shelf.cell l.fn.shelf)) (take l.want-index l.wants));
-  made : Tells (g.H.Shelf.cell l.fn.shelf) → Made l.wants (flat_map (putting (g.H.Shelf.cell l.fn.shelf)) (take l.want-index l.wants)) (g.H.Shelf.cell l.fn.shelf) (g.H.Shelf.cell l.shelf) (g.H.Shelf.changes l.fn.shelf) (g.H.Shelf.changes l.shelf);
-  cells : Underway (placed (drop l.want-index l.wants)) (λ n. placed l.wants n (g.H.Shelf.cell l.fn.shelf n)) (g.H.Shelf.cell l.fn.shelf) (g.H.Shelf.cell l.shelf);
+  pending : Pending l.wants (drop l.want-index l.wants)
+      (flat_map (putting (g.H.Shelf.cell l.fn.shelf)) (take l.want-index l.wants));
+  made : Tells (g.H.Shelf.cell l.fn.shelf) → Made l.wants
+      (flat_map (putting (g.H.Shelf.cell l.fn.shelf)) (take l.want-index l.wants))
+      (g.H.Shelf.cell l.fn.shelf) (g.H.Shelf.cell l.shelf) (g.H.Shelf.changes l.fn.shelf)
+      (g.H.Shelf.changes l.shelf);
+  cells : Underway (placed (drop l.want-index l.wants))
+      (λ n. placed l.wants n (g.H.Shelf.cell l.fn.shelf n)) (g.H.Shelf.cell l.fn.shelf)
+      (g.H.Shelf.cell l.shelf);
 }

@@ -10,5 +10,7 @@ loop-row-preserved g c =
     let kept = ap length all in
     let within : l.row-index < length c.args.rows.now.items = omega (arith, kept) in
     let row = get_or l.row-items l.row-index c.row-item.result in
-    let same : row ≡ get_or l.row-items l.row-index row = ap (get_or l.row-items l.row-index) c.row-item.is in
-    map_over_more forgotten_row c.args.rows.now.items l.row-items l.row-index row within l.invariant same
+    let same : row ≡ get_or l.row-items l.row-index row =
+    ap (get_or l.row-items l.row-index) c.row-item.is in
+    map_over_more forgotten_row c.args.rows.now.items l.row-items l.row-index row within l.invariant
+    same

@@ -14,6 +14,8 @@ loop-row-preserved g c =
     let now = asks c.loop-row.index in
     let new = asks c.note_row.new.index in
     record {
-      noted = noted_next rows i row lt is old now new c.in_ok-note_row.ensures.noted c.loop-row.invariant.noted;
-      others = others_next rows i row c.requires lt is old now new c.in_ok-note_row.ensures.noted c.loop-row.invariant.others;
+      noted = noted_next rows i row lt is old now new c.in_ok-note_row.ensures.noted
+          c.loop-row.invariant.noted;
+      others = others_next rows i row c.requires lt is old now new c.in_ok-note_row.ensures.noted
+          c.loop-row.invariant.others;
     }

@@ -9,4 +9,5 @@ returns-in-Some-Some-clause-noted g c =
     let on : row.touched ≡ true = search rules in
     let build : row.build ≡ Some c.in-Some-Some.build = search rules in
     let check : row.check ≡ Some c.in-Some-Some.check = search rules in
-    set_noted c.set.result row (asks c.args.index.now) (asks c.set.new.self) c.in-Some-Some.build c.in-Some-Some.check on build check c.set.ensures.reads
+    set_noted c.set.result row (asks c.args.index.now) (asks c.set.new.self) c.in-Some-Some.build
+    c.in-Some-Some.check on build check c.set.ensures.reads

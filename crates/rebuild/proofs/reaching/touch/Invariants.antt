@@ -12,5 +12,7 @@ abbrev pub invariant-loop-name : goal.invariant-loop-name
 invariant-loop-name g l = record {
   rising : are_rising (names l.rows.items) ≡ true;
   same : map calmless l.rows.items ≡ map calmless l.fn.rows.items;
-  flags : (q : Name) → column (λ r. r.touched) true l.rows.items q || list_any (bytes_eq q) (drop l.name-index l.reached) ≡ column (λ r. r.touched) true l.fn.rows.items q || list_any (bytes_eq q) l.reached;
+  flags : (q : Name) → column (λ r. r.touched) true l.rows.items q
+      || list_any (bytes_eq q) (drop l.name-index l.reached)
+      ≡ column (λ r. r.touched) true l.fn.rows.items q || list_any (bytes_eq q) l.reached;
 }

@@ -5,5 +5,6 @@ use Rattle.scans.proofs.scanning.count_names.Given as goal
 abbrev pub invariant-loop-i : goal.invariant-loop-i
 invariant-loop-i g l = record {
   at_most : l.named ≤ l.i;
-  told : IfSome (g.S.Source.scanned l.source) (λ files. length files ≡ l.count → l.named + count_by has_file_name (drop l.i files) ≡ count_by has_file_name files);
+  told : IfSome (g.S.Source.scanned l.source) (λ files. length files
+      ≡ l.count → l.named + count_by has_file_name (drop l.i files) ≡ count_by has_file_name files);
 }

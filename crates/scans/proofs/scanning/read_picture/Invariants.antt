@@ -11,6 +11,8 @@ invariant-loop-i g l = record {
   count : g.S.Source.count l.source ≡ l.count;
   scanned : g.S.Source.scanned l.source ≡ g.S.Source.scanned l.initial.source;
   coming : g.S.Source.coming l.source ≡ g.S.Source.coming l.initial.source;
-  weights : IfSome (g.S.Source.scanned l.source) (λ files. l.passed + sum_by weight_of (drop l.i files) ≡ sum_by weight_of files);
-  picture : IfSome (g.S.Source.scanned l.source) (λ files. fold taken_in l.picture (drop l.i files) ≡ fold taken_in [] files);
+  weights : IfSome (g.S.Source.scanned l.source)
+      (λ files. l.passed + sum_by weight_of (drop l.i files) ≡ sum_by weight_of files);
+  picture : IfSome (g.S.Source.scanned l.source)
+      (λ files. fold taken_in l.picture (drop l.i files) ≡ fold taken_in [] files);
 }

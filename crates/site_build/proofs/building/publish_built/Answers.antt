@@ -30,8 +30,13 @@ returns-in_err-publication-clause-follows g c =
     let s = given_by c.args.most c.args.listed.now c.args.built in
     broken_follows s c.args.listed.now r before after p.0 p.1
     (IfErr-weaker _ _ _ (λ e is. quiet s.text (g.O.Sink.held c.args.out.now) e is) kind)
-    (stopped_at r c.in_err-publication.field-0.0 s.shelf old new is (subst (λ ps. Stopped c.in_err-publication.field-0.0 (shelf_of (granted c.args.most c.args.listed.now (wants_of ps))) old new) c.deref.ensures.value c.in_err-publication.ensures.err))
-    (on_err r (λ told. subst (λ ps. BegunOver (granted c.args.most c.args.listed.now (wants_of ps)) c.args.listed.now old new before.changes after.changes) c.deref.ensures.value (c.in_err-publication.ensures.begun told)))
+    (stopped_at r c.in_err-publication.field-0.0 s.shelf old new is
+    (subst (λ ps. Stopped c.in_err-publication.field-0.0
+    (shelf_of (granted c.args.most c.args.listed.now (wants_of ps))) old new)
+    c.deref.ensures.value c.in_err-publication.ensures.err))
+    (on_err r (λ told. subst (λ ps. BegunOver (granted c.args.most c.args.listed.now (wants_of ps))
+    c.args.listed.now old new before.changes after.changes) c.deref.ensures.value
+    (c.in_err-publication.ensures.begun told)))
 
 -- the publication was done, or refused
 pub returns-clause-follows : goal.returns-clause-follows
@@ -46,15 +51,28 @@ returns-clause-follows g c =
     let now = g.H.Shelf.changes c.publish.new.shelf in
     let held = g.O.Sink.held c.args.out.now in
     let held' = g.O.Sink.held c.tell.new.out in
-    let is : p ≡ answer_over c.args.most names ws = subst (λ ps. p ≡ answer_over c.args.most names (wants_of ps)) c.deref.ensures.value c.in_ok-publication.ensures.answer in
-    let done : Stands (shelf_of (granted c.args.most names ws)) old new = subst (λ ps. Stands (shelf_of (granted c.args.most names (wants_of ps))) old new) c.deref.ensures.value c.in_ok-publication.ensures.ok in
+    let is : p ≡ answer_over c.args.most names ws =
+    subst (λ ps. p ≡ answer_over c.args.most names (wants_of ps)) c.deref.ensures.value
+    c.in_ok-publication.ensures.answer in
+    let done : Stands (shelf_of (granted c.args.most names ws)) old new =
+    subst (λ ps. Stands (shelf_of (granted c.args.most names (wants_of ps))) old new)
+    c.deref.ensures.value c.in_ok-publication.ensures.ok in
     record {
-      ok = told_ok c.args.most names ws c.args.built.report.items (ended_by c.args.built.has_faults) p r held held' old new is done
-          (subst (λ how. IfOk r (λ reached. reached ≡ ended_behind p how)) c.ended_by-how.ensures c.tell.ensures.ended)
-          (subst (λ report. OnOk r (Appends held (text_behind p report) held')) c.deref-2.ensures.value c.tell.ensures.ok);
-      text = told_text c.args.most names ws c.args.built.report.items (ended_by c.args.built.has_faults) p r held held' is c.tell.ensures.kind
-          (subst (λ report. OnErr r (AppendsPart held (text_behind p report) held')) c.deref-2.ensures.value c.tell.ensures.err);
-      shelf = IfErr-weaker _ _ _ (λ e is. done_stopped e (granted c.args.most names ws) old new is done) c.tell.ensures.kind;
-      made = on_ok r (λ told. subst (λ ps. MadeOver (granted c.args.most names (wants_of ps)) names old new before now) c.deref.ensures.value (c.in_ok-publication.ensures.made told));
-      begun = on_err r (λ told. over_all (granted c.args.most names ws) names old new before now (subst (λ ps. MadeOver (granted c.args.most names (wants_of ps)) names old new before now) c.deref.ensures.value (c.in_ok-publication.ensures.made told)));
+      ok = told_ok c.args.most names ws c.args.built.report.items (ended_by c.args.built.has_faults)
+          p r held held' old new is done
+          (subst (λ how. IfOk r (λ reached. reached ≡ ended_behind p how)) c.ended_by-how.ensures
+          c.tell.ensures.ended)
+          (subst (λ report. OnOk r (Appends held (text_behind p report) held'))
+          c.deref-2.ensures.value c.tell.ensures.ok);
+      text = told_text c.args.most names ws c.args.built.report.items
+          (ended_by c.args.built.has_faults) p r held held' is c.tell.ensures.kind
+          (subst (λ report. OnErr r (AppendsPart held (text_behind p report) held'))
+          c.deref-2.ensures.value c.tell.ensures.err);
+      shelf = IfErr-weaker _ _ _ (λ e is. done_stopped e (granted c.args.most names ws) old new is
+          done) c.tell.ensures.kind;
+      made = on_ok r (λ told. subst (λ ps. MadeOver (granted c.args.most names (wants_of ps)) names
+          old new before now) c.deref.ensures.value (c.in_ok-publication.ensures.made told));
+      begun = on_err r (λ told. over_all (granted c.args.most names ws) names old new before now
+          (subst (λ ps. MadeOver (granted c.args.most names (wants_of ps)) names old new before now)
+          c.deref.ensures.value (c.in_ok-publication.ensures.made told)));
     }

@@ -8,4 +8,7 @@ returns-in_ok-line-in-TooManyRemovals-clause-err g c =
     let r = c.end_with_line-in-TooManyRemovals.result in
     let held = g.O.Sink.held c.args.out.now in
     let held' = g.O.Sink.held c.end_with_line-in-TooManyRemovals.new.out in
-    subst (λ text. OnErr r (AppendsPart held text held')) (c.deref.ensures.value ∙ c.in_ok-line-in-TooManyRemovals.ensures ∙ sym (ap (λ p. text_behind p c.args.report.now) c.in-TooManyRemovals.is)) c.end_with_line-in-TooManyRemovals.ensures.err
+    subst (λ text. OnErr r (AppendsPart held text held'))
+    (c.deref.ensures.value ∙ c.in_ok-line-in-TooManyRemovals.ensures
+    ∙ sym (ap (λ p. text_behind p c.args.report.now) c.in-TooManyRemovals.is))
+    c.end_with_line-in-TooManyRemovals.ensures.err

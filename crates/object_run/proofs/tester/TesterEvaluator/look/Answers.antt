@@ -10,19 +10,28 @@ use Rattle.object_run.proofs.tester.TesterEvaluator.look.Goals as goal
 pub returns-in_err-text : goal.returns-in_err-text
 unfolding found_run
 returns-in_err-text g c = λ keys.
-    let leaves = (tests_leave (case_site g.T.Tested.case g.W.World.reading g.W.World.calls) g.W.World.plain g.T.Tested.case.built).look c.args.place.now c.args.path.now (only keys g.W.World.answers) tt (meter c.args.work.now (g.W.World.asked c.args.self.now.world)) in
+    let leaves = (tests_leave (case_site g.T.Tested.case g.W.World.reading g.W.World.calls)
+    g.W.World.plain g.T.Tested.case.built).look c.args.place.now c.args.path.now
+    (only keys g.W.World.answers) tt (meter c.args.work.now
+    (g.W.World.asked c.args.self.now.world)) in
     grind (arith, leaves)
 
 pub returns-in_err-text-2 : goal.returns-in_err-text-2
 unfolding found_run
 returns-in_err-text-2 g c = λ keys.
-    let leaves = (tests_leave (case_site g.T.Tested.case g.W.World.reading g.W.World.calls) g.W.World.plain g.T.Tested.case.built).look c.args.place.now c.args.path.now (only keys g.W.World.answers) tt (meter c.args.work.now (g.W.World.asked c.args.self.now.world)) in
+    let leaves = (tests_leave (case_site g.T.Tested.case g.W.World.reading g.W.World.calls)
+    g.W.World.plain g.T.Tested.case.built).look c.args.place.now c.args.path.now
+    (only keys g.W.World.answers) tt (meter c.args.work.now
+    (g.W.World.asked c.args.self.now.world)) in
     grind (arith, leaves)
 
 pub returns-in_err-share : goal.returns-in_err-share
 unfolding found_run
 returns-in_err-share g c = λ keys.
-    let leaves = (tests_leave (case_site g.T.Tested.case g.W.World.reading g.W.World.calls) g.W.World.plain g.T.Tested.case.built).look c.args.place.now c.args.path.now (only keys g.W.World.answers) tt (meter c.args.work.now (g.W.World.asked c.args.self.now.world)) in
+    let leaves = (tests_leave (case_site g.T.Tested.case g.W.World.reading g.W.World.calls)
+    g.W.World.plain g.T.Tested.case.built).look c.args.place.now c.args.path.now
+    (only keys g.W.World.answers) tt (meter c.args.work.now
+    (g.W.World.asked c.args.self.now.world)) in
     grind (arith, leaves)
 
 pub returns-in-Ok : goal.returns-in-Ok

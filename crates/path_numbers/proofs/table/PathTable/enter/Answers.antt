@@ -9,5 +9,7 @@ use Rattle.path_numbers.proofs.table.PathTable.enter.Goals as goal
 pub returns : goal.returns
 returns c t =
     let hash = c.path_hash-hash.ensures ∙ ap (path_hash 0) c.as_slice.ensures in
-    let here = c.enter.ensures (path_hash 0 t) t (λ e. ap (path_hash 0) (sym (terms_same c.fresh.inside.terms t e)) ∙ sym hash) in
-    here ∙ ap (λ (f : List Term × ℕ). own_or (terms_eq f.0 t) (number_in c.args.self.now t) f.1) c.fresh.view_is
+    let here = c.enter.ensures (path_hash 0 t) t (λ e. ap (path_hash 0)
+    (sym (terms_same c.fresh.inside.terms t e)) ∙ sym hash) in
+    here ∙ ap (λ (f : List Term × ℕ). own_or (terms_eq f.0 t) (number_in c.args.self.now t) f.1)
+    c.fresh.view_is

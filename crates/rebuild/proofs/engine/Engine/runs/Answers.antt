@@ -10,4 +10,6 @@ use Rattle.rebuild.proofs.engine.Engine.runs.Goals as goal
 pub returns : goal.returns
 returns g c =
     let core = c.args.self.now.core in
-    IfOk-weaker c.runs_in.result _ _ (λ made is. is ∙ ap run_names c.deref.ensures.value ∙ names_run core.rows.items (rising_once (names core.rows.items) (ready_is core c.args.self.now.ready).rising)) c.runs_in.ensures
+    IfOk-weaker c.runs_in.result _ _ (λ made is. is ∙ ap run_names c.deref.ensures.value
+    ∙ names_run core.rows.items (rising_once (names core.rows.items)
+    (ready_is core c.args.self.now.ready).rising)) c.runs_in.ensures
