@@ -5,7 +5,7 @@
 
 - docs/pan.1 is what docs/make_man.py makes of docs/COMMANDS.md, and groff shows it without a warning.
 - Each link of a document leads to a file that is there, as does each path in it, and README.md names each document.
-- What docs/ARCHITECTURE.md names as the definition or the code of a rule is there.
+- What docs/ARCHITECTURE.md names as the definition or the code of a rule is there, as is each edit that docs/PROVED.md names.
 - docs/FAULTS.md and docs/LANGUAGE.md have each fault code of the compiler once; ./pan --help names each option.
 - What README.md shows is examples/first, and the program does it. The examples of the other documents are run by tests/run.
 - Each folder of examples/ is run by a row.
@@ -117,6 +117,23 @@ def paths():
     yield f"rules of docs/ARCHITECTURE.md {', '.join(gone)}".rstrip(), not gone
 
 
+def edits_gone():
+    """The edits of the table of wrong bodies in PROVED.md, `crate/name`, behind which other names stand for edits of the
+    same crate, that are not there."""
+    table = re.search(r"^\| A wrong body \| Its edit \|\n((?:\|.*\n)+)", (DOCS / "PROVED.md").read_text(), re.M)[1]
+    for row in table.splitlines()[1:]:
+        crate = None
+        for word in re.findall(r"`([a-z_/]+)`", row.rsplit("|", 2)[1]):
+            crate, name = word.split("/") if "/" in word else (crate, word)
+            if not any((TOP / f"crates/{crate}/must-fail/{name}.{end}").exists() for end in ("edit", "md")):
+                yield f"{crate}/{name}"
+
+
+def edits():
+    gone = sorted(set(edits_gone()))
+    yield f"edits of docs/PROVED.md {' '.join(gone)}".rstrip(), not gone
+
+
 def codes():
     source = (TOP / "crates/pan_ast/specs/Codes.antt").read_text()
     wanted = sorted(set(re.findall(r'codes "(F\d\d)"', source)) - OLD_CODES)
@@ -170,7 +187,7 @@ def examples():
 
 def main():
     passed = failed = 0
-    for part in (man_page, links, paths, codes, options, readme, examples):
+    for part in (man_page, links, paths, edits, codes, options, readme, examples):
         for name, is_well in part():
             passed, failed = passed + is_well, failed + (not is_well)
             if not is_well:

@@ -425,7 +425,7 @@ def for_programs(folder):
     line = "site/web2.pan:2:1: error: F36 out of range: /port (object web2)\n"
     line += "site/web2.pan:3:1: note: set here: 80, wanted long(1..9)\n"
     of_json = {"object": "web2", "code": "F36", "name": "out of range", "file": "web2.pan", "line": 2, "column": 1}
-    of_json = {**of_json, "detail": "/port", "value": "80", "expected": "long(1..9)", "set_by": "web2.pan:3:1"}
+    of_json = {**of_json, "detail": "/port", "value": "80", "expected": "long(1..9)", "set_by": "web2.pan:3:1", "trace": []}
     ended = pan(folder, "build", "site", "out", "--format", "gcc")
     yield "as compilers print faults", (ended.status, ended.text) == (1, line)
     yield "the profiles are published", profiles(folder) == ["web1.json"]
@@ -441,6 +441,14 @@ def for_programs(folder):
     yield "a call that fails", ended.status == 3 and ended.text == "source fault\n" and "nowhere" in ended.notes
     ended = pan(folder, "build", "nowhere", "new/out", "--format", "json")
     yield "which makes no folder", ended.status == 3 and not (folder / "new").exists()
+    write(folder, "site/web2.pan", "object template web2;\ninclude 'rates';\n'/x' = half(1);\n")
+    write(folder, "site/rates.pan", "template rates;\nfunction half = ARGV[0] / 0;\n")
+    ended = pan(folder, "check", "site", "--format", "json")
+    yield "the call around a fault", [told["trace"] for told in objects_in(ended.text)] == [["web2.pan:3:8"]]
+    line = "site/rates.pan:2:17: error: F12 division by zero (object web2)\n"
+    line += "site/web2.pan:3:8: note: reached from here\n"
+    ended = pan(folder, "check", "site", "--format", "gcc")
+    yield "and as compilers print it", ended.text == line
     yield "a layout has no form", pan(folder, "format", "site", "site", "--format", "gcc").status == 2
     yield "no such form", pan(folder, "build", "site", "out", "--format", "xml").status == 2
 

@@ -22,12 +22,12 @@ use Rattle.session.specs.Texts.{answer_in, blame_text}
 use Rattle.session.specs.declared.Answer.{Answer}
 use Rattle.session.specs.declared.Outcome.{Outcome}
 use Rattle.session.specs.declared.Outcome.TheVariants as outcome
-use Rattle.compiler.specs.Blaming as blaming
-use Rattle.compiler.specs.Looking.{contents, told}
-use Rattle.compiler.specs.Compiler.{Compiled, answer_of, answers_of, outcome_by}
-use Rattle.compiler.specs.Looking.{deps_in}
-use Rattle.compiler.specs.Standing.{Here, compiled_in, machine_in, IsKept, IsBelow, IsRising}
-use Rattle.compiler.proofs.Said.{found_in}
+use Rattle.engine_session.specs.Blaming as blaming
+use Rattle.engine_session.specs.Looking.{contents, told}
+use Rattle.engine_session.specs.Compiler.{Compiled, answer_of, answers_of, outcome_by}
+use Rattle.engine_session.specs.Looking.{deps_in}
+use Rattle.engine_session.specs.Standing.{Here, compiled_in, machine_in, IsKept, IsBelow, IsRising}
+use Rattle.engine_session.proofs.Said.{found_in}
 use Rattle.run_again.specs.Again.{scratch_steps}
 use Rattle.run_again.proofs.Running.{told_same}
 

@@ -8,10 +8,10 @@ use Rattle.engine_turns.proofs.Spending.{spent_by}
 use Rattle.rebuild.specs.Engines.{Meanings}
 use Rattle.session.specs.Machines.{Turned}
 use Rattle.session.specs.Sessions.{state_in, writes, blamed_in}
-use Rattle.compiler.specs.Compiler.{Compiled, compiler}
-use Rattle.compiler.specs.Standing.{Here, Counts, counts, IsAt, IsIn, HasSpent, HasSpentAtMost, compiled_in, machine_in}
-use Rattle.compiler.proofs.Counting.{at_most, at_most_on, spent_on, spent_some}
-use Rattle.compiler.proofs.Moves.{along}
+use Rattle.engine_session.specs.Compiler.{Compiled, compiler}
+use Rattle.engine_session.specs.Standing.{Here, Counts, counts, IsAt, IsIn, HasSpent, HasSpentAtMost, compiled_in, machine_in}
+use Rattle.engine_session.proofs.Counting.{at_most, at_most_on, spent_on, spent_some}
+use Rattle.engine_session.proofs.Moves.{along}
 use Rattle.blamed_works.specs.Lines.{Blames}
 use Rattle.blamed_works.proofs.Cases.{blamed_rises}
 

@@ -5,7 +5,7 @@ use Rattle.pan_blame.specs.Blamed.{Blame, blamed}
 use Rattle.runner.specs.Meaning.{Logged, Meaning}
 use Rattle.runner.specs.declared.ends.Built.{Built}
 use Rattle.session.specs.Texts.{blame_text}
-use Rattle.compiler.specs.Blaming.{leaf_text, leaves_by, leaves_of}
+use Rattle.engine_session.specs.Blaming.{leaf_text, leaves_by, leaves_of}
 
 -- what is told of it, by what was found
 pub told_by : {T : Type 0} (m : Meaning T) (b : Built T) (terms : List Term) (log : Logged)

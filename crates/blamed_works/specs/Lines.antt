@@ -5,8 +5,8 @@ use Rattle.path_tree.specs.declared.path.Term.{Term}
 use Rattle.engine_turns.specs.declared.core_data.Core.{Core}
 use Rattle.session.specs.Machines.{Machine}
 use Rattle.session.specs.Sessions.{GoesOn, blamed_in}
-use Rattle.compiler.specs.Compiler.{Compiled}
-use Rattle.compiler.specs.Standing.{Here, Counts, IsAt}
+use Rattle.engine_session.specs.Compiler.{Compiled}
+use Rattle.engine_session.specs.Standing.{Here, Counts, IsAt}
 
 -- the session goes on behind this text, and but for its counts and its text it is as before
 pub record Blames {T : Type 0} (machine : Machine (Compiled T)) (dirs : List (List ℕ))

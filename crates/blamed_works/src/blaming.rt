@@ -1,14 +1,14 @@
 ghost use Rattle.std.specs.Prelude.{◌≡◌, List, ℕ, OnOk, OnErr, [], true};
 ghost use Rattle.pan_ast.specs.declared.work.Limits.{Limits};
 ghost use Rattle.session.specs.Sessions.{blamed_in, state_in};
-ghost use Rattle.compiler.specs.Compiler.{compiler};
-ghost use Rattle.compiler.specs.Standing.{IsFaithful, Here, Counts, counts, IsAt, HasSpentAtMost};
+ghost use Rattle.engine_session.specs.Compiler.{compiler};
+ghost use Rattle.engine_session.specs.Standing.{IsFaithful, Here, Counts, counts, IsAt, HasSpentAtMost};
 ghost use Rattle.blamed_works.specs.Lines.{Blames};
 
 use crate::built::{build_again, push_built};
 use crate::texts::push_fault;
 use base::Steps;
-use compiler::Works;
+use engine_session::Works;
 use path_tree::Term;
 use rebuild::Answer;
 use runner::Runner;

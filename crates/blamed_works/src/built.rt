@@ -7,12 +7,12 @@ ghost use Rattle.engine_turns.specs.States.{pictured};
 ghost use Rattle.rebuild.specs.Engines.{objects_of, turns_left_of};
 ghost use Rattle.run_again.specs.Again.{IsEndOf, scratch_steps};
 ghost use Rattle.session.specs.Texts.{blame_text};
-ghost use Rattle.compiler.specs.Blaming.{leaves_of};
-ghost use Rattle.compiler.specs.Standing.{IsFaithful};
+ghost use Rattle.engine_session.specs.Blaming.{leaves_of};
+ghost use Rattle.engine_session.specs.Standing.{IsFaithful};
 
 use crate::texts::push_leaves;
 use base::Steps;
-use compiler::Works;
+use engine_session::Works;
 use path_tree::Term;
 use runner::{Built, Runner};
 use std::alloc::{AllocError, Global};

@@ -2,7 +2,7 @@ ghost use Rattle.std.specs.Prelude.{◌≡◌, ◌++◌, [], OnOk, codes, map};
 ghost use Rattle.pan_ast.specs.Printed.{line_of};
 ghost use Rattle.pan_blame.specs.Blamed.{leaf_seen};
 ghost use Rattle.session.specs.Texts.{name_lines};
-ghost use Rattle.compiler.specs.Blaming.{default_text, leaf_text};
+ghost use Rattle.engine_session.specs.Blaming.{default_text, leaf_text};
 
 use pan_ast::{Fault, fault_line};
 use pan_blame::Leaf;

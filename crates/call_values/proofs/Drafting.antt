@@ -8,7 +8,8 @@ use Rattle.base.specs.declared.limits.TheConstants.{MAX_TEXT_BYTES}
 
 is_long : (w : List ℕ) → drafted w ≡ None → MAX_TEXT_BYTES < length w
 is_long w h = by (nat_lt MAX_TEXT_BYTES (length w)) refl h where
-  by : (b : Bool) → nat_lt MAX_TEXT_BYTES (length w) ≡ b → cond b None (Some w) ≡ None → MAX_TEXT_BYTES < length w
+  by : (b : Bool) → nat_lt MAX_TEXT_BYTES (length w) ≡ b → cond b None (Some w) ≡ None
+      → MAX_TEXT_BYTES < length w
   by true e h = ltb-true MAX_TEXT_BYTES (length w) e
   by false e h = absurd cc
 
@@ -19,23 +20,31 @@ is_kept w x h = by (nat_lt MAX_TEXT_BYTES (length w)) h where
   by false h = cc
 
 too_long : (w : List ℕ) → MAX_TEXT_BYTES < length w → None ≡ drafted w
-too_long w h = sym (cond-true (nat_lt MAX_TEXT_BYTES (length w)) None (Some w) (lt-ltb MAX_TEXT_BYTES (length w) h))
+too_long w h = sym (cond-true (nat_lt MAX_TEXT_BYTES (length w)) None (Some w)
+    (lt-ltb MAX_TEXT_BYTES (length w) h))
 
 -- once too long, always too long
 pub kept_over : (w more : List ℕ) → None ≡ drafted w → None ≡ drafted (w ++ more)
 kept_over w more h =
-    let long : MAX_TEXT_BYTES < length (w ++ more) = omega (arith, is_long w (sym h), length-append w more) in
+    let long : MAX_TEXT_BYTES < length (w ++ more) =
+    omega (arith, is_long w (sym h), length-append w more) in
     too_long (w ++ more) long
 
 -- a piece makes it too long
-pub passes_over : (w x more : List ℕ) → Some x ≡ drafted w → MAX_TEXT_BYTES < length x + length more → None ≡ drafted (w ++ more)
+pub passes_over : (w x more : List ℕ) → Some x ≡ drafted w → MAX_TEXT_BYTES < length x + length more
+    → None ≡ drafted (w ++ more)
 passes_over w x more h long =
     let same : length x ≡ length w = ap length (is_kept w x (sym h)) in
-    let past : MAX_TEXT_BYTES < length (w ++ more) = omega (arith, same, long, length-append w more) in
+    let past : MAX_TEXT_BYTES < length (w ++ more) =
+    omega (arith, same, long, length-append w more) in
     too_long (w ++ more) past
 
-pub grows : (w x more : List ℕ) → Some x ≡ drafted w → length x + length more ≤ MAX_TEXT_BYTES → Some (x ++ more) ≡ drafted (w ++ more)
+pub grows : (w x more : List ℕ) → Some x ≡ drafted w → length x + length more ≤ MAX_TEXT_BYTES
+    → Some (x ++ more) ≡ drafted (w ++ more)
 grows w x more h short =
     let same : x ≡ w = is_kept w x (sym h) in
-    let fits : length (w ++ more) ≤ MAX_TEXT_BYTES = omega (arith, ap length same, short, length-append w more) in
-    ap (λ y. Some (y ++ more)) same ∙ sym (cond-false (nat_lt MAX_TEXT_BYTES (length (w ++ more))) None (Some (w ++ more)) (le-ltb MAX_TEXT_BYTES (length (w ++ more)) fits))
+    let fits : length (w ++ more) ≤ MAX_TEXT_BYTES =
+    omega (arith, ap length same, short, length-append w more) in
+    ap (λ y. Some (y ++ more)) same
+    ∙ sym (cond-false (nat_lt MAX_TEXT_BYTES (length (w ++ more))) None (Some (w ++ more))
+    (le-ltb MAX_TEXT_BYTES (length (w ++ more)) fits))

@@ -43,17 +43,20 @@ child_get i (boolean b) = refl
 child_get i undef = refl
 child_get i null = refl
 
-drop_step : {X : Type 0} (i : ℕ) (xs : List X) (x : X) → slice_get xs i ≡ Some x → drop i xs ≡ x ∷ drop (suc i) xs
+drop_step : {X : Type 0} (i : ℕ) (xs : List X) (x : X) → slice_get xs i ≡ Some x → drop i xs
+    ≡ x ∷ drop (suc i) xs
 drop_step i [] x e = absurd cc
 drop_step zero (y ∷ ys) x e = ap (λ z. z ∷ ys) (same_Some _ _ e)
 drop_step (suc i) (y ∷ ys) x e = drop_step i ys x e
 
 -- what is left of a part begins with its first child
-pub child_step : (t x : Plain) (i end : ℕ) → child_at i t ≡ Some x → i < end → take (end - i) (drop i (children t)) ≡ x ∷ take (end - (i + 1)) (drop (i + 1) (children t))
+pub child_step : (t x : Plain) (i end : ℕ) → child_at i t ≡ Some x → i < end
+    → take (end - i) (drop i (children t)) ≡ x ∷ take (end - (i + 1)) (drop (i + 1) (children t))
 child_step t x i end e h =
     let left : end - i ≡ suc (end - (i + 1)) = omega (arith, h) in
     let next : suc i ≡ i + 1 = omega arith in
-    ap (λ n. take n (drop i (children t))) left ∙ ap (take (suc (end - (i + 1)))) (drop_step i (children t) x (sym (child_get i t) ∙ e))
+    ap (λ n. take n (drop i (children t))) left ∙ ap (take (suc (end - (i + 1))))
+    (drop_step i (children t) x (sym (child_get i t) ∙ e))
     ∙ ap (λ k. x ∷ take (end - (i + 1)) (drop k (children t))) next
 
 -- nothing is left of a part at its end
@@ -73,8 +76,10 @@ pub child_there : (t : Plain) (i : ℕ) → i < length (children t) → None ≡
 child_there t i h e = get_some i (children t) h (e ∙ child_get i t)
 
 -- a child moves from what is left to what is made
-pub child_pushed : (t x : Plain) (i end : ℕ) (made new old : List Plain) → Some x ≡ child_at i t → i < end → new ≡ made ++ x ∷ [] →
-    made ++ take (end - i) (drop i (children t)) ≡ old → new ++ take (end - (i + 1)) (drop (i + 1) (children t)) ≡ old
+pub child_pushed : (t x : Plain) (i end : ℕ) (made new old : List Plain) → Some x ≡ child_at i t
+    → i < end → new ≡ made ++ x ∷ [] →
+    made ++ take (end - i) (drop i (children t)) ≡ old → new
+    ++ take (end - (i + 1)) (drop (i + 1) (children t)) ≡ old
 child_pushed t x i end made new old found h is whole =
     ap (λ n. n ++ take (end - (i + 1)) (drop (i + 1) (children t))) is
     ∙ append_assoc made (x ∷ []) (take (end - (i + 1)) (drop (i + 1) (children t)))

@@ -3,10 +3,10 @@
 //! folders of the host. The expected output is written by hand.
 #![tactic(auto)]
 
-ghost use Rattle.std.specs.Prelude.{◌≡◌, ◌<◌, IfOk, true};
+ghost use Rattle.std.specs.Prelude.{◌≡◌, ◌<◌, IfOk, IsSome, None, true};
 ghost use Rattle.outside.specs.Pictures.{are_pictures};
 
-use anyhow::Result;
+use anyhow::{Result, anyhow};
 use base::{Bytes, Seq, Text};
 use outside::{
     Got, HostShelf, HostSink, HostSource, KeepingSink, MemFile, MemShelf, MemSink, MemSource,
@@ -37,8 +37,10 @@ fn pictures(alloc: Global) -> Result<Vec<Seq<MemFile>>, AllocError>
 }
 
 fn describe<S: Source>(source: &mut S, i: usize, text: &mut String) -> Result<(), StoreError>
-    requires { i < S.count source.old }
-    ensures { S.count source.new ≡ S.count source.old }
+    requires open { IsSome (S.opened source.old) }
+    requires counted { i < S.count source.old }
+    ensures count { S.count source.new ≡ S.count source.old }
+    ensures opened { S.opened source.new ≡ S.opened source.old }
 {
     text.push_str(source.name(i).as_str())?;
     let mut bytes = Vec::new(*text.allocator());
@@ -53,9 +55,11 @@ fn describe<S: Source>(source: &mut S, i: usize, text: &mut String) -> Result<()
 }
 
 // Scans a picture of two files, and the empty one after it.
-fn scanned<S: Source>(alloc: Global, source: &mut S) -> Result<String, StoreError> {
+fn scanned<S: Source>(alloc: Global, source: &mut S) -> Result<String, StoreError>
+    requires { IsSome (S.opened source.old) }
+    ensures { S.opened source.new ≡ S.opened source.old }
+{
     let mut text = String::new(alloc);
-    source.open_root("site")?;
     if source.begin_scan()? == 2 {
         describe(source, 0, &mut text)?;
         describe(source, 1, &mut text)?;
@@ -79,35 +83,58 @@ fn print_sources(rt: &HostRuntime) -> Result<()> {
     let alloc = rt.alloc();
     println!(rt; "a source that never fails")?;
     let mut sure = SureSource::new(alloc, pictures(alloc)?);
+    let Ok(()) = sure.open_root("site") else {
+        return Err(anyhow!("not opened"));
+    };
     print_seen(rt, scanned(alloc, &mut sure), sure.faults())?;
     println!(rt; "a source of which the second call fails, twice")?;
     let mut source = MemSource::new(alloc, pictures(alloc)?, vec![in alloc; 1]?);
+    let Ok(()) = source.open_root("site") else {
+        return Err(anyhow!("not opened"));
+    };
     print_seen(rt, scanned(alloc, &mut source), source.faults())?;
     print_seen(rt, scanned(alloc, &mut source), source.faults())
 }
 
-// Puts, reads, lists and removes, and gives what was seen.
-fn kept<H: Shelf>(alloc: Global, shelf: &mut H, root: &str) -> Result<String, StoreError> {
-    let mut text = String::new(alloc);
-    shelf.open_root(root)?;
-    shelf.put("a.json", b"{}")?;
-    shelf.put("b/c.json", b"[1, 2]")?;
-    shelf.put("a.json", b"null")?;
-    let mut bytes = Vec::new(alloc);
-    for name in ["a.json", "b/c.json", "c.json"] {
-        let there = shelf.read(name, 4, &mut bytes)?;
-        text.push_str(if there { "there " } else { "absent " })?;
-        text.push_str(str::from_utf8(&bytes).unwrap_or("?"))?;
-        text.push('\n')?;
-    }
-    shelf.remove("a.json")?;
-    shelf.remove("a.json")?;
-    let mut names = Vec::new(alloc);
+fn read_out<H: Shelf>(shelf: &mut H, name: &str, text: &mut String) -> Result<(), StoreError>
+    requires { IsSome (H.opened shelf.old) }
+    ensures { H.opened shelf.new ≡ H.opened shelf.old }
+{
+    let mut bytes = Vec::new(*text.allocator());
+    let there = shelf.read(name, 4, &mut bytes)?;
+    text.push_str(if there { "there " } else { "absent " })?;
+    text.push_str(str::from_utf8(&bytes).unwrap_or("?"))?;
+    text.push('\n')?;
+    Ok(())
+}
+
+fn push_names<H: Shelf>(shelf: &mut H, text: &mut String) -> Result<(), StoreError>
+    requires { IsSome (H.opened shelf.old) }
+    ensures { H.opened shelf.new ≡ H.opened shelf.old }
+{
+    let mut names = Vec::new(*text.allocator());
     shelf.names(&mut names)?;
     for name in &names {
         text.push_str(name.as_str())?;
         text.push('\n')?;
     }
+    Ok(())
+}
+
+// Puts, reads, lists and removes, and gives what was seen.
+fn kept<H: Shelf>(alloc: Global, shelf: &mut H) -> Result<String, StoreError>
+    requires { IsSome (H.opened shelf.old) }
+    ensures { H.opened shelf.new ≡ H.opened shelf.old }
+{
+    let mut text = String::new(alloc);
+    shelf.put("a.json", b"{}")?;
+    shelf.put("b/c.json", b"[1, 2]")?;
+    shelf.put("a.json", b"null")?;
+    read_out(shelf, "a.json", &mut text)?;
+    read_out(shelf, "b/c.json", &mut text)?;
+    read_out(shelf, "c.json", &mut text)?;
+    shelf.remove("a.json")?;
+    push_names(shelf, &mut text)?;
     Ok(text)
 }
 
@@ -115,12 +142,18 @@ fn print_shelves(rt: &HostRuntime) -> Result<()> {
     let alloc = rt.alloc();
     println!(rt; "a shelf that never fails")?;
     let mut sure = SureShelf::new(alloc, Vec::new(alloc));
-    print_seen(rt, kept(alloc, &mut sure, "out"), sure.faults())?;
+    let Ok(()) = sure.open_root("out") else {
+        return Err(anyhow!("not opened"));
+    };
+    print_seen(rt, kept(alloc, &mut sure), sure.faults())?;
     println!(rt; "a shelf of which the third call fails, twice")?;
     let mut shelf = MemShelf::new(alloc, Vec::new(alloc), vec![in alloc; 2]?);
-    print_seen(rt, kept(alloc, &mut shelf, "out"), shelf.faults())?;
+    let Ok(()) = shelf.open_root("out") else {
+        return Err(anyhow!("not opened"));
+    };
+    print_seen(rt, kept(alloc, &mut shelf), shelf.faults())?;
     println!(rt; "held {}", shelf.held().len())?;
-    print_seen(rt, kept(alloc, &mut shelf, "out"), shelf.faults())
+    print_seen(rt, kept(alloc, &mut shelf), shelf.faults())
 }
 
 fn wrote<S: Sink>(sink: &mut S, bytes: &[u8]) -> &'static str {
@@ -177,7 +210,7 @@ fn print_narrow(rt: &HostRuntime) -> Result<()> {
         taken: Vec::new(rt.alloc()),
         room: 5,
     };
-    let mut sink = HostSink::new(&mut narrow);
+    let mut sink = HostSink::new(&mut narrow, rt.stderr());
     println!(rt; "{}", wrote(&mut sink, b"one\n"))?;
     println!(rt; "{}", wrote(&mut sink, b"two\n"))?;
     println!(rt; "faults {}", sink.faults())?;
@@ -186,45 +219,79 @@ fn print_narrow(rt: &HostRuntime) -> Result<()> {
 }
 
 // Puts files into folders, and gives the names that are listed.
-fn listed<H: Shelf>(alloc: Global, shelf: &mut H, root: &str) -> Result<String, StoreError> {
+fn listed<H: Shelf>(alloc: Global, shelf: &mut H) -> Result<String, StoreError>
+    requires { IsSome (H.opened shelf.old) }
+{
     let mut text = String::new(alloc);
-    shelf.open_root(root)?;
-    for name in ["b", "a/x", "a0", "a-b", "a/y/z"] {
-        shelf.put(name, b"[]")?;
-    }
-    let mut names = Vec::new(alloc);
-    shelf.names(&mut names)?;
-    for name in &names {
-        text.push_str(name.as_str())?;
-        text.push('\n')?;
-    }
+    shelf.put("b", b"[]")?;
+    shelf.put("a/x", b"[]")?;
+    shelf.put("a0", b"[]")?;
+    shelf.put("a-b", b"[]")?;
+    shelf.put("a/y/z", b"[]")?;
+    push_names(shelf, &mut text)?;
     Ok(text)
 }
 
-fn print_folders(rt: &HostRuntime) -> Result<()> {
-    let alloc = rt.alloc();
-    println!(rt; "a shelf of the host")?;
+// Opens a shelf of the host that is new at a folder, and works there.
+fn kept_below(rt: &HostRuntime) -> Result<()> {
     let mut shelf = HostShelf::new(rt.clone()?, None);
-    print_seen(rt, kept(alloc, &mut shelf, "folder/out"), shelf.faults())?;
-    println!(rt; "names come in byte order")?;
-    print_seen(rt, listed(alloc, &mut shelf, "names"), shelf.faults())?;
-    println!(rt; "a source of the host")?;
+    let Ok(()) = shelf.open_root("folder/out") else {
+        return Err(anyhow!("not opened"));
+    };
+    print_seen(rt, kept(rt.alloc(), &mut shelf), shelf.faults())
+}
+
+fn listed_below(rt: &HostRuntime) -> Result<()> {
+    let mut shelf = HostShelf::new(rt.clone()?, None);
+    let Ok(()) = shelf.open_root("names") else {
+        return Err(anyhow!("not opened"));
+    };
+    print_seen(rt, listed(rt.alloc(), &mut shelf), shelf.faults())
+}
+
+// Tries a folder that is missing, and then one that is there.
+fn print_folder(rt: &HostRuntime) -> Result<()> {
     let mut source = HostSource::new(rt.clone()?);
-    println!(rt; "{:?}", source.open_root("folder"))?;
+    let Err(error) = source.open_root("folder/missing") else {
+        return Err(anyhow!("opened"));
+    };
+    println!(rt; "{error:?}")?;
+    let Ok(()) = source.open_root("folder") else {
+        return Err(anyhow!("not opened"));
+    };
     println!(rt; "{:?}", source.begin_scan())?;
-    println!(rt; "{:?}", source.open_root("folder/missing"))?;
     println!(rt; "faults {}", source.faults())?;
+    Ok(())
+}
+
+fn print_folders(rt: &HostRuntime) -> Result<()> {
+    println!(rt; "a shelf of the host")?;
+    kept_below(rt)?;
+    println!(rt; "names come in byte order")?;
+    listed_below(rt)?;
+    println!(rt; "a source of the host")?;
+    print_folder(rt)?;
     fs::remove_dir_all(rt, "folder")?;
     fs::remove_dir_all(rt, "names")?;
     Ok(())
 }
 
-// Opens a shelf at its source, at a folder that holds it, below it, beside it, and at it by a folder that is made.
+// Opens a new shelf at this root, and tells how it went.
+fn print_opening(rt: &HostRuntime, root: &str) -> Result<()> {
+    let source = Text::new(rt.alloc(), "apart/source")?;
+    let mut shelf = HostShelf::new(rt.clone()?, Some(source));
+    println!(rt; "{root} {:?}", shelf.open_root(root))?;
+    if let Some(trouble) = shelf.trouble() {
+        println!(rt; "{}: {}", trouble.path.as_str(), trouble.reason.as_str())?;
+    }
+    println!(rt; "faults {}", shelf.faults())?;
+    Ok(())
+}
+
+// Opens shelves at their source, at a folder that holds it, below it, beside it, and at it by a folder that is made.
 fn print_apart(rt: &HostRuntime) -> Result<()> {
     println!(rt; "a shelf that keeps apart from its source")?;
     fs::create_dir_all(rt, "apart/source")?;
-    let source = Text::new(rt.alloc(), "apart/source")?;
-    let mut shelf = HostShelf::new(rt.clone()?, Some(source));
     for root in [
         "apart/source",
         "apart",
@@ -232,12 +299,8 @@ fn print_apart(rt: &HostRuntime) -> Result<()> {
         "apart/sour",
         "apart/new/../source",
     ] {
-        println!(rt; "{root} {:?}", shelf.open_root(root))?;
+        print_opening(rt, root)?;
     }
-    if let Some(trouble) = shelf.trouble() {
-        println!(rt; "{}: {}", trouble.path.as_str(), trouble.reason.as_str())?;
-    }
-    println!(rt; "faults {}", shelf.faults())?;
     fs::remove_dir_all(rt, "apart")?;
     Ok(())
 }

@@ -1,7 +1,6 @@
 ghost use Rattle.std.specs.Prelude.{◌≡◌, ◌<◌, ◌∷◌, [], IfOk};
 ghost use Rattle.engine_turns.specs.States.{pictured};
 
-use crate::files::{File, picture_of, with, without};
 use crate::writing::{deps, report, show, why, write_turned};
 use anyhow::{Result, anyhow};
 use base::{Seq, Steps, Text};
@@ -11,6 +10,7 @@ use rebuild::{Engine, TakeError, TurnError, Turned};
 use runner::Runner;
 use std::alloc::{AllocError, Global};
 use std::sync::ledger::{Blank, Ledger};
+use written_files::{File, picture_of, with, without};
 use written_runner::Written;
 
 /// The picture of the files is taken.

@@ -9,7 +9,6 @@
 //! written by hand from the rules of the engine.
 #![tactic(auto)]
 
-mod files;
 mod history;
 mod writing;
 

@@ -19,7 +19,11 @@ use Rattle.check_items.specs.declared.written.Stored.TheVariants as stored
 abbrev pub texts : List (List ℕ × List ℕ)
 texts =
     (codes "hw/box.pan", codes "structure template hw/box; 'serial' = 'none'; 'disks/sda' = 500;")
-    ∷ (codes "hw/rack.pan", codes "structure template hw/rack; include 'hw/box'; 'slots' ?= 2; 'serial' ?= 'never';")
+    ∷ (
+      codes "hw/rack.pan",
+      codes
+          "structure template hw/rack; include 'hw/box'; 'slots' ?= 2; 'serial' ?= 'never';",
+    )
     ∷ (codes "hw/loop.pan", codes "structure template hw/loop; include 'hw/loop';")
     ∷ (codes "hw/other.pan", codes "structure template hw/box; 'a' = 1;")
     ∷ (codes "hw/plain.pan", codes "template hw/plain; '/a' = 1;")
@@ -28,15 +32,35 @@ texts =
     ∷ (codes "hw/last.pan", codes "structure template hw/last; final 'a' = 1;")
     ∷ (codes "hw/self.pan", codes "structure template hw/self; 'l' = append(1); 'l' = append(2);")
     ∷ (codes "hw/name.pan", codes "structure template hw/name; 't' = TEMPLATE; 'a' = exists('/a');")
-    ∷ (codes "hw/none.pan", codes "structure template hw/none; include { undef }; include { null };")
+    ∷ (
+      codes "hw/none.pan",
+      codes
+          "structure template hw/none; include { undef }; include { null };",
+    )
     ∷ (codes "hw/five.pan", codes "structure template hw/five; include { 5 };")
     ∷ (codes "hw/argc.pan", codes "structure template hw/argc; 'a' = ARGC;")
-    ∷ (codes "hw/nest.pan", codes "structure template hw/nest; 'b' = create('hw/box', 'serial', 'in');")
+    ∷ (
+      codes "hw/nest.pan",
+      codes
+          "structure template hw/nest; 'b' = create('hw/box', 'serial', 'in');",
+    )
     ∷ (codes "hw/call.pan", codes "structure template hw/call; 't' = f(); 'o' = OBJECT;")
-    ∷ (codes "hw/fixed.pan", codes "structure template hw/fixed; include { SELF['x'] = 1; 'hw/box' };")
+    ∷ (
+      codes "hw/fixed.pan",
+      codes
+          "structure template hw/fixed; include { SELF['x'] = 1; 'hw/box' };",
+    )
     ∷ (codes "hw/grown.pan", codes "structure template hw/grown; include { append(1); 'hw/box' };")
-    ∷ (codes "hw/long.pan", codes "structure template hw/long; include { append(SELF, 1); 'hw/box' };")
-    ∷ (codes "hw/own.pan", codes "structure template hw/own; include { if (is_defined(SELF)) 'hw/box' else 'hw/none' };")
+    ∷ (
+      codes "hw/long.pan",
+      codes
+          "structure template hw/long; include { append(SELF, 1); 'hw/box' };",
+    )
+    ∷ (
+      codes "hw/own.pan",
+      codes
+          "structure template hw/own; include { if (is_defined(SELF)) 'hw/box' else 'hw/none' };",
+    )
     ∷ (codes "hw/back.pan", codes "structure template hw/back; 'a' = { return(1); 2; }; 'b' = 3;")
     ∷ (codes "hw/give.pan", codes "structure template hw/give; include { return('hw/box'); 5 };")
     ∷ (codes "hw/local.pan", codes "structure template hw/local; 'a' = x;")

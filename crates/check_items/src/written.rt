@@ -22,7 +22,7 @@ use call_values::{Arguments, by_count};
 use dml_meaning::Test;
 use dml_world::leaf::passes;
 use dml_world::{Foreign, Seen, TemplateStop, World, WorldStop};
-use pan_ast::{Failure, Template};
+use pan_ast::{Failure, Place, Template};
 use pan_lexer::lex;
 use pan_parser::parse;
 use path_tree::{Name, Refused, Term, Tree};
@@ -284,6 +284,8 @@ impl World for Written {
             Err(AllocError) => Err(WorldStop::Memory),
         }
     }
+
+    fn note_passed(&self, _place: &Place) {}
 
     fn find(&self, name: &str) -> Option<Call> {
         find_call(name)

@@ -1,7 +1,6 @@
 ghost use Rattle.std.specs.Prelude.{◌≡◌, ◌<◌, ◌∷◌, [], IfOk};
 ghost use Rattle.engine_turns.specs.States.{pictured};
 
-use crate::files::{File, picture_of, with, with_line, without};
 use crate::writing::{deps, report};
 use anyhow::{Result, anyhow};
 use base::{Seq, Steps, Text};
@@ -12,6 +11,7 @@ use rebuild::{Engine, TakeError, TurnError};
 use runner::Runner;
 use std::alloc::{AllocError, Global};
 use std::sync::ledger::{Blank, Ledger};
+use written_files::{File, picture_of, with, with_line, without};
 
 /// The picture of the files is taken.
 fn take<R: Runner, L: Ledger>(
@@ -128,7 +128,7 @@ fn files_after(alloc: Global, files: Vec<File>, line: &str) -> Result<Vec<File>>
         return Ok(with_line(files, text)?);
     }
     if let Some(name) = line.strip_prefix("file ") {
-        return Ok(with(alloc, files, name)?);
+        return Ok(with(alloc, files, name, "")?);
     }
     if let Some(name) = line.strip_prefix("gone ") {
         return Ok(without(alloc, files, name)?);

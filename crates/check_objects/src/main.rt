@@ -7,7 +7,6 @@
 #![tactic(auto)]
 
 mod building;
-mod files;
 mod writing;
 
 use anyhow::Result;

@@ -13,7 +13,7 @@
 //! is the word `object` and lines of three bytes, as `written_runner` says. The expected output is written by hand.
 #![tactic(auto)]
 
-ghost use Rattle.std.specs.Prelude.{◌≡◌, ◌<◌, true};
+ghost use Rattle.std.specs.Prelude.{◌≡◌, ◌<◌, None, true};
 ghost use Rattle.outside.specs.Pictures.{are_pictures};
 
 use anyhow::{Result, anyhow};
@@ -182,6 +182,8 @@ fn devices_of(
     fails: Fails,
 ) -> (Devices<MemSource, MemShelf, MemLines, MemSink>, Vec<u64>)
     requires { are_pictures pictures.items ≡ true }
+    ensures source { result.0.source.source.root ≡ None }
+    ensures shelf { result.0.shelf.shelf.root ≡ None }
 {
     let Fails {
         source,

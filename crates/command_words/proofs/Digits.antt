@@ -12,9 +12,12 @@ grow : (n : ℕ) (digits : List ℕ) → n ≤ fold with_digit n digits
 grow n [] = omega arith
 grow n (d ∷ digits) = let more = grow (with_digit n d) digits in omega (arith, more)
 
-pub too_large : (n d : ℕ) (digits rest : List ℕ) (value : ℕ) → digits ≡ d ∷ rest → fold with_digit n digits ≡ value → 2 ^ 64 ≤ n * 10 + digit_value d → None ≡ within 0 MAX_START (Some value)
+pub too_large : (n d : ℕ) (digits rest : List ℕ) (value : ℕ) → digits ≡ d ∷ rest
+    → fold with_digit n digits ≡ value → 2 ^ 64 ≤ n * 10 + digit_value d → None
+    ≡ within 0 MAX_START (Some value)
 too_large n d digits rest value split is over =
-    let first : fold with_digit (with_digit n d) rest ≡ value = ap (fold with_digit n) (sym split) ∙ is in
+    let first : fold with_digit (with_digit n d) rest ≡ value =
+    ap (fold with_digit n) (sym split) ∙ is in
     let more = grow (with_digit n d) rest in
     let not_within : nat_le value MAX_START ≡ false = grind (arith, first, more, over) in
     let low : nat_le 0 value ≡ true = grind arith in

@@ -74,7 +74,8 @@ too_many_machines = refl
 no_machine : number_given 1 MAX_MACHINES (Some (codes "0")) ≡ None
 no_machine = refl
 
-largest_start : number_given 0 MAX_START (Some (codes "18446744073709551615")) ≡ Some 18446744073709551615
+largest_start : number_given 0 MAX_START (Some (codes "18446744073709551615"))
+    ≡ Some 18446744073709551615
 largest_start = refl
 
 too_large_start : number_given 0 MAX_START (Some (codes "18446744073709551616")) ≡ None

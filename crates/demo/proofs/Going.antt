@@ -10,11 +10,11 @@ use Rattle.session.specs.Machines.{Machine}
 use Rattle.publication.specs.declared.answer.Publication.TheVariants as publication
 use Rattle.session.specs.Sessions.{NotSaved, Next, GoesOn, SpendsNumbers, IsTooMuch, next, state_in, with_turns, built, reported, started, scanned, answers_in, build_round, ended_by}
 use Rattle.session.specs.Texts.{report}
-use Rattle.compiler.specs.Compiler.{Compiled, compiler, forgotten, nothing}
-use Rattle.compiler.specs.Standing.{Here, Counts, HasSpentAtMost, IsAt, IsIn, MakesTurns, TakesNext, compiled_in}
-use Rattle.compiler.specs.declared.taking.Took.TheVariants as took
-use Rattle.compiler.proofs.Counting.{at_most, at_most_on, no_fewer, spent_none}
-use Rattle.compiler.proofs.Moves.{along}
+use Rattle.engine_session.specs.Compiler.{Compiled, compiler, forgotten, nothing}
+use Rattle.engine_session.specs.Standing.{Here, Counts, HasSpentAtMost, IsAt, IsIn, MakesTurns, TakesNext, compiled_in}
+use Rattle.engine_session.specs.declared.taking.Took.TheVariants as took
+use Rattle.engine_session.proofs.Counting.{at_most, at_most_on, no_fewer, spent_none}
+use Rattle.engine_session.proofs.Moves.{along}
 use Rattle.demo.specs.Demo.{shortened, builds, demo_dirs, demo_session, Ends, Breaks}
 use Rattle.demo.specs.Pictures.{demo_pictures}
 use Rattle.demo.specs.declared.ends.End.{End}
@@ -56,7 +56,8 @@ module _ {T : Type 0} (M : Meanings T) (dirs : List (List ℕ)) (limits : Limits
       record {
         state = t.state;
         leads =
-            subst (λ scan. scanned m scan s (built m (publication.Done []) NotSaved) ≡ IsTooMuch t.state)
+            subst (λ scan. scanned m scan s (built m (publication.Done []) NotSaved)
+            ≡ IsTooMuch t.state)
             t.failed (t.leads (built m (publication.Done []) NotSaved));
         on = t.stands;
       }

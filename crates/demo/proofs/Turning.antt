@@ -6,10 +6,10 @@ use Rattle.outside.specs.Contents.{AppendsPart}
 use Rattle.publication.specs.declared.answer.Publication.TheVariants as publication
 use Rattle.session.specs.Machines.{Machine}
 use Rattle.session.specs.Sessions.{NotSaved, State, Next, GoesOn, Quits, SpendsNumbers, IsTooMuch, build_round, next, state_in, reported, built}
-use Rattle.compiler.specs.Compiler.{Compiled}
-use Rattle.compiler.specs.Standing.{Here, IsBelow, IsRising}
-use Rattle.compiler.proofs.Counting.{turns_rise, below_same}
-use Rattle.compiler.proofs.Scanning.{scan_rises}
+use Rattle.engine_session.specs.Compiler.{Compiled}
+use Rattle.engine_session.specs.Standing.{Here, IsBelow, IsRising}
+use Rattle.engine_session.proofs.Counting.{turns_rise, below_same}
+use Rattle.engine_session.proofs.Scanning.{scan_rises}
 use Rattle.demo.specs.Demo.{shortened, builds}
 use Rattle.demo.specs.Reports.{last_line}
 

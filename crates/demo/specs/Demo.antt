@@ -1,7 +1,7 @@
 -- The session of a demo: four rounds of a build, of each of which the last line alone is written.
 use Rattle.std.specs.Prelude.{◌≡◌, ℕ, zero, suc, List, [], ◌∷◌, ◌++◌, Option}
-use Rattle.compiler.specs.Compiler.{Compiled, compiler, nothing}
-use Rattle.compiler.specs.Standing.{Counts, HasSpentAtMost, SpendsAs}
+use Rattle.engine_session.specs.Compiler.{Compiled, compiler, nothing}
+use Rattle.engine_session.specs.Standing.{Counts, HasSpentAtMost, SpendsAs}
 use Rattle.outside.specs.Contents.{Appends, AppendsPart}
 use Rattle.pan_ast.specs.declared.work.Limits.{Limits}
 use Rattle.rebuild.specs.Engines.{Meanings}

@@ -1,6 +1,6 @@
-ghost use Rattle.std.specs.Prelude.{◌≡◌, ◌≤◌, [], List, ℕ, IfOk, OnOk, OnErr, Some};
-ghost use Rattle.compiler.specs.Compiler.{Compiled, compiler, nothing};
-ghost use Rattle.compiler.specs.Standing.{IsFaithful, Here, Counts, counts, HasSpentAtMost, IsAt, IsIn, compiled_in, machine_in};
+ghost use Rattle.std.specs.Prelude.{◌≡◌, ◌≤◌, [], List, ℕ, IfOk, OnOk, OnErr, Some, IsSome};
+ghost use Rattle.engine_session.specs.Compiler.{Compiled, compiler, nothing};
+ghost use Rattle.engine_session.specs.Standing.{IsFaithful, Here, Counts, counts, HasSpentAtMost, IsAt, IsIn, compiled_in, machine_in};
 ghost use Rattle.outside.specs.Causes.{Caused};
 ghost use Rattle.outside.specs.Contents.{Appends, AppendsPart};
 ghost use Rattle.outside.specs.declared.source.MemFile.{MemFile};
@@ -8,6 +8,7 @@ ghost use Rattle.pan_ast.specs.declared.work.Limits.{Limits};
 ghost use Rattle.rebuild.specs.Engines.{turns_left_of};
 ghost use Rattle.session.specs.Sessions.{build_round, next, state_in, started};
 ghost use Rattle.demo.specs.Demo.{builds, demo_dirs, demo_session, Ends, Breaks};
+ghost use Rattle.demo.specs.Pictures.{demo_pictures};
 ghost use Rattle.demo.specs.Played.{Goes, Says};
 
 use crate::ends::End;
@@ -15,8 +16,8 @@ use crate::pictures::pictures;
 use crate::plan::Plan;
 use crate::report::last_line;
 use base::{Seq, Steps, Text};
-use compiler::{Took, Works, build, make_all_turns, start, take_next};
-use outside::{Sink, StoreError, SureSource};
+use engine_session::{Took, Works, build, make_all_turns, start, take_next};
+use outside::{Sink, Source, StoreError, SureSource};
 use pan_ast::Limits;
 use runner::Runner;
 use session::{Ended, ended_by};
@@ -59,6 +60,7 @@ fn build_next<R: Runner, L: Ledger>(
     has_faults: &mut bool,
     steps: &mut Steps<L>,
 ) -> Result<Step, AllocError>
+    requires open { IsSome source.old.root }
     requires line { line.old.items ≡ [] }
     ensures went { IsFaithful R.meaning works.old → IfOk result (λ step. (dirs : List (List ℕ))
         (limits : Limits) (s : Here R.Rest) (start : Counts) → IsAt dirs limits s
@@ -73,6 +75,7 @@ fn build_next<R: Runner, L: Ledger>(
         limits) dirs) build_round s)) start (counts (R.runs_of works.new.runner) steps.new)) }
     ensures faithful { IsFaithful R.meaning works.old
         → OnOk result (IsFaithful R.meaning works.new) }
+    ensures opened { source.new.root ≡ source.old.root }
 {
     match take_next(alloc, works, source, steps)? {
         Took::Failed => unreachable!(),
@@ -109,6 +112,7 @@ fn play<R: Runner, O: Sink, L: Ledger>(
     out: &mut O,
     steps: &mut Steps<L>,
 ) -> Result<Ended, End>
+    requires { IsSome source.old.root }
     ensures ok { IsFaithful R.meaning works.old → IfOk result (λ how. (dirs : List (List ℕ))
         (limits : Limits) (e : Compiled R.Rest) (ps : List (List MemFile)) → IsIn dirs limits works.old.engine.core e
         → source.old.coming ≡ ps
@@ -140,6 +144,19 @@ fn play<R: Runner, O: Sink, L: Ledger>(
         }
     }
     Ok(ended_by(has_faults))
+}
+
+/// A source of the demo's pictures, opened.
+fn open_source(alloc: Global, count: u32, start: u64) -> Result<SureSource, AllocError>
+    ensures coming { IfOk result (λ source. source.coming ≡ demo_pictures count start) }
+    ensures opened { IfOk result (λ source. IsSome source.root) }
+{
+    let mut source = SureSource::new(alloc, pictures(alloc, count, start)?);
+    // (no call of it fails, so memory was wanting)
+    match source.open_root("") {
+        Ok(()) => Ok(source),
+        Err(_) => Err(AllocError),
+    }
 }
 
 /// The root alone.
@@ -190,7 +207,7 @@ pub fn demo<R: Runner, O: Sink, L: Ledger>(
     ensures out_cause { Caused (λ e. e ≡ End.Out) (O.fault_count out.old) (O.fault_count out.new)
         result }
 {
-    let mut source = SureSource::new(alloc, pictures(alloc, plan.count, plan.start)?);
+    let mut source = open_source(alloc, plan.count, plan.start)?;
     start_at_root(alloc, works, plan.limits)?;
     play(alloc, works, &mut source, out, steps)
 }

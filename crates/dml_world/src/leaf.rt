@@ -59,6 +59,16 @@ pub fn fault(alloc: Global, code: Code, place: &Place) -> Exit
     fault_on(alloc, code, place, "")
 }
 
+/// The end of a call or an include at a place; an early one is noted for a reader.
+pub fn passed<W: World>(place: &Place, end: Result<Tree, Exit>, world: &W) -> Result<Tree, Exit>
+    ensures { result ≡ end }
+{
+    if end.is_err() {
+        world.note_passed(place);
+    }
+    end
+}
+
 /// Whether a value of a kind passes a test.
 pub fn passes(test: Test, kind: Kind) -> bool
     ensures { result ≡ passes test kind }

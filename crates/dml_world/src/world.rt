@@ -13,7 +13,7 @@ ghost use Rattle.dml_world.specs.Answers.{IsFileFault, IsSeen, TellsValue, bytes
 ghost use Rattle.pan_ast.specs.TemplatesSeen.{template_seen};
 
 use base::Text;
-use pan_ast::{Fault, Template};
+use pan_ast::{Fault, Place, Template};
 use path_tree::{Name, Refused, Term, Tree};
 use std::alloc::{AllocError, Global};
 use std::rc::Rc;
@@ -109,6 +109,10 @@ pub trait World {
     ) -> Result<Foreign, WorldStop>
         ensures { TellsValue result (asked self.old) (asked self.new) object.now terms.now
             answers };
+
+    /// Notes, for a reader, that a run ends early inside the call or include at a place. No answer
+    /// depends on it.
+    fn note_passed(&self, place: &Place);
 
     /// The built-in function of values of a name.
     fn find(&self, name: &str) -> Option<Self::Call>

@@ -161,8 +161,12 @@ allowed = (
                       (
                         laws_of 8,
                         keeps_of (holding 8) (λ k p e. e),
-                        record
-                            { up = omega arith; low = λ k. omega arith; each = λ k e. inl (omega arith) },
+                        record {
+                          up = omega arith;
+                          low = λ k. omega arith;
+                          each =
+                              λ k e. inl (omega arith);
+                        },
                       ),
                       (tt, (tt, (tt, (tt, (tt, (tt, (tt, (tt, tt)))))))),
                     ),

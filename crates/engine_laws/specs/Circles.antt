@@ -18,7 +18,8 @@ module _ {K C R : Type 0} (run : Runner K C R) (w : Picture K C) where
   -- a build that is told the true contents ends soon, and as circular only where it has asked for a
   -- circular object
   pub record CircleLaws : Type 0 where
-    pub soon : (o : Name) (asked : List (K × C)) (k : K) → IsTrail (run.build o) (content run w) asked
+    pub soon : (o : Name) (asked : List (K × C)) (k : K)
+        → IsTrail (run.build o) (content run w) asked
         → run.build o asked ≡ Asks k → length asked + 1 < run.limit
     pub cause : (o : Name) (asked : List (K × C)) (r : R)
         → IsTrail (run.build o) (content run w) asked → run.build o asked ≡ Ends r

@@ -1,4 +1,5 @@
--- What is looked at of an object that is not touched: its items that name objects, and nothing of its
+-- What is looked at of an object that is not touched: its items that name objects, and nothing of
+-- its
 -- check. A turn leaves such an object alone.
 use Rattle.std.specs.Prelude.{◌≡◌, ℕ, List, [], ◌∷◌, Bool, true, false, Option, Some, None}
 use Rattle.engine_laws.specs.Names.{Name}

@@ -1,4 +1,5 @@
--- An object that reads a file, and one that reads it; the check of each reads the file too. A second
+-- An object that reads a file, and one that reads it; the check of each reads the file too. A
+-- second
 -- instance of the premises: pictures with files, check parts with questions, and sound rows.
 use Rattle.std.specs.Prelude.{◌≡◌, ℕ, List, [], ◌∷◌, ◌++◌, Bool, true, false, nat_eq, Option, Some, None, length}
 use Rattle.std.specs.Bool.{beq}

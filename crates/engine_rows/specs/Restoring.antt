@@ -32,7 +32,8 @@ use Rattle.rebuild.specs.Keeping.{build_items, check_items}
 abbrev pub file_row : KeptFile → FileRow
 file_row f = record { name = f.name; number = f.number; content = f.content }
 
--- the row of an object: nothing of it is unsettled, it was not run, and its record is compared whole
+-- the row of an object: nothing of it is unsettled, it was not run, and its record is compared
+-- whole
 abbrev pub restored_row : {T : Type 0} → KeptObject → Row T
 restored_row o = record {
   name = o.name;
@@ -67,7 +68,8 @@ restored_value s = record {
   situation = restored_situation s;
 }
 
--- what was kept is sound: each result is what compiling all of the files from scratch gives, and each
+-- what was kept is sound: each result is what compiling all of the files from scratch gives, and
+-- each
 -- record is what that reads, under the present numbers
 abbrev pub IsSoundKept : {T : Type 0} → Meanings T → Stored → Type 0
 IsSoundKept m s = AreSoundRows (runner_of (m s.dirs s.limits).build) keeping

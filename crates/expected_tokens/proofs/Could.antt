@@ -89,12 +89,14 @@ module _ (before : Tokens) (p nowhere : Place) (c : Candidate) where
     last : (y : State) → run tried Start ≡ at_end y → ⊥
     last y r = on (at_end y) refl r where
       on : (e : Result Template Stop) → at_end y ≡ e → run tried Start ≡ e → ⊥
-      on (Ok z) k q = let w : Ok z ≡ Err (fault_at BadSyntax p) = sym (ap answer_of q) ∙ stops in absurd cc
+      on (Ok z) k q = let w : Ok z ≡ Err (fault_at BadSyntax p) = sym (ap answer_of q) ∙ stops in
+          absurd cc
       on (Err (Bad [])) k q = bad_some tried [] ends q refl
       on (Err (Bad (t ∷ ts))) k q = at_end_never y t ts k
       on (Err (Deep ts)) k q = at_end_not_deep y ts k
 
-    by : (o : Option State) → step s.behind next ≡ o → (d : Bool) → over (opens s.behind next) ≡ d → ⊥
+    by : (o : Option State) → step s.behind next ≡ o → (d : Bool) → over (opens s.behind next) ≡ d
+        → ⊥
     by None h d k = taken before s next v h
     by (Some y) h true k =
         let r : run tried Start ≡ Err (Deep (next ∷ end ∷ [])) = reads s ∙ rw (h, k) refl in
@@ -103,7 +105,8 @@ module _ (before : Tokens) (p nowhere : Place) (c : Candidate) where
       on : (o : Option State) → step y end ≡ o → (d : Bool) → over (opens y end) ≡ d → ⊥
       on None h' d k' =
           let r : run tried Start ≡ Err (Bad (end ∷ [])) = reads s ∙ rw (h, k, h') refl in
-          let w : Err (fault_at BadSyntax nowhere) ≡ Err (fault_at BadSyntax p) = sym (ap answer_of r) ∙ stops in
+          let w : Err (fault_at BadSyntax nowhere) ≡ Err (fault_at BadSyntax p) =
+          sym (ap answer_of r) ∙ stops in
           far (ap (place_told p) w)
       on (Some y') h' true k' =
           let r : run tried Start ≡ Err (Deep (end ∷ [])) = reads s ∙ rw (h, k, h', k') refl in

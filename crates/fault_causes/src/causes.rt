@@ -8,12 +8,12 @@ ghost use Rattle.engine_machine.specs.Compiled.{built_end};
 ghost use Rattle.engine_turns.specs.States.{pictured};
 ghost use Rattle.rebuild.specs.Engines.{objects_of, turns_left_of};
 ghost use Rattle.run_again.specs.Again.{IsEndOf};
-ghost use Rattle.compiler.specs.Standing.{IsFaithful};
+ghost use Rattle.engine_session.specs.Standing.{IsFaithful};
 ghost use Rattle.fault_causes.specs.Causes.{cause_in, cause_seen, setter_of};
 
 use crate::setters::setter_within;
 use base::Steps;
-use compiler::Works;
+use engine_session::Works;
 use json_profile::json_text;
 use pan_blame::Leaf;
 use path_tree::{Term, Tree};

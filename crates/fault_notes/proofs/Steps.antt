@@ -7,10 +7,13 @@ blanks_suc : (n : ℕ) → repeat {A = ℕ} (suc n) (32 ∷ []) ≡ repeat {A = 
 blanks_suc zero = refl
 blanks_suc (suc n) = ap (λ (xs : List ℕ). 32 ∷ xs) (blanks_suc n)
 
-pub blank_more : (n : ℕ) → repeat {A = ℕ} (n + 1) (32 ∷ []) ≡ repeat {A = ℕ} n (32 ∷ []) ++ (32 ∷ [])
+pub blank_more : (n : ℕ) → repeat {A = ℕ} (n + 1) (32 ∷ []) ≡ repeat {A = ℕ} n (32 ∷ [])
+    ++ (32 ∷ [])
 blank_more n = rw (add-one n) (blanks_suc n)
 
-pub line_on : (count i : ℕ) (text : List ℕ) → i < count → behind_lines (count - (i + 1)) (after_first (λ c. c == 10) text) ≡ behind_lines (count - i) text
+pub line_on : (count i : ℕ) (text : List ℕ) → i < count
+    → behind_lines (count - (i + 1)) (after_first (λ c. c == 10) text)
+    ≡ behind_lines (count - i) text
 line_on count i text lt =
     let e : count - i ≡ suc (count - (i + 1)) = omega arith in
     rw e refl

@@ -1,6 +1,6 @@
 -- What is known of the value that a fault is about: which faults are about one, how it is shown,
 -- and who set it.
-use Rattle.std.specs.Prelude.{ℕ, Bool, true, false, ◌&&◌, List, [], ◌++◌, take, length, nat_lt, if◌then◌else◌, is_some, bytes_eq, codes, encode_utf8_all}
+use Rattle.std.specs.Prelude.{ℕ, Bool, true, false, ◌&&◌, List, [], ◌++◌, take, length, nat_lt, if◌then◌else◌, is_some, Option, Some, None, bytes_eq, codes, encode_utf8_all}
 use Rattle.std.specs.List.{before_first, find}
 use Rattle.std.specs.Str.{chars}
 use Rattle.base.specs.declared.limits.TheConstants.{MAX_DETAIL_CHARACTERS}
@@ -26,10 +26,20 @@ first_chars text = encode_utf8_all (take MAX_VALUE_CHARS (chars text))
 -- the first characters of a value, and `..` where there are more
 abbrev pub shown_value : List ℕ → List ℕ
 shown_value text =
-    first_chars text ++ (if nat_lt (length (first_chars text)) (length text) then codes ".." else [])
+    first_chars text ++ (if nat_lt (length (first_chars text)) (length text) then codes ".." else
+    [])
 
 abbrev pub setter_file : Setter → List ℕ
 setter_file s = before_first is_colon s.place
+
+-- that a value was set; where there is none, that what is around it was
+abbrev pub set_by : Option (List ℕ) → List ℕ
+set_by None = codes "set around it by "
+set_by (Some value) = codes "set by "
+
+abbrev pub set_here : Option (List ℕ) → List ℕ
+set_here None = codes ": note: set around it here"
+set_here (Some value) = codes ": note: set here"
 
 abbrev pub default_mark : Bool → List ℕ
 default_mark true = codes " (default)"

@@ -1,17 +1,18 @@
 -- The text for one fault.
-use Rattle.std.specs.Prelude.{ℕ, ◌==◌, if◌then◌else◌, List, [], ◌∷◌, ◌++◌, map, length, Option, Some, None, bytes_eq, codes, decimal}
-use Rattle.std.specs.List.{find, repeat}
+use Rattle.std.specs.Prelude.{ℕ, ◌-◌, ◌==◌, if◌then◌else◌, List, [], ◌∷◌, ◌++◌, map, take, length, Option, Some, None, bytes_eq, codes, decimal}
+use Rattle.std.specs.List.{find, flat_map, repeat}
 use Rattle.pan_ast.specs.Codes.{code_text}
 use Rattle.pan_ast.specs.declared.fault.Code.{Code}
 use Rattle.fault_notes.specs.Lines.{code_in, file_in, line_in, column_in, detail_in}
 use Rattle.fault_notes.specs.Meanings.{meaning_of}
 use Rattle.fault_notes.specs.Excerpts.{place_number, line_at, shown_line, shown_byte, indent_to}
-use Rattle.fault_notes.specs.Causes.{at_place, default_mark}
+use Rattle.fault_notes.specs.Causes.{at_place, default_mark, set_by}
 use Rattle.fault_notes.specs.declared.cause.Cause.{Cause}
 use Rattle.fault_notes.specs.declared.cause.Setter.{Setter}
 use Rattle.fault_notes.specs.declared.meanings.TheConstants.{CODES}
 use Rattle.fault_notes.specs.declared.note.Colours.{Colours}
 use Rattle.fault_notes.specs.declared.note.Colours.TheVariants.{On, Off}
+use Rattle.fault_notes.specs.declared.note.TheConstants.{MAX_TRACE_LINES}
 use Rattle.fault_notes.specs.declared.report.Repeated.{Repeated}
 
 -- what a terminal takes for bold red, bold blue, and its own colour
@@ -120,16 +121,17 @@ fact colours fault label None = []
 fact colours fault label (Some text) =
     equals colours fault ++ label ++ map shown_byte text ++ codes "\n"
 
--- ` = set by FILE:LINE:COLUMN`, and whether that was a default
-abbrev pub setter_line : Colours → List ℕ → Setter → List ℕ
-setter_line colours fault s =
-    equals colours fault ++ codes "set by " ++ s.place ++ default_mark s.default ++ codes "\n"
+-- ` = set by FILE:LINE:COLUMN`, and whether that was a default; of no value who set what is around it
+abbrev pub setter_line : Colours → List ℕ → Option (List ℕ) → Setter → List ℕ
+setter_line colours fault value s =
+    equals colours fault ++ set_by value ++ s.place ++ default_mark s.default ++ codes "\n"
 
 -- .. with the line of the file
-abbrev pub setter_part : Colours → List ℕ → Option Setter → Option (List ℕ) → List ℕ
-setter_part colours fault None source = []
-setter_part colours fault (Some s) source =
-    setter_line colours fault s ++ excerpt_part colours (at_place s.place) source
+abbrev pub setter_part : Colours → List ℕ → Option (List ℕ) → Option Setter → Option (List ℕ)
+    → List ℕ
+setter_part colours fault value None source = []
+setter_part colours fault value (Some s) source =
+    setter_line colours fault value s ++ excerpt_part colours (at_place s.place) source
 
 -- the value, what is wanted, and the files that were looked for
 abbrev pub facts_part : Colours → List ℕ → Cause → List ℕ
@@ -138,13 +140,39 @@ facts_part colours fault cause =
     ++ fact colours fault (codes "wanted: ") cause.wanted
     ++ fact colours fault (codes "looked for: ") cause.looked_for
 
--- .. and who set the value, from the bytes of the setter's file
+-- ` = reached from FILE:LINE:COLUMN`, the place of a call or an include
+abbrev pub trace_line : Colours → List ℕ → List ℕ → List ℕ
+trace_line colours fault origin = fact colours fault (codes "reached from ") (Some origin)
+
+abbrev pub places_more : ℕ → List ℕ
+places_more n = if n == 1 then codes "1 place more" else decimal n ++ codes " places more"
+
+-- ` = LABEL N places more`
+abbrev pub count_fact : Colours → List ℕ → List ℕ → ℕ → List ℕ
+count_fact colours fault label n =
+    equals colours fault ++ label ++ places_more n ++ codes "\n"
+
+-- ` = reached from N places more`, where there are more than are told
+abbrev pub trace_rest : Colours → List ℕ → ℕ → List ℕ
+trace_rest colours fault n =
+    if n == 0 then [] else count_fact colours fault (codes "reached from ") n
+
+-- the first places, and how many more there are
+abbrev pub trace_part : Colours → List ℕ → List (List ℕ) → List ℕ
+trace_part colours fault origins =
+    flat_map (trace_line colours fault) (take MAX_TRACE_LINES origins)
+    ++ trace_rest colours fault (length origins - MAX_TRACE_LINES)
+
+-- what is known of the value, who set it, from the bytes of the setter's file, and the calls and
+-- includes inside which the fault is
 abbrev pub cause_part : Colours → List ℕ → Cause → Option (List ℕ) → List ℕ
 cause_part colours fault cause source =
-    facts_part colours fault cause ++ setter_part colours fault cause.set_by source
+    facts_part colours fault cause ++ setter_part colours fault cause.value cause.set_by source
+    ++ trace_part colours fault cause.trace
 
 -- the note, from the bytes of the file in which the fault is, and of the setter's file
-abbrev pub note_of : Colours → Repeated → Option (List ℕ) → Cause → Option (List ℕ) → List ℕ
+abbrev pub note_of : Colours → Repeated → Option (List ℕ) → Cause → Option (List ℕ)
+    → List ℕ
 note_of colours told source cause set_in =
     headline colours told.fault ++ place_line colours told.fault told.objects
     ++ excerpt_part colours told.fault source ++ cause_part colours told.fault cause set_in

@@ -1,8 +1,8 @@
 -- A fault of a report for other programs: as a compiler prints it, and as JSON.
 use Rattle.std.specs.Prelude.{ℕ, List, [], ◌∷◌, ◌++◌, Option, Some, None, bytes_eq, map, codes, decimal}
-use Rattle.std.specs.List.{find}
+use Rattle.std.specs.List.{find, flat_map}
 use Rattle.std.specs.Str.Lossy.{utf8_lossy}
-use Rattle.json.specs.Json.{Json, null, number, string, object, Members, no_members, member}
+use Rattle.json.specs.Json.{Json, null, number, string, array, object, Items, no_items, item, Members, no_members, member}
 use Rattle.json.specs.Print.{print}
 use Rattle.json.specs.Tree.{json_tokens}
 use Rattle.base.specs.Characters.{line_feed}
@@ -12,7 +12,7 @@ use Rattle.fault_notes.specs.Lines.{object_in, fault_in, code_in, file_in, line_
 use Rattle.fault_notes.specs.Meanings.{meaning_of}
 use Rattle.fault_notes.specs.Excerpts.{place_number, shown_byte}
 use Rattle.fault_notes.specs.Notes.{place, detail_part}
-use Rattle.fault_notes.specs.Causes.{default_mark}
+use Rattle.fault_notes.specs.Causes.{default_mark, set_here}
 use Rattle.fault_notes.specs.declared.cause.Cause.{Cause}
 use Rattle.fault_notes.specs.declared.cause.Setter.{Setter}
 use Rattle.fault_notes.specs.declared.printed.Explained.{Explained}
@@ -46,15 +46,20 @@ wanted_text (Some wanted) = codes ", wanted " ++ map shown_byte wanted
 abbrev pub setter_note : Option (List ℕ) → Option (List ℕ) → Option Setter → List ℕ
 setter_note value wanted None = []
 setter_note value wanted (Some s) =
-    s.place ++ codes ": note: set here" ++ default_mark s.default ++ value_text value
-    ++ wanted_text wanted ++ codes "\n"
+    s.place ++ set_here value ++ default_mark s.default ++ value_text value ++ wanted_text wanted
+    ++ codes "\n"
+
+-- `FILE:LINE:COLUMN: note: reached from here`, the place of a call or an include
+abbrev pub reached_note : List ℕ → List ℕ
+reached_note origin = origin ++ codes ": note: reached from here\n"
 
 -- of a line of a report `FILE:LINE:COLUMN: error: CODE MEANING: DETAIL (object NAME)`, and behind
--- it who set the value
+-- it who set the value, and the calls and includes inside which the fault is
 abbrev pub compiler_line : Explained → List ℕ
 compiler_line e =
     place (fault_in e.line) ++ codes ": error: " ++ told_fault (fault_in e.line)
     ++ owner (object_in e.line) ++ setter_note e.cause.value e.cause.wanted e.cause.set_by
+    ++ flat_map reached_note e.cause.trace
 
 -- what is not UTF-8 is U+FFFD
 abbrev pub text_json : List ℕ → Json
@@ -76,12 +81,21 @@ abbrev pub setter_place : Option Setter → Option (List ℕ)
 setter_place None = None
 setter_place (Some s) = Some s.place
 
--- the value, what is wanted in its place, and where it was set
+abbrev pub text_items : List (List ℕ) → Items
+text_items [] = no_items
+text_items (text ∷ texts) = item (text_json text) (text_items texts)
+
+-- the places of the calls and includes inside which a fault is, the innermost first
+abbrev pub trace_json : List (List ℕ) → Json
+trace_json origins = array (text_items origins)
+
+-- the value, what is wanted in its place, where it was set, and what led to the fault
 abbrev pub cause_members : Cause → Members
 cause_members cause =
     member (codes "value") (option_json cause.value)
     (member (codes "expected") (option_json cause.wanted)
-    (member (codes "set_by") (option_json (setter_place cause.set_by)) no_members))
+    (member (codes "set_by") (option_json (setter_place cause.set_by))
+    (member (codes "trace") (trace_json cause.trace) no_members)))
 
 -- where a fault is, and its detail
 abbrev pub place_members : List ℕ → Members → Members

@@ -1,10 +1,10 @@
-ghost use Rattle.std.specs.Prelude.{◌≡◌, ◌++◌, OnOk, IfOk, None};
-ghost use Rattle.fault_notes.specs.Causes.{at_place, default_mark, has_cause, misses_file, setter_file, shown_value};
+ghost use Rattle.std.specs.Prelude.{◌≡◌, ◌++◌, [], OnOk, IfOk, None, option_copied};
+ghost use Rattle.fault_notes.specs.Causes.{at_place, default_mark, has_cause, misses_file, set_by, set_here, setter_file, shown_value};
 
 use crate::fault::{before, code_in, detail_in};
 use crate::meanings::first_of;
-use base::Bytes;
 use base::limits::MAX_DETAIL_CHARACTERS;
+use base::{Bytes, Seq};
 use call_values::up_to_char;
 use pan_ast::Code;
 use std::alloc::{AllocError, Global};
@@ -32,7 +32,7 @@ pub struct Setter {
     pub default: bool,
 }
 
-/// What is known of the value that a fault is about, or of the file that is not there.
+/// What is known of the value that a fault is about, or of the file that is not there, and what led to the fault.
 #[derive(Debug, Drop)]
 pub struct Cause {
     /// The value, as it is shown.
@@ -43,16 +43,19 @@ pub struct Cause {
     pub looked_for: Option<Bytes>,
     /// Who set it last; where there is no value, who set what is around it.
     pub set_by: Option<Setter>,
+    /// `FILE:LINE:COLUMN` of each call and include inside which the fault is, the innermost first.
+    pub trace: Seq<Bytes>,
 }
 
 impl Cause {
     /// Of a fault of which no more is known than its line.
-    pub fn unknown() -> Cause
+    pub fn unknown(alloc: Global) -> Cause
         ensures { result ≡ record {
           value = None;
           wanted = None;
           looked_for = None;
           set_by = None;
+          trace = [];
         } }
     {
         Cause {
@@ -60,6 +63,7 @@ impl Cause {
             wanted: None,
             looked_for: None,
             set_by: None,
+            trace: Seq::new(alloc),
         }
     }
 }
@@ -97,6 +101,28 @@ pub fn setter_file(setter: &Setter) -> &[u8]
     ensures { result.now ≡ setter_file setter.now }
 {
     before(b':', setter.place.as_slice())
+}
+
+/// `set by `, or of no value `set around it by `.
+pub(crate) fn push_set_by(into: &mut Vec<u8>, value: Option<&Bytes>) -> Result<(), AllocError>
+    ensures { OnOk result (into.new.items
+        ≡ into.old.items ++ set_by (option_copied value.entry)) }
+{
+    match value {
+        Some(_value) => into.extend_from_slice(b"set by "),
+        None => into.extend_from_slice(b"set around it by "),
+    }
+}
+
+/// `: note: set here`, or of no value `: note: set around it here`.
+pub(crate) fn push_set_here(into: &mut Vec<u8>, value: Option<&Bytes>) -> Result<(), AllocError>
+    ensures { OnOk result (into.new.items
+        ≡ into.old.items ++ set_here (option_copied value.entry)) }
+{
+    match value {
+        Some(_value) => into.extend_from_slice(b": note: set here"),
+        None => into.extend_from_slice(b": note: set around it here"),
+    }
 }
 
 /// ` (default)`, where it is one.

@@ -1,9 +1,10 @@
 ghost use Rattle.std.specs.Prelude.{◌≡◌, ◌++◌, IfOk, OnOk, map, option_map, option_copied, codes, decimal};
+ghost use Rattle.std.specs.List.{flat_map};
 ghost use Rattle.fault_notes.specs.Causes.{at_place};
-ghost use Rattle.fault_notes.specs.Notes.{red, blue, plain, in_red, in_blue, meaning_part, detail_part, headline, others, objects_part, margin, place, place_line, bar, mark, excerpt, excerpt_in, excerpt_part, equals, fact, facts_part, setter_line, setter_part, cause_part, note_of, rest_of};
+ghost use Rattle.fault_notes.specs.Notes.{red, blue, plain, in_red, in_blue, meaning_part, detail_part, headline, others, objects_part, margin, place, place_line, bar, mark, excerpt, excerpt_in, excerpt_part, equals, fact, facts_part, setter_line, setter_part, trace_line, places_more, count_fact, trace_rest, trace_part, cause_part, note_of, rest_of};
 ghost use Rattle.fault_notes.specs.Excerpts.{shown_byte};
 
-use crate::cause::{Cause, Setter, at_place, push_default_mark};
+use crate::cause::{Cause, Setter, at_place, push_default_mark, push_set_by};
 use crate::excerpt::{line_at, place_number, push_blanks, push_indent, push_shown, shown_line};
 use crate::fault::{code_in, column_in, detail_in, file_in, line_in};
 use crate::meanings::{code_of, meaning};
@@ -12,6 +13,9 @@ use base::Bytes;
 use itoa::Buffer;
 use pan_ast::Code;
 use std::alloc::{AllocError, Global};
+
+/// The most calls and includes whose places a note tells.
+pub const MAX_TRACE_LINES: usize = 8;
 
 /// Whether a note has the colours of a terminal.
 #[derive(Clone, Copy, Debug, PartialEq, Eq)]
@@ -291,18 +295,19 @@ fn push_fact(
     into.extend_from_slice(b"\n")
 }
 
-/// ` = set by FILE:LINE:COLUMN`
+/// ` = set by FILE:LINE:COLUMN`; of no value who set what is around it.
 fn push_setter_line(
     into: &mut Vec<u8>,
     colours: Colours,
     fault: &[u8],
+    value: Option<&Bytes>,
     setter: &Setter,
 ) -> Result<(), AllocError>
     ensures { OnOk result (into.new.items ≡ into.old.items
-        ++ setter_line colours fault.now setter.now) }
+        ++ setter_line colours fault.now (option_copied value.entry) setter.now) }
 {
     push_equals(into, colours, fault)?;
-    into.extend_from_slice(b"set by ")?;
+    push_set_by(into, value)?;
     into.extend_from_slice(setter.place.as_slice())?;
     push_default_mark(into, setter.default)?;
     into.extend_from_slice(b"\n")
@@ -314,16 +319,16 @@ fn push_setter(
     into: &mut Vec<u8>,
     colours: Colours,
     fault: &[u8],
-    setter: Option<&Setter>,
+    cause: &Cause,
     source: Option<&[u8]>,
 ) -> Result<(), AllocError>
     ensures { OnOk result (into.new.items ≡ into.old.items ++ setter_part colours fault.now
-        (option_copied setter.entry) (option_map (λ s. s.now) source.entry)) }
+        cause.now.value cause.now.set_by (option_map (λ s. s.now) source.entry)) }
 {
-    let Some(setter) = setter else {
+    let Some(setter) = &cause.set_by else {
         return Ok(());
     };
-    push_setter_line(into, colours, fault, setter)?;
+    push_setter_line(into, colours, fault, cause.value.as_ref(), setter)?;
     let place = at_place(alloc, setter.place.as_slice())?;
     push_excerpt_of(alloc, into, colours, &place, source)
 }
@@ -349,6 +354,93 @@ fn push_facts(
     )
 }
 
+/// ` = reached from FILE:LINE:COLUMN`
+fn push_trace_line(
+    into: &mut Vec<u8>,
+    colours: Colours,
+    fault: &[u8],
+    origin: &Bytes,
+) -> Result<(), AllocError>
+    ensures { OnOk result (into.new.items ≡ into.old.items
+        ++ trace_line colours fault.now origin.now) }
+{
+    push_fact(into, colours, fault, b"reached from ", Some(origin))
+}
+
+fn push_trace_lines(
+    into: &mut Vec<u8>,
+    colours: Colours,
+    fault: &[u8],
+    origins: &[Bytes],
+) -> Result<(), AllocError>
+    ensures { OnOk result (into.new.items ≡ into.old.items
+        ++ flat_map (trace_line colours fault.now) origins.now) }
+{
+    for origin in origins {
+        push_trace_line(into, colours, fault, origin)?;
+    }
+    Ok(())
+}
+
+/// `N places more`
+fn push_places_more(into: &mut Vec<u8>, count: usize) -> Result<(), AllocError>
+    ensures { OnOk result (into.new.items ≡ into.old.items ++ places_more count) }
+{
+    if count == 1 {
+        return into.extend_from_slice(b"1 place more");
+    }
+    let mut buffer = Buffer::new();
+    into.extend_from_slice(buffer.format(count).as_bytes())?;
+    into.extend_from_slice(b" places more")
+}
+
+/// ` = LABEL N places more`
+fn push_count_fact(
+    into: &mut Vec<u8>,
+    colours: Colours,
+    fault: &[u8],
+    label: &[u8],
+    count: usize,
+) -> Result<(), AllocError>
+    ensures { OnOk result (into.new.items ≡ into.old.items
+        ++ count_fact colours fault.now label.now count) }
+{
+    push_equals(into, colours, fault)?;
+    into.extend_from_slice(label)?;
+    push_places_more(into, count)?;
+    into.extend_from_slice(b"\n")
+}
+
+/// ` = reached from N places more`, where there are more than are told.
+fn push_trace_rest(
+    into: &mut Vec<u8>,
+    colours: Colours,
+    fault: &[u8],
+    left: usize,
+) -> Result<(), AllocError>
+    ensures { OnOk result (into.new.items ≡ into.old.items ++ trace_rest colours fault.now left) }
+{
+    if left == 0 {
+        return Ok(());
+    }
+    push_count_fact(into, colours, fault, b"reached from ", left)
+}
+
+/// The places of the first `MAX_TRACE_LINES` calls and includes inside which a fault is, and how many more there are.
+fn push_trace(
+    into: &mut Vec<u8>,
+    colours: Colours,
+    fault: &[u8],
+    origins: &[Bytes],
+) -> Result<(), AllocError>
+    ensures { OnOk result (into.new.items ≡ into.old.items
+        ++ trace_part colours fault.now origins.now) }
+{
+    let told = origins.len().min(MAX_TRACE_LINES);
+    push_trace_lines(into, colours, fault, &origins[..told])?;
+    push_trace_rest(into, colours, fault, origins.len() - told)
+}
+
 /// What is known beside its line of a fault.
 fn push_cause(
     alloc: Global,
@@ -358,20 +450,23 @@ fn push_cause(
     cause: &Cause,
     source: Option<&[u8]>,
 ) -> Result<(), AllocError>
-    ensures { OnOk result (into.new.items ≡ into.old.items ++ cause_part colours fault.now cause.now
-        (option_map (λ s. s.now) source.entry)) }
+    ensures { OnOk result (into.new.items ≡ into.old.items
+        ++ cause_part colours fault.now cause.now (option_map (λ s. s.now) source.entry)) }
 {
     push_facts(into, colours, fault, cause)?;
-    push_setter(alloc, into, colours, fault, cause.set_by.as_ref(), source)
+    push_setter(alloc, into, colours, fault, cause, source)?;
+    push_trace(into, colours, fault, cause.trace.as_slice())
 }
 
 /// The text for a fault, with a blank line at its end: its code, what that means and the detail; the place and the
 /// objects; the line of the file with a mark below the column, where `source` has the bytes of the file; and what is
 /// known of the value that it is about, or of the file that is not there: the value, what is wanted, the files that were
-/// looked for, and who set the value, with that line, where `set_in` has the bytes of the setter's file.
+/// looked for, and who set the value, with that line, where `set_in` has the bytes of the setter's file. Behind that stand
+/// the places of the calls and includes inside which the fault is, the innermost first: `MAX_TRACE_LINES` of them, and how
+/// many more there are.
 ///
-/// A line of over `MAX_SHOWN_BYTES` bytes is not shown. In a line, a value and what is wanted control characters are shown
-/// as blanks, but for tabs.
+/// A line of over `MAX_SHOWN_BYTES` bytes is not shown. In a line, a value, what is wanted and the place of a call or an
+/// include control characters are shown as blanks, but for tabs.
 pub fn note_of(
     alloc: Global,
     colours: Colours,

@@ -4,9 +4,9 @@ ghost use Rattle.std.specs.Str.Lossy.{utf8_lossy};
 ghost use Rattle.json.specs.Token as token;
 ghost use Rattle.json.specs.Tree.{json_tokens, members_tokens};
 ghost use Rattle.fault_notes.specs.Excerpts.{place_number};
-ghost use Rattle.fault_notes.specs.Printed.{cause_members, code_named, compiler_line, json_line, meant, name_json, number_json, option_json, owner, place_members, setter_note, setter_place, text_json, told_fault, value_text, wanted_text};
+ghost use Rattle.fault_notes.specs.Printed.{cause_members, code_named, compiler_line, json_line, meant, name_json, number_json, option_json, owner, place_members, reached_note, setter_note, setter_place, text_json, told_fault, trace_json, value_text, wanted_text};
 
-use crate::cause::{Cause, Setter, push_default_mark};
+use crate::cause::{Cause, Setter, push_default_mark, push_set_here};
 use crate::excerpt::{place_number, push_shown};
 use crate::fault::{code_in, column_in, detail_in, fault_in, file_in, line_in, object_in};
 use crate::meanings::{code_of, meaning};
@@ -89,11 +89,28 @@ fn push_setter(
         return Ok(());
     };
     into.extend_from_slice(setter.place.as_slice())?;
-    into.extend_from_slice(b": note: set here")?;
+    push_set_here(into, value)?;
     push_default_mark(into, setter.default)?;
     push_value(into, value)?;
     push_wanted(into, wanted)?;
     into.extend_from_slice(b"\n")
+}
+
+/// `FILE:LINE:COLUMN: note: reached from here`, a line.
+fn push_reached(into: &mut Vec<u8>, origin: &[u8]) -> Result<(), AllocError>
+    ensures { OnOk result (into.new.items ≡ into.old.items ++ reached_note origin.now) }
+{
+    into.extend_from_slice(origin)?;
+    into.extend_from_slice(b": note: reached from here\n")
+}
+
+fn push_trace(into: &mut Vec<u8>, origins: &[Bytes]) -> Result<(), AllocError>
+    ensures { OnOk result (into.new.items ≡ into.old.items ++ flat_map reached_note origins.now) }
+{
+    for origin in origins {
+        push_reached(into, origin.as_slice())?;
+    }
+    Ok(())
 }
 
 fn push_line(into: &mut Vec<u8>, explained: &Explained) -> Result<(), AllocError>
@@ -110,7 +127,8 @@ fn push_line(into: &mut Vec<u8>, explained: &Explained) -> Result<(), AllocError
         cause.value.as_ref(),
         cause.wanted.as_ref(),
         cause.set_by.as_ref(),
-    )
+    )?;
+    push_trace(into, cause.trace.as_slice())
 }
 
 fn push_lines(into: &mut Vec<u8>, faults: &[Explained]) -> Result<(), AllocError>
@@ -123,7 +141,8 @@ fn push_lines(into: &mut Vec<u8>, faults: &[Explained]) -> Result<(), AllocError
 }
 
 /// The faults of a report, each as compilers print one: `FILE:LINE:COLUMN: error: CODE MEANING: DETAIL (object NAME)`, and
-/// behind it, where it is known who set the value, `FILE:LINE:COLUMN: note: set here: VALUE, wanted TYPE`.
+/// behind it, where it is known who set the value, `FILE:LINE:COLUMN: note: set here: VALUE, wanted TYPE`, and for each
+/// call and include inside which the fault is, the innermost first, `FILE:LINE:COLUMN: note: reached from here`.
 pub fn compiler_lines(alloc: Global, faults: &[Explained]) -> Result<Vec<u8>, AllocError>
     ensures { IfOk result (λ text. text.items ≡ flat_map compiler_line faults.now) }
 {
@@ -132,16 +151,24 @@ pub fn compiler_lines(alloc: Global, faults: &[Explained]) -> Result<Vec<u8>, Al
     Ok(text)
 }
 
+/// A text, in which what is not UTF-8 is U+FFFD.
+fn write_string(alloc: Global, out: &mut Writer, bytes: &[u8]) -> Result<(), AllocError>
+    ensures ok { OnOk result (out.new.tokens ≡ out.old.tokens
+        ++ json_tokens (text_json bytes.now)) }
+    ensures before { out.new.before ≡ out.old.before }
+{
+    let text = String::from_utf8_lossy(alloc, bytes)?;
+    out.string(text.as_str())
+}
+
 /// A member with a text.
 fn write_text(alloc: Global, out: &mut Writer, key: &str, bytes: &[u8]) -> Result<(), AllocError>
     ensures ok { OnOk result (out.new.tokens ≡ out.old.tokens
         ++ token.key key.now ∷ json_tokens (text_json bytes.now)) }
     ensures before { out.new.before ≡ out.old.before }
 {
-    let text = String::from_utf8_lossy(alloc, bytes)?;
     out.key(key)?;
-    out.string(text.as_str())?;
-    Ok(())
+    write_string(alloc, out, bytes)
 }
 
 fn write_count(out: &mut Writer, number: Option<u64>) -> Result<(), AllocError>
@@ -195,8 +222,7 @@ fn write_known(alloc: Global, out: &mut Writer, text: Option<&Bytes>) -> Result<
     let Some(text) = text else {
         return out.null();
     };
-    let text = String::from_utf8_lossy(alloc, text.as_slice())?;
-    out.string(text.as_str())
+    write_string(alloc, out, text.as_slice())
 }
 
 /// A member with a text, or null where it is not known.
@@ -223,7 +249,30 @@ fn setter_place(setter: &Option<Setter>) -> Option<&Bytes>
     }
 }
 
-/// The members on the value that a fault is about, and the end of the object.
+fn write_strings(alloc: Global, out: &mut Writer, texts: &[Bytes]) -> Result<(), AllocError>
+    ensures ok { OnOk result (out.new.tokens ≡ out.old.tokens
+        ++ flat_map (λ text. json_tokens (text_json text)) texts.now) }
+    ensures before { out.new.before ≡ out.old.before }
+{
+    for text in texts {
+        write_string(alloc, out, text.as_slice())?;
+    }
+    Ok(())
+}
+
+/// The places of calls and includes, as an array.
+fn write_trace(alloc: Global, out: &mut Writer, origins: &[Bytes]) -> Result<(), AllocError>
+    ensures ok { OnOk result (out.new.tokens ≡ out.old.tokens
+        ++ json_tokens (trace_json origins.now)) }
+    ensures before { out.new.before ≡ out.old.before }
+{
+    out.begin_array()?;
+    write_strings(alloc, out, origins)?;
+    out.end_array()?;
+    Ok(())
+}
+
+/// The members on the value that a fault is about and on what led to the fault, and the end of the object.
 fn write_cause(alloc: Global, out: &mut Writer, cause: &Cause) -> Result<(), AllocError>
     ensures ok { OnOk result (out.new.tokens ≡ out.old.tokens
         ++ members_tokens (cause_members cause.now)) }
@@ -232,6 +281,8 @@ fn write_cause(alloc: Global, out: &mut Writer, cause: &Cause) -> Result<(), All
     write_option(alloc, out, "value", cause.value.as_ref())?;
     write_option(alloc, out, "expected", cause.wanted.as_ref())?;
     write_option(alloc, out, "set_by", setter_place(&cause.set_by))?;
+    out.key("trace")?;
+    write_trace(alloc, out, cause.trace.as_slice())?;
     out.end_object()?;
     Ok(())
 }
@@ -288,8 +339,10 @@ fn push_all_json(alloc: Global, into: &mut Vec<u8>, faults: &[Explained]) -> Res
 }
 
 /// The faults of a report, each as one object of JSON (RFC 8259) on a line of its own, with the members `object`, `code`,
-/// `name` (what the code means), `file`, `line`, `column`, `detail`, and of the value that the fault is about `value`,
-/// `expected` (what is wanted in its place) and `set_by` (`FILE:LINE:COLUMN`), each null where it is not known.
+/// `name` (what the code means), `file`, `line`, `column`, `detail`, of the value that the fault is about `value`,
+/// `expected` (what is wanted in its place) and `set_by` (`FILE:LINE:COLUMN`), each null where it is not known, and
+/// `trace`, an array of the places (`FILE:LINE:COLUMN`) of the calls and includes inside which the fault is, the innermost
+/// first, empty where there is none.
 pub fn json_lines(alloc: Global, faults: &[Explained]) -> Result<Vec<u8>, AllocError>
     ensures { IfOk result (λ text. text.items ≡ flat_map json_line faults.now) }
 {

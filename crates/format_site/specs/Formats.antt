@@ -48,7 +48,8 @@ formatting_for pictures = formatting_of (scanned_of (next_picture pictures))
 abbrev pub Places : List Want → (List ℕ → Cell) → (List ℕ → Cell) → Type 0
 Places ws old new = (n : List ℕ) → new n ≡ placed ws n (old n)
 
--- Each wanted file whose bytes differ was put, in the order of the wants, and nothing else was done;
+-- Each wanted file whose bytes differ was put, in the order of the wants, and nothing else was
+-- done;
 -- or a first part of that.
 abbrev pub MakesPuts : List Want → (List ℕ → Cell) → (List ℕ → Cell) → Option (List Change)
     → Option (List Change) → Type 0
@@ -58,7 +59,8 @@ abbrev pub BeginsPuts : List Want → (List ℕ → Cell) → (List ℕ → Cell
     → Option (List Change) → Type 0
 BeginsPuts ws old new before now = Begun ws (flat_map (putting old) ws) old new before now
 
--- What stands on the shelf after an end. Before the puts it is as it was; where a name's call failed,
+-- What stands on the shelf after an end. Before the puts it is as it was; where a name's call
+-- failed,
 -- it is a wanted one, and is open; where the text could not be written, the puts were made; where
 -- memory was wanting, one name is open.
 abbrev pub Stopped : End → List Want → (List ℕ → Cell) → (List ℕ → Cell) → Type 0
@@ -69,8 +71,10 @@ Stopped (E.Publishing m) ws old new =
 Stopped E.Out ws old new = Places ws old new
 Stopped E.Memory ws old new = (m : List ℕ) × PutsLeave (bytes_eq m) ws old new
 
--- It came to its end: its text is written, and each wanted name has its bytes. Exactly the puts that
--- were needed were made. The roots are those that the words name, one picture was taken, no line was
+-- It came to its end: its text is written, and each wanted name has its bytes. Exactly the puts
+-- that
+-- were needed were made. The roots are those that the words name, one picture was taken, no line
+-- was
 -- read, no run and no step was made, and no call of a device failed.
 pub record Finishes (pair : Pair) (how : Ended) (before after : Scene) : Type 0 where
   pub ended : IfSome before.coming (λ ps. (formatting_for ps).ended ≡ how)

@@ -1,4 +1,4 @@
-ghost use Rattle.std.specs.Prelude.{◌≡◌, IfErr, IfOk, OnErr, OnOk, true};
+ghost use Rattle.std.specs.Prelude.{◌≡◌, IfErr, IfOk, OnErr, OnOk, true, IsSome};
 ghost use Rattle.format_site.specs.Formats.{BeginsPuts, MakesPuts, Places, Stopped};
 ghost use Rattle.outside.specs.Causes.{Caused};
 ghost use Rattle.outside.specs.Contents.{Appends, AppendsPart};
@@ -18,6 +18,7 @@ use std::alloc::Global;
 
 /// The source's next picture, or None where it is past the limits of a scan.
 pub(crate) fn scan_next<S: Source>(alloc: Global, source: &mut S) -> Result<Option<Picture>, End>
+    requires open { IsSome (S.opened source.old) }
     ensures ok { IfOk result (λ picture. IsScan (S.coming source.old) picture) }
     ensures taken { OnOk result (IsPassed (S.coming source.old) (S.coming source.new)) }
     ensures err { OnErr result (IsPerhapsPassed (S.coming source.old) (S.coming source.new)) }
@@ -36,7 +37,8 @@ pub(crate) fn scan_next<S: Source>(alloc: Global, source: &mut S) -> Result<Opti
 
 /// Puts files on the shelf. The first call that fails ends it, by the name of its file.
 pub(crate) fn put_files<H: Shelf>(alloc: Global, shelf: &mut H, wants: &[Want]) -> Result<(), End>
-    requires { are_apart wants.now ≡ true }
+    requires open { IsSome (H.opened shelf.old) }
+    requires apart { are_apart wants.now ≡ true }
     ensures ok { OnOk result (Places wants.now (H.cell shelf.old) (H.cell shelf.new)) }
     ensures err { IfErr result
         (λ e. Stopped e wants.now (H.cell shelf.old) (H.cell shelf.new)) }

@@ -1,4 +1,4 @@
-ghost use Rattle.std.specs.Prelude.{◌≡◌, IfErr, IfSome, OnOk, true};
+ghost use Rattle.std.specs.Prelude.{◌≡◌, IfErr, IfSome, IsSome, OnOk, true};
 ghost use Rattle.format_site.specs.Following.{Follows, given_by};
 ghost use Rattle.format_site.specs.Formats.{formatting_for, formatting_of};
 ghost use Rattle.outside.specs.Causes.{Caused};
@@ -23,7 +23,8 @@ fn put_and_report<H: Shelf, O: Sink>(
     shelf: &mut H,
     out: &mut O,
 ) -> Result<Ended, End>
-    requires { are_apart made.now.wants.items ≡ true }
+    requires open { IsSome (H.opened shelf.old) }
+    requires apart { are_apart made.now.wants.items ≡ true }
     ensures follows { Follows (given_by made.now) result
         (outs H.Shelf O.Sink shelf.old out.old) (outs H.Shelf O.Sink shelf.new out.new) }
     ensures kind { IfErr result IsRoundEnd }
@@ -44,6 +45,7 @@ fn format_picture<H: Shelf, O: Sink>(
     shelf: &mut H,
     out: &mut O,
 ) -> Result<Ended, End>
+    requires open { IsSome (H.opened shelf.old) }
     ensures follows { Follows (formatting_of picture) result
         (outs H.Shelf O.Sink shelf.old out.old) (outs H.Shelf O.Sink shelf.new out.new) }
     ensures kind { IfErr result IsRoundEnd }
@@ -65,6 +67,8 @@ pub(crate) fn format_next<S: Source, H: Shelf, N: Lines, O: Sink>(
     alloc: Global,
     devices: &mut Devices<S, H, N, O>,
 ) -> Result<Ended, End>
+    requires source_open { IsSome (S.opened devices.old.source) }
+    requires shelf_open { IsSome (H.opened devices.old.shelf) }
     ensures follows { IfSome (S.coming devices.old.source) (λ ps. Follows (formatting_for ps) result
         (outs H.Shelf O.Sink devices.old.shelf devices.old.out)
         (outs H.Shelf O.Sink devices.new.shelf devices.new.out)) }

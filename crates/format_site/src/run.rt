@@ -1,5 +1,5 @@
-ghost use Rattle.std.specs.Prelude.{◌≡◌, IfErr, IfOk};
-ghost use Rattle.compiler.specs.Standing.{Counts};
+ghost use Rattle.std.specs.Prelude.{◌≡◌, IfErr, IfOk, None};
+ghost use Rattle.engine_session.specs.Standing.{Counts};
 ghost use Rattle.format_site.specs.Formats.{Breaks, Finishes};
 ghost use Rattle.site_build.specs.Scenes.{seen};
 
@@ -22,6 +22,8 @@ pub fn format_site<S: Source, H: Shelf, N: Lines, O: Sink>(
     pair: &Pair,
     devices: &mut Devices<S, H, N, O>,
 ) -> Result<Ended, End>
+    requires source_closed { S.opened devices.old.source ≡ None }
+    requires shelf_closed { H.opened devices.old.shelf ≡ None }
     ensures ok { IfOk result (λ how. (spent : Counts) → Finishes pair.now how
         (seen S.Source H.Shelf N.Lines O.Sink devices.old spent)
         (seen S.Source H.Shelf N.Lines O.Sink devices.new spent)) }

@@ -3,10 +3,10 @@ use Rattle.std.proofs.Common.{◌≡◌, ◌⊎◌, inl, inr, ◌∙◌, ℕ, Bo
 use Rattle.std.specs.Prelude.{Result}
 use Rattle.std.proofs.Math.Path.{subst₂}
 use Rattle.command_words.specs.declared.commands.Work.{Work}
-use Rattle.compiler.specs.Compiler.{Compiled, compiler}
-use Rattle.compiler.specs.Standing.{Counts, Gives, compiled_in, machine_in}
-use Rattle.compiler.specs.declared.building.Built.{Built}
-use Rattle.compiler.proofs.Moves.{along}
+use Rattle.engine_session.specs.Compiler.{Compiled, compiler}
+use Rattle.engine_session.specs.Standing.{Counts, Gives, compiled_in, machine_in}
+use Rattle.engine_session.specs.declared.building.Built.{Built}
+use Rattle.engine_session.proofs.Moves.{along}
 use Rattle.engine_rows.specs.Restoring.{IsSoundKept}
 use Rattle.engine_turns.specs.declared.core_data.Core.{Core}
 use Rattle.kept_state.specs.Stored.{Stored}

@@ -1,7 +1,7 @@
 -- What becomes of the rows of a keeper.
 use Rattle.std.proofs.Common.{◌≡◌, ◌⊎◌, ℕ, List, Some, None, option_map, inl, inr, refl, subst}
 use Rattle.std.specs.Prelude.{Result, Ok, OnOk}
-use Rattle.compiler.specs.Standing.{IsIn, compiled_in}
+use Rattle.engine_session.specs.Standing.{IsIn, compiled_in}
 use Rattle.engine_turns.specs.declared.core_data.Core.{Core}
 use Rattle.keepers.specs.Keeping.{Follows, Lists, replaced, unchanged}
 use Rattle.outside.specs.Cells.{Cell}

@@ -3,8 +3,8 @@ use Rattle.std.proofs.Common.{◌≡◌, ◌⊎◌, ◌∙◌, ap, inr, ℕ, Lis
 use Rattle.std.specs.Prelude.{Result, Ok, Err, IfOk, OnOk}
 use Rattle.std.proofs.Math.Path.{subst₂}
 use Rattle.command_words.specs.declared.commands.Work.{Work}
-use Rattle.compiler.specs.Compiler.{Compiled}
-use Rattle.compiler.specs.Standing.{Counts, counts, HasSpentAtMost, IsIn, SpendsAs}
+use Rattle.engine_session.specs.Compiler.{Compiled}
+use Rattle.engine_session.specs.Standing.{Counts, counts, HasSpentAtMost, IsIn, SpendsAs}
 use Rattle.engine_rows.specs.Restoring.{IsSoundKept}
 use Rattle.engine_turns.specs.declared.core_data.Core.{Core}
 use Rattle.kept_state.specs.Stored.{Stored}

@@ -1,8 +1,8 @@
 -- What is kept of faithful works in which all is settled is sound.
 use Rattle.std.proofs.Common.{◌≡◌, ℕ, List, subst}
 use Rattle.pan_ast.specs.declared.work.Limits.{Limits}
-use Rattle.compiler.specs.Standing.{IsFaithful, compiled_in}
-use Rattle.compiler.specs.declared.works.Works.{Works}
+use Rattle.engine_session.specs.Standing.{IsFaithful, compiled_in}
+use Rattle.engine_session.specs.declared.works.Works.{Works}
 use Rattle.engine_rows.specs.Restoring.{IsSoundKept}
 use Rattle.engine_rows.proofs.Stored.{kept_sound}
 use Rattle.kept_works.specs.Kept.{kept_by}

@@ -2,7 +2,7 @@
 -- sound, and keeps its own.
 use Rattle.std.specs.Prelude.{◌≡◌, ℕ, List, Some, IfSome}
 use Rattle.command_words.specs.declared.commands.Work.{Work}
-use Rattle.compiler.specs.Standing.{HasSpentAtMost, SpendsAs}
+use Rattle.engine_session.specs.Standing.{HasSpentAtMost, SpendsAs}
 use Rattle.engine_rows.specs.Restoring.{IsSoundKept}
 use Rattle.keepers.specs.Keeping.{Follows, unchanged}
 use Rattle.kept_state.specs.Stored.{Stored}

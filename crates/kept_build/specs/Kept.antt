@@ -1,7 +1,7 @@
 -- What a build keeps, by the engine that it begins with.
 use Rattle.std.specs.Prelude.{ℕ, List, Option, Some, None, option_map}
 use Rattle.command_words.specs.declared.commands.Work.{Work}
-use Rattle.compiler.specs.Compiler.{Compiled}
+use Rattle.engine_session.specs.Compiler.{Compiled}
 use Rattle.kept_state.specs.Stored.{Stored}
 use Rattle.kept_works.specs.Kept.{IsSoundFor, begun_with, kept_by}
 use Rattle.outside.specs.declared.source.MemFile.{MemFile}

@@ -1,6 +1,6 @@
 -- A build behind its devices: what is kept of a settled engine, and how far a build came.
 use Rattle.std.specs.Prelude.{ℕ, List, Option, None, option_map, Result, IfOk, IfErr, OnOk, OnErr}
-use Rattle.compiler.specs.Standing.{compiled_in, machine_in}
+use Rattle.engine_session.specs.Standing.{compiled_in, machine_in}
 use Rattle.engine_turns.specs.declared.core_data.Core.{Core}
 use Rattle.kept_state.specs.Stored.{Stored}
 use Rattle.outside.specs.Cells.{Cell}

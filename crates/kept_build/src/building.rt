@@ -1,6 +1,6 @@
-ghost use Rattle.std.specs.Prelude.{◌≡◌, IfErr, IfOk, IfSome, List, OnErr, OnOk, map, option_map, true, ℕ};
-ghost use Rattle.compiler.specs.Compiler.{Compiled};
-ghost use Rattle.compiler.specs.Standing.{Counts, IsFaithful, IsIn};
+ghost use Rattle.std.specs.Prelude.{◌≡◌, IfErr, IfOk, IfSome, IsSome, List, OnErr, OnOk, map, option_map, true, ℕ};
+ghost use Rattle.engine_session.specs.Compiler.{Compiled};
+ghost use Rattle.engine_session.specs.Standing.{Counts, IsFaithful, IsIn};
 ghost use Rattle.keepers.specs.Keeping as keeping;
 ghost use Rattle.keepers.specs.Keeping.{unchanged};
 ghost use Rattle.kept_build.specs.Builds.{Ends, Stops};
@@ -26,7 +26,7 @@ use crate::handed::KeptDevices;
 use crate::opening::Found;
 use base::{Steps, Text};
 use command_words::Work;
-use compiler::{Built, Works, build};
+use engine_session::{Built, Works, build};
 use keepers::Keeper;
 use kept_works::{begin, rows};
 use outside::{Lines, Shelf, Sink, Source, StoreError};
@@ -89,6 +89,7 @@ fn publish_built<R: Runner, S: Source, H: Shelf, K: Keeper, N: Lines, O: Sink>(
     over: Over,
     devices: &mut KeptDevices<S, H, K, N, O>,
 ) -> Result<Ended, End>
+    requires shelf_open { IsSome (H.opened devices.old.devices.shelf) }
     requires proper { proper (wants_of built.now.profiles.items) ≡ true }
     requires listed { Lists over.listed.items (H.cell devices.old.devices.shelf) }
     requires rising { are_rising (map row_name over.rows.items) ≡ true }
@@ -127,6 +128,7 @@ fn finish<R: Runner, S: Source, H: Shelf, K: Keeper, N: Lines, O: Sink>(
     over: Over,
     devices: &mut KeptDevices<S, H, K, N, O>,
 ) -> Result<Ended, End>
+    requires shelf_open { IsSome (H.opened devices.old.devices.shelf) }
     requires settled { reached ≡ Reached.All → turns_left_of works.now.engine.core ≡ 0 }
     requires listed { Lists over.listed.items (H.cell devices.old.devices.shelf) }
     requires rising { are_rising (map row_name over.rows.items) ≡ true }
@@ -169,6 +171,8 @@ pub(crate) fn build_found<R: Runner, S: Source, H: Shelf, K: Keeper, N: Lines, O
     found: Found,
     steps: &mut Steps<L>,
 ) -> Result<Ended, End>
+    requires source_open { IsSome (S.opened devices.old.devices.source) }
+    requires shelf_open { IsSome (H.opened devices.old.devices.shelf) }
     requires listed { Lists found.listed.items (H.cell devices.old.devices.shelf) }
     requires rising { are_rising (map row_name found.rows.items) ≡ true }
     ensures ok { IfOk result (λ how. Ends R.meaning work.now found.listed.items found.rows.items

@@ -1,5 +1,5 @@
-ghost use Rattle.std.specs.Prelude.{◌≡◌, IfErr, IfOk, OnOk, Some};
-ghost use Rattle.compiler.specs.Standing.{Counts};
+ghost use Rattle.std.specs.Prelude.{◌≡◌, IfErr, IfOk, OnOk, Some, None};
+ghost use Rattle.engine_session.specs.Standing.{Counts};
 ghost use Rattle.keepers.specs.Keeping.{Follows, unchanged};
 ghost use Rattle.kept_build.specs.Builds.{Opens, Unbegun};
 ghost use Rattle.kept_build.specs.Ends.{IsKeeperFailure, IsLoading, StoreAt};
@@ -57,6 +57,8 @@ pub fn open<S: Source, H: Shelf, K: Keeper, N: Lines, O: Sink>(
     request: &KeptWork<'_>,
     devices: &mut KeptDevices<S, H, K, N, O>,
 ) -> Result<Found, End>
+    requires source_closed { S.opened devices.old.devices.source ≡ None }
+    requires shelf_closed { H.opened devices.old.devices.shelf ≡ None }
     ensures listed { IfOk result
         (λ found. Lists found.listed.items (H.cell devices.new.devices.shelf)) }
     ensures ok { IfOk result (λ found. (spent : Counts) → Opens request.now.work.now

@@ -1,4 +1,4 @@
-ghost use Rattle.std.specs.Prelude.{◌≡◌, ◌⊎◌, IfErr, IfOk};
+ghost use Rattle.std.specs.Prelude.{◌≡◌, ◌⊎◌, IfErr, IfOk, None};
 ghost use Rattle.kept_build.specs.Builds.{Breaks, Finishes, Unbegun};
 ghost use Rattle.kept_build.specs.Stores.{store_of};
 ghost use Rattle.site_build.specs.Scenes.{scene};
@@ -8,7 +8,7 @@ use crate::ends::End;
 use crate::handed::{KeptDevices, KeptWork};
 use crate::opening::open;
 use base::Steps;
-use compiler::Works;
+use engine_session::Works;
 use keepers::Keeper;
 use outside::{Lines, Shelf, Sink, Source};
 use runner::Runner;
@@ -31,6 +31,8 @@ pub fn build_kept<R: Runner, S: Source, H: Shelf, K: Keeper, N: Lines, O: Sink, 
     devices: &mut KeptDevices<S, H, K, N, O>,
     steps: &mut Steps<L>,
 ) -> Result<Ended, End>
+    requires source_closed { S.opened devices.old.devices.source ≡ None }
+    requires shelf_closed { H.opened devices.old.devices.shelf ≡ None }
     ensures ok { IfOk result (λ how. Finishes R.meaning request.now.work.now
         request.now.file.now how
         (scene R.Runner S.Source H.Shelf N.Lines O.Sink works.old.runner devices.old.devices

@@ -15,8 +15,8 @@ use Rattle.engine_turns.specs.Places.{file_number_in}
 use Rattle.engine_turns.specs.States.{pictured}
 use Rattle.engine_rows.specs.Restoring.{file_row, has_number, is_short, is_fit, IsRestored}
 use Rattle.engine_rows.proofs.Restores.{fits_is}
-use Rattle.compiler.specs.Compiler.{nothing}
-use Rattle.compiler.specs.Standing.{compiled_in, AreNumbers, IsIn}
+use Rattle.engine_session.specs.Compiler.{nothing}
+use Rattle.engine_session.specs.Standing.{compiled_in, AreNumbers, IsIn}
 use Rattle.kept_works.specs.Kept.{resumed, are_same_dirs, are_same_limits, is_under, fits, begun_with}
 
 pub same_dirs : (a b : List (List ℕ)) → are_same_dirs a b ≡ true → a ≡ b

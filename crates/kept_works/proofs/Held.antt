@@ -7,9 +7,9 @@ use Rattle.engine_turns.specs.Ready.{core_state}
 use Rattle.rebuild.specs.Engines.{is_ready, value_of}
 use Rattle.rebuild.proofs.Engines.{ready_is}
 use Rattle.engine_rows.specs.Storing.{kept_file, kept_objects, kept_of}
-use Rattle.compiler.specs.Compiler.{Compiled}
-use Rattle.compiler.specs.Standing.{compiled_in, IsIn}
-use Rattle.compiler.proofs.Moves.{along, rows_are}
+use Rattle.engine_session.specs.Compiler.{Compiled}
+use Rattle.engine_session.specs.Standing.{compiled_in, IsIn}
+use Rattle.engine_session.proofs.Moves.{along, rows_are}
 use Rattle.kept_works.specs.Kept.{kept_by}
 
 module _ {T : Type 0} (core : Core T) (ready : is_ready core ≡ true) where

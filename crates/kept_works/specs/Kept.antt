@@ -9,7 +9,7 @@ use Rattle.engine_turns.specs.States.{pictured}
 use Rattle.rebuild.specs.Engines.{Meanings}
 use Rattle.engine_rows.specs.Restoring.{file_row, restored_situation, is_fit, IsSoundKept}
 use Rattle.engine_rows.specs.Storing.{kept_file, kept_objects}
-use Rattle.compiler.specs.Compiler.{Compiled, nothing, rows_of}
+use Rattle.engine_session.specs.Compiler.{Compiled, nothing, rows_of}
 
 -- what an engine that goes on from what was kept has come to: its files, and its situation
 abbrev pub resumed : {T : Type 0} → Stored → Compiled T

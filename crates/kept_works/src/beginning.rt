@@ -2,13 +2,13 @@ ghost use Rattle.std.specs.Prelude.{◌≡◌, IfOk, OnOk, Some, option_map, tru
 ghost use Rattle.kept_state.specs.Stored.{stored};
 ghost use Rattle.load_path.specs.Pictures.{are_short};
 ghost use Rattle.engine_turns.specs.States.{pictured};
-ghost use Rattle.compiler.specs.Standing.{IsBegun, IsIn};
+ghost use Rattle.engine_session.specs.Standing.{IsBegun, IsIn};
 ghost use Rattle.kept_works.specs.Kept.{is_under, begun_with, IsSoundFor};
 
 use crate::pictures::picture_of;
 use base::{Seq, Text};
-use compiler::{Works, start};
 use engine_rows::{RestoreError, restore};
+use engine_session::{Works, start};
 use kept_state::Kept;
 use load_path::Picture;
 use pan_ast::Limits;

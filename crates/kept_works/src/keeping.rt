@@ -1,12 +1,12 @@
 ghost use Rattle.std.specs.Prelude.{◌≡◌, ℕ, List, IfOk, map, true};
 ghost use Rattle.pan_ast.specs.declared.work.Limits.{Limits};
 ghost use Rattle.stored_rows.specs.Rows.{row_name, are_rising};
-ghost use Rattle.compiler.specs.Compiler.{Compiled};
-ghost use Rattle.compiler.specs.Standing.{IsIn};
+ghost use Rattle.engine_session.specs.Compiler.{Compiled};
+ghost use Rattle.engine_session.specs.Standing.{IsIn};
 ghost use Rattle.kept_works.specs.Kept.{rows_by};
 
-use compiler::Works;
 use engine_rows::kept;
+use engine_session::Works;
 use record_rows::encode;
 use runner::Runner;
 use std::alloc::{AllocError, Global};

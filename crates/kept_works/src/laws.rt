@@ -3,9 +3,9 @@ ghost use Rattle.pan_ast.specs.declared.work.Limits.{Limits};
 ghost use Rattle.kept_state.specs.Stored.{Stored, object_name};
 ghost use Rattle.record_rows.specs.Rows.{Give};
 ghost use Rattle.rebuild.specs.Engines.{objects_of, turns_left_of};
-ghost use Rattle.compiler.specs.Compiler.{Compiled};
-ghost use Rattle.compiler.specs.Standing.{IsFaithful, IsIn};
-ghost use Rattle.compiler.specs.declared.works.Works.{Works};
+ghost use Rattle.engine_session.specs.Compiler.{Compiled};
+ghost use Rattle.engine_session.specs.Standing.{IsFaithful, IsIn};
+ghost use Rattle.engine_session.specs.declared.works.Works.{Works};
 ghost use Rattle.engine_rows.specs.Restoring.{IsSoundKept};
 ghost use Rattle.kept_works.specs.Kept.{kept_by};
 

@@ -38,7 +38,8 @@ IsFilled (Ok b) header object answers s m n =
     (t : Program) × (defaults_run answers s m ≡ Done tt t n) × (b ≡ built_of object header t)
 IsFilled (Err x) header object answers s m n = Stops x n (defaults_run answers s m)
 
--- such an outcome as a run over words: its end with the keys that it asked and their numbers, or the
+-- such an outcome as a run over words: its end with the keys that it asked and their numbers, or
+-- the
 -- object that it waits for
 abbrev pub ran_ended : {T : Type 0} → (Key → Word Content) → Outcome (Unit {0}) (End T)
     → Ran Key (End T)

@@ -12,7 +12,7 @@ use crate::rest::Rest;
 use crate::runs::{Ran, build_in, check_in};
 use base::{Seq, Steps, Text};
 use load_path::Picture;
-use pan_ast::{Change, Limits};
+use pan_ast::{Change, Limits, Place};
 use path_tree::Name;
 use run_world::Kept;
 use runner::{BuildEnd, Built, CheckEnd, Known, Log, Runner};
@@ -56,6 +56,22 @@ fn put_no_null(changes: &[Change]) -> bool
     changes.iter().all(|change| puts_no_null(change))
 }
 
+fn is_build_fault(end: &BuildEnd<Rest>) -> bool {
+    match end {
+        BuildEnd::Fault(_fault, _trace) => true,
+        BuildEnd::Done(_built, _trace) => false,
+        BuildEnd::Need(_name) => false,
+    }
+}
+
+fn is_check_fault(end: &CheckEnd) -> bool {
+    match end {
+        CheckEnd::Fault(_fault, _trace) => true,
+        CheckEnd::Done(_trace) => false,
+        CheckEnd::Need(_name) => false,
+    }
+}
+
 impl Library {
     /// An empty picture, no directories, and no runs yet.
     pub fn new(alloc: Global) -> Library
@@ -70,6 +86,12 @@ impl Library {
             kept: Kept::new(alloc),
             runs: 0,
         }
+    }
+
+    /// The places of the calls and includes inside which the last run of an object had its fault, the innermost
+    /// first; none where it had no fault, or where they were taken before.
+    pub fn take_trail(&self, object: &str) -> Option<Vec<Place>> {
+        self.kept.trails.take(object)
     }
 }
 
@@ -114,6 +136,7 @@ impl Runner for Library {
     ) -> Result<BuildEnd<Rest>, AllocError> {
         let alloc = self.alloc;
         let kept = mem::replace(&mut self.kept, Kept::new(alloc));
+        kept.trails.begin();
         let Ran { end, kept, spent } = build_in::<Brand, K, Brand>(
             alloc,
             Blank::new(1),
@@ -127,6 +150,7 @@ impl Runner for Library {
         self.kept = kept;
         self.runs = count_up(self.runs);
         let end = end?;
+        self.kept.trails.end(name.as_str(), is_build_fault(&end));
         steps.pay(spent);
         Ok(end)
     }
@@ -140,6 +164,7 @@ impl Runner for Library {
     ) -> Result<CheckEnd, AllocError> {
         let alloc = self.alloc;
         let kept = mem::replace(&mut self.kept, Kept::new(alloc));
+        kept.trails.begin();
         let Ran { end, kept, spent } = check_in::<Brand, K, Brand, Brand>(
             alloc,
             Blank::new(1),
@@ -153,6 +178,9 @@ impl Runner for Library {
         self.kept = kept;
         self.runs = count_up(self.runs);
         let end = end?;
+        self.kept
+            .trails
+            .end(built.object.as_str(), is_check_fault(&end));
         steps.pay(spent);
         Ok(end)
     }

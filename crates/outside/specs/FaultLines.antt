@@ -31,7 +31,8 @@ pub record Keeps (text : List ℕ) (kept : Kept) : Type 0 where
   pub lines : kept.lines ≡ take MAX_FAULT_LINES (fault_lines text)
   pub line : kept.line ≡ line_behind [] text
 
--- the lines that are kept once a line has ended: it is added where it tells a fault and there is room
+-- the lines that are kept once a line has ended: it is added where it tells a fault and there is
+-- room
 abbrev pub with_line : List (List ℕ) → List ℕ → List (List ℕ)
 with_line lines line =
     if tells_fault line && nat_lt (length lines) MAX_FAULT_LINES

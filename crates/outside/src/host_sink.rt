@@ -8,26 +8,29 @@ use crate::faults::Faults;
 use crate::sink::Sink;
 use std::io::Write;
 
-/// A writer of the host, as standard output. It tells nothing of what it holds.
+/// A writer of the host, as standard output, and one for notes, as standard error. It tells nothing of
+/// what it holds.
 #[derive(Drop)]
-pub struct HostSink<W: Write + Drop> {
+pub struct HostSink<W: Write + Drop, N: Write + Copy + Drop> {
     writer: W,
+    notes: N,
     faults: Faults,
 }
 
-impl<W: Write + Drop> HostSink<W> {
-    /// A sink over a writer.
-    pub fn new(writer: W) -> HostSink<W>
+impl<W: Write + Drop, N: Write + Copy + Drop> HostSink<W, N> {
+    /// A sink over a writer, with another one for notes.
+    pub fn new(writer: W, notes: N) -> HostSink<W, N>
         ensures { result.faults.count ≡ 0 }
     {
         HostSink {
             writer,
+            notes,
             faults: Faults::new(),
         }
     }
 }
 
-impl<W: Write + Drop> Sink for HostSink<W> {
+impl<W: Write + Drop, N: Write + Copy + Drop> Sink for HostSink<W, N> {
     ghost use Rattle.std.specs.Prelude.{None};
 
     ghost held = { λ _. None };
@@ -50,5 +53,11 @@ impl<W: Write + Drop> Sink for HostSink<W> {
             Ok(()) => Ok(()),
             Err(error) => Err(self.faults.judge(&error)),
         }
+    }
+
+    fn note(&self, bytes: &[u8]) {
+        let mut notes = self.notes;
+        // A note that could not be written is no trouble of the session.
+        let _ = notes.write_all(bytes);
     }
 }

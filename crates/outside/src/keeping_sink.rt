@@ -60,4 +60,8 @@ impl<S: Sink + Drop> Sink for KeepingSink<S> {
         self.kept.take(bytes)?;
         self.sink.write(bytes)
     }
+
+    fn note(&self, bytes: &[u8]) {
+        self.sink.note(bytes);
+    }
 }

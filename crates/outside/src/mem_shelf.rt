@@ -1,4 +1,4 @@
-ghost use Rattle.std.specs.Prelude.{◌≡◌, ◌≤◌, ◌↔◌, [], OnOk, OnErr, IfOk, IfSome, IsErrOf, Some, None, true, length};
+ghost use Rattle.std.specs.Prelude.{◌≡◌, ◌≤◌, ◌↔◌, [], OnOk, OnErr, IfOk, IfSome, IsErrOf, IsSome, Some, None, true, length};
 ghost use Rattle.outside.specs.Calls.{is_to_fail, after_call, no_calls};
 ghost use Rattle.outside.specs.Causes.{HasCause};
 ghost use Rattle.outside.specs.Cells.{Sets, AllBut, IsReadOf, AreSame, Names, TellsAsMuch};
@@ -67,6 +67,7 @@ impl Shelf for MemShelf {
     }
 
     fn open_root(&mut self, root: &str) -> Result<(), StoreError>
+        requires closed { self.old.shelf.root ≡ None }
         ensures opened { OnOk result (self.new.shelf.root ≡ Some root.now) }
         ensures refused { OnErr result (self.new.shelf.root ≡ self.old.shelf.root) }
         ensures same { AreSame (cell_of self.old.shelf.held) (cell_of self.new.shelf.held) }
@@ -82,6 +83,7 @@ impl Shelf for MemShelf {
     }
 
     fn names(&mut self, into: &mut Vec<Text>) -> Result<(), StoreError>
+        requires open { IsSome self.old.shelf.root }
         ensures ok { OnOk result (Names (cell_of self.old.shelf.held) into.new.items) }
         ensures opened { self.new.shelf.root ≡ self.old.shelf.root }
         ensures same { AreSame (cell_of self.old.shelf.held) (cell_of self.new.shelf.held) }
@@ -97,6 +99,7 @@ impl Shelf for MemShelf {
     }
 
     fn read(&mut self, name: &str, most: usize, into: &mut Vec<u8>) -> Result<bool, StoreError>
+        requires open { IsSome self.old.shelf.root }
         ensures ok { IfOk result (λ there. IfSome (cell_of self.old.shelf.held name.now)
             (IsReadOf most there into.new.items)) }
         ensures within { OnOk result (length into.new.items ≤ most) }
@@ -114,6 +117,7 @@ impl Shelf for MemShelf {
     }
 
     fn put(&mut self, name: &str, bytes: &[u8]) -> Result<(), StoreError>
+        requires open { IsSome self.old.shelf.root }
         ensures ok { OnOk result (Sets (cell_of self.old.shelf.held) name.now (Some bytes.now)
             (cell_of self.new.shelf.held)) }
         ensures refused { OnErr result (AllBut (cell_of self.old.shelf.held) name.now
@@ -134,6 +138,7 @@ impl Shelf for MemShelf {
     }
 
     fn remove(&mut self, name: &str) -> Result<(), StoreError>
+        requires open { IsSome self.old.shelf.root }
         ensures ok { OnOk result (Sets (cell_of self.old.shelf.held) name.now (None)
             (cell_of self.new.shelf.held)) }
         ensures refused { OnErr result (AllBut (cell_of self.old.shelf.held) name.now

@@ -61,4 +61,7 @@ impl Sink for MemSink {
         }
         self.sink.write(bytes)
     }
+
+    // There is no reader.
+    fn note(&self, _bytes: &[u8]) {}
 }

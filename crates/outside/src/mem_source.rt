@@ -1,4 +1,4 @@
-ghost use Rattle.std.specs.Prelude.{◌≡◌, ◌≤◌, ◌<◌, ◌↔◌, [], OnOk, OnErr, IfOk, IfSome, IsErrOf, Some, None, true, length, option_map};
+ghost use Rattle.std.specs.Prelude.{◌≡◌, ◌≤◌, ◌<◌, ◌↔◌, [], OnOk, OnErr, IfOk, IfSome, IsErrOf, IsSome, Some, None, true, length, option_map};
 ghost use Rattle.outside.specs.Calls.{is_to_fail, after_call, no_calls};
 ghost use Rattle.outside.specs.Causes.{HasCause};
 ghost use Rattle.outside.specs.Pictures.{next_picture, later_pictures, Finds, are_distinct, are_pictures};
@@ -54,6 +54,7 @@ impl Source for MemSource {
     }
 
     fn open_root(&mut self, root: &str) -> Result<(), StoreError>
+        requires closed { self.old.source.root ≡ None }
         ensures opened { OnOk result (self.new.source.root ≡ Some root.now) }
         ensures refused { OnErr result (self.new.source.root ≡ self.old.source.root) }
         ensures coming { Some self.new.source.coming ≡ Some self.old.source.coming }
@@ -70,6 +71,7 @@ impl Source for MemSource {
     }
 
     fn begin_scan(&mut self) -> Result<usize, StoreError>
+        requires open { IsSome self.old.source.root }
         ensures count { IfOk result (λ n. n ≡ length self.new.source.scanned) }
         ensures taken { OnOk result (Some self.new.source.scanned
             ≡ option_map next_picture (Some self.old.source.coming)) }
@@ -96,7 +98,8 @@ impl Source for MemSource {
     }
 
     fn read(&mut self, i: usize, into: &mut Vec<u8>) -> Result<Got, StoreError>
-        requires { i < length self.old.source.scanned }
+        requires open { IsSome self.old.source.root }
+        requires counted { i < length self.old.source.scanned }
         ensures ok { IfOk result (λ got. IfSome (Some self.old.source.scanned)
             (λ files. Finds files i got into.new.items)) }
         ensures within { OnOk result (length into.new.items ≤ MAX_FILE_BYTES) }

@@ -1,4 +1,4 @@
-ghost use Rattle.std.specs.Prelude.{◌≡◌, ◌≤◌, ℕ, List, OnOk, OnErr, IfOk, IfSome, Option, Some, None, length};
+ghost use Rattle.std.specs.Prelude.{◌≡◌, ◌≤◌, ℕ, List, OnOk, OnErr, IfOk, IfSome, IsSome, Option, Some, None, length};
 ghost use Rattle.outside.specs.Causes.{HasCause};
 ghost use Rattle.outside.specs.Cells.{Cell, Sets, AllBut, IsReadOf, AreSame, Names, TellsAsMuch};
 ghost use Rattle.outside.specs.Changes.{Does};
@@ -17,9 +17,9 @@ pub enum Change {
     Removed(Text),
 }
 
-/// Names with bytes.
+/// Names with bytes. A shelf is opened once, and no name is asked of it, put or removed before.
 ///
-/// `opened` is the root that the shelf was opened with last. `cell` is what the shelf tells of each name, and
+/// `opened` is the root that the shelf was opened with, None as long as it is closed. `cell` is what the shelf tells of each name, and
 /// `changes` are the names that were put and removed so far, in order, where it tells them.
 pub trait Shelf {
     ghost opened: { Self → Option (List ℕ) };
@@ -34,8 +34,9 @@ pub trait Shelf {
     fn faults(&self) -> u64
         ensures { result ≡ fault_count self.now };
 
-    /// Makes the shelf ready. A refused call leaves it as it was.
+    /// Opens the shelf at a root, and makes it ready. A refused call leaves it closed, so it may be tried again.
     fn open_root(&mut self, root: &str) -> Result<(), StoreError>
+        requires closed { opened self.old ≡ None }
         ensures opened { OnOk result (opened self.new ≡ Some root.now) }
         ensures refused { OnErr result (opened self.new ≡ opened self.old) }
         ensures same { AreSame (cell self.old) (cell self.new) }
@@ -44,6 +45,7 @@ pub trait Shelf {
 
     /// Gives all names that are there, and no other. After a refusal `into` is unspecified.
     fn names(&mut self, into: &mut Vec<Text>) -> Result<(), StoreError>
+        requires open { IsSome (opened self.old) }
         ensures ok { OnOk result (Names (cell self.old) into.new.items) }
         ensures opened { opened self.new ≡ opened self.old }
         ensures same { AreSame (cell self.old) (cell self.new) }
@@ -53,6 +55,7 @@ pub trait Shelf {
     /// Reads the first `most` bytes of a name, or gives false where it is absent. At Ok `into` holds those
     /// bytes alone, and nothing where the name is absent. After a refusal `into` is unspecified.
     fn read(&mut self, name: &str, most: usize, into: &mut Vec<u8>) -> Result<bool, StoreError>
+        requires open { IsSome (opened self.old) }
         ensures ok { IfOk result (λ there. IfSome (cell self.old name.now)
             (IsReadOf most there into.new.items)) }
         ensures within { OnOk result (length into.new.items ≤ most) }
@@ -63,6 +66,7 @@ pub trait Shelf {
 
     /// Gives the name these bytes. A refused call leaves this name unspecified, and all others as they were.
     fn put(&mut self, name: &str, bytes: &[u8]) -> Result<(), StoreError>
+        requires open { IsSome (opened self.old) }
         ensures ok { OnOk result (Sets (cell self.old) name.now (Some bytes.now) (cell self.new)) }
         ensures refused { OnErr result (AllBut (cell self.old) name.now (cell self.new)) }
         ensures tells { TellsAsMuch (cell self.old) (cell self.new) }
@@ -75,6 +79,7 @@ pub trait Shelf {
     /// Takes the name away. One that is absent already is fine. A refused call leaves this name unspecified,
     /// and all others as they were.
     fn remove(&mut self, name: &str) -> Result<(), StoreError>
+        requires open { IsSome (opened self.old) }
         ensures ok { OnOk result (Sets (cell self.old) name.now None (cell self.new)) }
         ensures refused { OnErr result (AllBut (cell self.old) name.now (cell self.new)) }
         ensures tells { TellsAsMuch (cell self.old) (cell self.new) }

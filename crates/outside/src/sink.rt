@@ -4,9 +4,9 @@ ghost use Rattle.outside.specs.Contents.{Appends, AppendsPart};
 
 use crate::error::StoreError;
 
-/// A list of bytes that are written.
+/// A list of bytes that are written, and notes for a reader beside it.
 ///
-/// `held` are the bytes, where the sink tells them.
+/// `held` are the bytes, where the sink tells them. Notes are none of them, and no clause speaks of a note.
 pub trait Sink {
     ghost held: { Self → Option (List ℕ) };
 
@@ -21,4 +21,7 @@ pub trait Sink {
         ensures ok { OnOk result (Appends (held self.old) bytes.now (held self.new)) }
         ensures refused { OnErr result (AppendsPart (held self.old) bytes.now (held self.new)) }
         ensures cause { HasCause (fault_count self.old) (fault_count self.new) result };
+
+    /// Tells a reader something beside what is written, where there is one to be told.
+    fn note(&self, bytes: &[u8]);
 }

@@ -1,4 +1,4 @@
-ghost use Rattle.std.specs.Prelude.{◌≡◌, ◌≤◌, ◌<◌, ℕ, List, OnOk, OnErr, IfOk, IfSome, Option, Some, length, option_map, true};
+ghost use Rattle.std.specs.Prelude.{◌≡◌, ◌≤◌, ◌<◌, ℕ, List, OnOk, OnErr, IfOk, IfSome, IsSome, Option, Some, None, length, option_map, true};
 ghost use Rattle.outside.specs.Causes.{HasCause};
 ghost use Rattle.outside.specs.Pictures.{next_picture, later_pictures, NameOf, Finds, are_distinct};
 ghost use Rattle.outside.specs.declared.source.MemFile.{MemFile};
@@ -25,9 +25,9 @@ pub enum Got {
     TooLong,
 }
 
-/// Files to read, one picture of them after the other.
+/// Files to read, one picture of them after the other. A source is opened once, and no picture is asked of it before.
 ///
-/// `opened` is the root that the source was opened with last. `coming` are the pictures still to come, and
+/// `opened` is the root that the source was opened with, None as long as it is closed. `coming` are the pictures still to come, and
 /// `scanned` the one that was taken last, where the source tells them. `count` is the number of files of the
 /// picture taken last.
 pub trait Source {
@@ -45,8 +45,10 @@ pub trait Source {
     fn faults(&self) -> u64
         ensures { result ≡ fault_count self.now };
 
-    /// Makes the source ready to scan. A refused call leaves it as it was.
+    /// Opens the source at a root, and makes it ready to scan. A refused call leaves it closed, so it may be tried
+    /// again.
     fn open_root(&mut self, root: &str) -> Result<(), StoreError>
+        requires closed { opened self.old ≡ None }
         ensures opened { OnOk result (opened self.new ≡ Some root.now) }
         ensures refused { OnErr result (opened self.new ≡ opened self.old) }
         ensures coming { coming self.new ≡ coming self.old }
@@ -57,6 +59,7 @@ pub trait Source {
     /// Takes the next picture, an empty one where none is left, and gives the number of its files. No name
     /// stands twice in it. A refused call takes none.
     fn begin_scan(&mut self) -> Result<usize, StoreError>
+        requires open { IsSome (opened self.old) }
         ensures count { IfOk result (λ n. n ≡ count self.new) }
         ensures taken { OnOk result (scanned self.new ≡ option_map next_picture (coming self.old)) }
         ensures later { OnOk result (coming self.new
@@ -77,7 +80,8 @@ pub trait Source {
     /// Reads file `i` of the picture taken last. At Ok `into` holds its bytes alone, and nothing where it
     /// is gone or too long. After a refusal `into` is unspecified.
     fn read(&mut self, i: usize, into: &mut Vec<u8>) -> Result<Got, StoreError>
-        requires { i < count self.old }
+        requires open { IsSome (opened self.old) }
+        requires counted { i < count self.old }
         ensures ok { IfOk result (λ got. IfSome (scanned self.old)
             (λ files. Finds files i got into.new.items)) }
         ensures within { OnOk result (length into.new.items ≤ MAX_FILE_BYTES) }

@@ -52,4 +52,7 @@ impl Sink for SureSink {
         self.written.extend_from_slice(bytes)?;
         Ok(())
     }
+
+    // There is no reader.
+    fn note(&self, _bytes: &[u8]) {}
 }

@@ -1,5 +1,8 @@
-use base::{Bytes, Steps, Text};
-use compiler::Works;
+ghost use Rattle.std.specs.Prelude.{◌≤◌, IfSome, length};
+ghost use Rattle.base.specs.declared.limits.TheConstants.{MAX_FILE_BYTES};
+
+use base::{Bytes, Seq, Steps, Text};
+use engine_session::Works;
 use expected_tokens::{Expectation, expected, expected_text};
 use fault_causes::{Cause as Known, cause_of, missed_files};
 use fault_notes::{
@@ -9,14 +12,15 @@ use fault_notes::{
 use load_path::Content;
 use numbers::number_of;
 use object_run::Library;
-use pan_ast::{Code, Place};
+use pan_ast::{Code, Failure, Place};
 use pan_blame::Leaf;
 use path_tree::Path;
 use runner::Runner;
 use std::alloc::{AllocError, Global};
 use std::sync::ledger::Ledger;
+use template_cache::read_template;
 use wanted_types::wanted;
-use works_again::push_place;
+use works_again::{build_end_again, push_place};
 
 /// The most bytes of a file that is looked at for what could stand in the place of a wrong token.
 const MAX_EXPLAINED_BYTES: usize = 100_000;
@@ -86,7 +90,7 @@ fn cause_at<L: Ledger>(
 ) -> Result<Cause, AllocError> {
     let terms = path.terms.as_slice();
     let Some(known) = cause_of(alloc, works, object, terms, steps)? else {
-        return Ok(Cause::unknown());
+        return Ok(Cause::unknown(alloc));
     };
     let Known {
         built,
@@ -99,6 +103,7 @@ fn cause_at<L: Ledger>(
         wanted: Some(Bytes::from_vec(text)?),
         looked_for: None,
         set_by: setter_of(alloc, setter)?,
+        trace: Seq::new(alloc),
     })
 }
 
@@ -111,7 +116,7 @@ fn value_cause<L: Ledger>(
     steps: &mut Steps<L>,
 ) -> Result<Cause, AllocError> {
     let (Some(place), Some(path)) = (place_in(alloc, fault)?, path_in(alloc, fault)?) else {
-        return Ok(Cause::unknown());
+        return Ok(Cause::unknown(alloc));
     };
     cause_at(alloc, works, object, &place, &path, steps)
 }
@@ -136,7 +141,7 @@ fn file_cause<R: Runner>(
     object: &str,
     fault: &[u8],
 ) -> Result<Cause, AllocError> {
-    let mut cause = Cause::unknown();
+    let mut cause = Cause::unknown(alloc);
     let Ok(name) = str::from_utf8(detail_in(fault)) else {
         return Ok(cause);
     };
@@ -158,31 +163,125 @@ fn expectation_text(alloc: Global, told: &Expectation) -> Result<Bytes, AllocErr
     Ok(Bytes::from_vec(text)?)
 }
 
+/// The bytes of a file of the picture that is not too long to be looked at.
+fn explained_bytes<'a>(works: &'a Works<Library>, file: &Text) -> Option<&'a [u8]>
+    ensures { IfSome result (λ bytes. length bytes.now ≤ MAX_FILE_BYTES) }
+{
+    match works.runner.picture().find(file.as_str()) {
+        Some(Content::Bytes(bytes)) if bytes.as_slice().len() <= MAX_EXPLAINED_BYTES => {
+            Some(bytes.as_slice())
+        }
+        _ => None,
+    }
+}
+
 /// What could stand at a place of a file where a wrong token is.
 fn expected_at(
     alloc: Global,
     works: &Works<Library>,
     place: &Place,
 ) -> Result<Option<Bytes>, AllocError> {
-    let Some(Content::Bytes(bytes)) = works.runner.picture().find(place.file.as_str()) else {
+    let Some(bytes) = explained_bytes(works, &place.file) else {
         return Ok(None);
     };
-    if bytes.as_slice().len() > MAX_EXPLAINED_BYTES {
-        return Ok(None);
-    }
-    match expected(alloc, &place.file, bytes.as_slice())? {
+    match expected(alloc, &place.file, bytes)? {
         Some(told) if told.place == *place => Ok(Some(expectation_text(alloc, &told)?)),
         _ => Ok(None),
     }
 }
 
+/// Whether a fault has a code.
+fn is_of(code: Code, fault: &[u8]) -> bool {
+    fault.starts_with(code.text().as_bytes())
+}
+
+/// The name in the header of a file's template, where the file reads as one.
+fn header_name(
+    alloc: Global,
+    works: &Works<Library>,
+    file: &Text,
+) -> Result<Option<Bytes>, AllocError> {
+    let Some(bytes) = explained_bytes(works, file) else {
+        return Ok(None);
+    };
+    match read_template(alloc, file, bytes) {
+        Ok(template) => {
+            let name = template.name.as_str();
+            Ok(Some(Bytes::from_slice(alloc, name.as_bytes())?))
+        }
+        Err(Failure::Memory) => Err(AllocError),
+        Err(Failure::Fault(_fault)) => Ok(None),
+    }
+}
+
 /// What could stand in the place of the wrong token of a file.
 fn syntax_cause(alloc: Global, works: &Works<Library>, fault: &[u8]) -> Result<Cause, AllocError> {
-    let mut cause = Cause::unknown();
+    let mut cause = Cause::unknown(alloc);
     if let Some(place) = place_in(alloc, fault)? {
         cause.wanted = expected_at(alloc, works, &place)?;
     }
     Ok(cause)
+}
+
+/// What a template is named by its header, and the name that it was found by.
+fn name_cause(alloc: Global, works: &Works<Library>, fault: &[u8]) -> Result<Cause, AllocError> {
+    let mut cause = Cause::unknown(alloc);
+    if let Some(place) = place_in(alloc, fault)? {
+        cause.value = header_name(alloc, works, &place.file)?;
+        cause.wanted = Some(Bytes::from_slice(alloc, detail_in(fault))?);
+    }
+    Ok(cause)
+}
+
+/// What is known of what a fault of an object is about, by its code.
+fn cause_by_code<L: Ledger>(
+    alloc: Global,
+    works: &mut Works<Library>,
+    object: &str,
+    fault: &[u8],
+    steps: &mut Steps<L>,
+) -> Result<Cause, AllocError> {
+    if has_cause(fault) {
+        return value_cause(alloc, works, object, fault, steps);
+    }
+    if misses_file(fault) {
+        return file_cause(alloc, works, object, fault);
+    }
+    if is_of(Code::BadSyntax, fault) {
+        return syntax_cause(alloc, works, fault);
+    }
+    if is_of(Code::WrongTemplate, fault) {
+        return name_cause(alloc, works, fault);
+    }
+    Ok(Cause::unknown(alloc))
+}
+
+/// Places as a reader is told them.
+fn texts_of(alloc: Global, places: &[Place]) -> Result<Seq<Bytes>, AllocError> {
+    let mut texts = Vec::new(alloc);
+    for place in places {
+        let mut text = Vec::new(alloc);
+        push_place(&mut text, place)?;
+        texts.push(Bytes::from_vec(text)?)?;
+    }
+    Ok(Seq::from_vec(texts))
+}
+
+/// The calls and includes inside which an object has its fault. Where no run here had it, its build is run again.
+fn trace_of<L: Ledger>(
+    alloc: Global,
+    works: &mut Works<Library>,
+    object: &str,
+    steps: &mut Steps<L>,
+) -> Result<Seq<Bytes>, AllocError> {
+    if let Some(places) = works.runner.take_trail(object) {
+        return texts_of(alloc, &places);
+    }
+    let _end = build_end_again(works, object, steps)?;
+    match works.runner.take_trail(object) {
+        Some(places) => texts_of(alloc, &places),
+        None => Ok(Seq::new(alloc)),
+    }
 }
 
 /// What is known beside its line of a fault of an object.
@@ -194,18 +293,13 @@ fn looked_up<L: Ledger>(
     steps: &mut Steps<L>,
 ) -> Result<Cause, AllocError> {
     let Ok(object) = str::from_utf8(object) else {
-        return Ok(Cause::unknown());
+        return Ok(Cause::unknown(alloc));
     };
-    if has_cause(fault) {
-        return value_cause(alloc, works, object, fault, steps);
+    let mut cause = cause_by_code(alloc, works, object, fault, steps)?;
+    if let Ok(trace) = trace_of(alloc, works, object, steps) {
+        cause.trace = trace;
     }
-    if misses_file(fault) {
-        return file_cause(alloc, works, object, fault);
-    }
-    if fault.starts_with(Code::BadSyntax.text().as_bytes()) {
-        return syntax_cause(alloc, works, fault);
-    }
-    Ok(Cause::unknown())
+    Ok(cause)
 }
 
 /// What is known beside its line of a fault of an object, where memory is ample.
@@ -218,7 +312,7 @@ pub fn cause_in<L: Ledger>(
 ) -> Cause {
     match looked_up(alloc, works, object, fault, steps) {
         Ok(cause) => cause,
-        Err(AllocError) => Cause::unknown(),
+        Err(AllocError) => Cause::unknown(alloc),
     }
 }
 

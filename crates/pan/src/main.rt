@@ -4,9 +4,11 @@
 
 ghost use Rattle.std.specs.Prelude.{◌≡◌, ◌<◌};
 
+mod aside;
 mod causes;
 mod notes;
 
+use crate::aside::Aside;
 use crate::notes::{Told, write_notes};
 use base::{Steps, Text};
 use end_notes::asked_of;
@@ -47,7 +49,7 @@ fn run<L: Ledger>(rt: &HostRuntime, blank: Blank) -> Result<Status, AllocError>
         source: HostSource::new(rt.clone()?),
         shelf: HostShelf::new(rt.clone()?, asked_of(rt.alloc(), words)?),
         lines: HostLines::new(rt.reader()),
-        out: KeepingSink::new(rt.alloc(), HostSink::new(rt.stdout())),
+        out: KeepingSink::new(rt.alloc(), HostSink::new(rt.stdout(), Aside::new(rt))),
     };
     let mut steps = Steps::<L>::new(blank);
     let keeper = HostKeeper::new(rt.clone()?);

@@ -2,8 +2,8 @@ use crate::causes::{cause_in, explained};
 use base::limits::MAX_FILE_BYTES;
 use base::{Bytes, Steps, Text};
 use command_words::{Command, read_command};
-use compiler::Works;
 use end_notes::{Wrong, bad_rows_note, removals_note, trouble_note, usage_note, wrong_of};
+use engine_session::Works;
 use fault_notes::{
     Cause, Colours, Repeated, compiler_lines, file_in, json_lines, note_of, report_of, rest_of,
     setter_file,
@@ -121,7 +121,7 @@ fn repeated_cause<L: Ledger>(
             let fault = told.fault.as_slice();
             cause_in(rt.alloc(), works, object.as_slice(), fault, steps)
         }
-        [] => Cause::unknown(),
+        [] => Cause::unknown(rt.alloc()),
     }
 }
 
@@ -282,6 +282,11 @@ fn form_in(rt: &HostRuntime) -> Option<Form> {
         "json" => Some(Form::Json),
         _ => Some(Form::Notes),
     }
+}
+
+/// Whether a reader wants notes.
+pub fn wants_notes(rt: &HostRuntime) -> bool {
+    form_in(rt).is_some()
 }
 
 /// Writes to standard error what a reader wants to know of a call that ended: of a build the meaning and the place of

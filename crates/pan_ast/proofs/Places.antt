@@ -14,11 +14,13 @@ stepped_place (AtBinary op y) p x = refl
 stepped_place (AtAnd y) p x = refl
 stepped_place (AtOr y) p x = refl
 
-steps_place : (ss : List Step) (p : Place) (x : Node) → node_place x ≡ p → node_place (steps_on p x ss) ≡ p
+steps_place : (ss : List Step) (p : Place) (x : Node) → node_place x ≡ p
+    → node_place (steps_on p x ss) ≡ p
 steps_place [] p x e = e
 steps_place (s ∷ ss) p x e = steps_place ss p (stepped p x s) (stepped_place s p x)
 
-form_place : (f : Form-F (Place → Node) (Place → Item) Step Item Node Reference) (p : Place) → node_place (form_step f p) ≡ p
+form_place : (f : Form-F (Place → Node) (Place → Item) Step Item Node Reference) (p : Place)
+    → node_place (form_step f p) ≡ p
 form_place (Form-F.Long n) p = refl
 form_place (Form-F.Text t) p = refl
 form_place (Form-F.Boolean b) p = refl
@@ -33,7 +35,8 @@ form_place (Form-F.Spine a s ss) p = steps_place ss.items p _ (stepped_place s.v
 pub place_seen : (n : RNode) → node_place (node_seen n) ≡ n.place
 place_seen n = search (rules, the_lemmas, form_place)
 
-item_form_place : (f : ItemForm-F (Place → Node) (Place → Item) Step Item Node Reference) (p : Place) → item_place (item_form_step f p) ≡ p
+item_form_place : (f : ItemForm-F (Place → Node) (Place → Item) Step Item Node Reference)
+    (p : Place) → item_place (item_form_step f p) ≡ p
 item_form_place (ItemForm-F.Block is) p = refl
 item_form_place (ItemForm-F.If c t None) p = refl
 item_form_place (ItemForm-F.If c t (Some e)) p = refl

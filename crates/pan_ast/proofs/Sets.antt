@@ -1,4 +1,5 @@
--- Two proofs that a template, or a fault, is the same are the same: so a type may keep such a fact as a ghost.
+-- Two proofs that a template, or a fault, is the same are the same: so a type may keep such a fact
+-- as a ghost.
 use Rattle.std.specs.Prelude.{ℕ, ℤ, Bool, List, Option, Result}
 use Rattle.std.proofs.Props.{props}
 use Rattle.path_tree.specs.declared.operators.UnaryOp.{UnaryOp}

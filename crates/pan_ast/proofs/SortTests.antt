@@ -8,8 +8,10 @@ use Rattle.pan_ast.specs.Sorts.{code, at}
 -- the sort of a number: what `code` is undone by
 decode : ℕ → Sort
 decode n =
-    cond (eqb n 0) sorts.Int (cond (eqb n 1) sorts.Text (cond (eqb n 2) sorts.Name (cond (eqb n 3) sorts.End (
-    cond (eqb n 4) sorts.If (cond (eqb n 5) sorts.Else (cond (eqb n 6) sorts.While (cond (eqb n 7) sorts.For (
+    cond (eqb n 0) sorts.Int (cond (eqb n 1) sorts.Text
+    (cond (eqb n 2) sorts.Name (cond (eqb n 3) sorts.End (
+    cond (eqb n 4) sorts.If (cond (eqb n 5) sorts.Else
+    (cond (eqb n 6) sorts.While (cond (eqb n 7) sorts.For (
     cond (eqb n 8) sorts.Foreach (cond (eqb n 9) sorts.True (cond (eqb n 10) sorts.False (
     cond (eqb n 11) sorts.Undef (cond (eqb n 12) sorts.Null (cond (eqb n 13) sorts.With (
     cond (eqb n 14) sorts.Extensible (cond (eqb n 15) sorts.Include (cond (eqb n 16) sorts.Choice (
@@ -19,14 +21,19 @@ decode n =
     cond (eqb n 26) sorts.Bind (cond (eqb n 27) sorts.Valid (cond (eqb n 28) sorts.Prefix (
     cond (eqb n 29) sorts.Word (cond (eqb n 30) sorts.OpenBrace (cond (eqb n 31) sorts.CloseBrace (
     cond (eqb n 32) sorts.Open (cond (eqb n 33) sorts.Close (cond (eqb n 34) sorts.OpenBracket (
-    cond (eqb n 35) sorts.CloseBracket (cond (eqb n 36) sorts.Semicolon (cond (eqb n 37) sorts.Comma (
-    cond (eqb n 38) sorts.Colon (cond (eqb n 39) sorts.Question (cond (eqb n 40) sorts.ConditionalAssign (
+    cond (eqb n 35) sorts.CloseBracket (cond (eqb n 36) sorts.Semicolon
+    (cond (eqb n 37) sorts.Comma (
+    cond (eqb n 38) sorts.Colon (cond (eqb n 39) sorts.Question
+    (cond (eqb n 40) sorts.ConditionalAssign (
     cond (eqb n 41) sorts.Assign (cond (eqb n 42) sorts.Equal (cond (eqb n 43) sorts.NotEqual (
     cond (eqb n 44) sorts.Less (cond (eqb n 45) sorts.LessEqual (cond (eqb n 46) sorts.More (
     cond (eqb n 47) sorts.MoreEqual (cond (eqb n 48) sorts.Plus (cond (eqb n 49) sorts.Minus (
     cond (eqb n 50) sorts.Star (cond (eqb n 51) sorts.Slash (cond (eqb n 52) sorts.Percent (
-    cond (eqb n 53) sorts.Not (cond (eqb n 54) sorts.Flip (cond (eqb n 55) sorts.BitAnd (cond (eqb n 56) sorts.And (
-    cond (eqb n 57) sorts.BitOr (cond (eqb n 58) sorts.Or (cond (eqb n 59) sorts.BitXor (cond (eqb n 60) sorts.Range (sorts.NoSign)))))))))))))))))))))))))))))))))))))))))))))))))))))))))))))
+    cond (eqb n 53) sorts.Not (cond (eqb n 54) sorts.Flip
+    (cond (eqb n 55) sorts.BitAnd (cond (eqb n 56) sorts.And (
+    cond (eqb n 57) sorts.BitOr (cond (eqb n 58) sorts.Or
+    (cond (eqb n 59) sorts.BitXor (cond (eqb n 60) sorts.Range
+    (sorts.NoSign)))))))))))))))))))))))))))))))))))))))))))))))))))))))))))))
 
 decode-code : (s : Sort) → decode (code s) ≡ s
 unfolding decode
@@ -103,7 +110,8 @@ pub at_is : (s x : Sort) → x ≡ s → at s x ≡ true
 at_is s x e = rw e (at_same s)
 
 pub at_false : (s x : Sort) → at s x ≡ false → x ≢ s
-at_false s x e h = let e1 : at s s ≡ false = rw h at e in let t : at s s ≡ true = at_same s in absurd cc
+at_false s x e h = let e1 : at s s ≡ false = rw h at e in let t : at s s ≡ true = at_same s in
+    absurd cc
 
 pub at_miss : (s x : Sort) → x ≢ s → at s x ≡ false
 at_miss s x h = false_from_ne_true (at s x) (λ e. h (at_true s x e))

@@ -316,8 +316,10 @@ module _ (May : ℕ → Tokens → Type 0) where
                   let g = node_complete (down 9 (Chained s)) x t ts z v in (
                     g.0,
                     miss sorts.OpenBracket (sort t) (NeedItem (InReference f is x s))
-                        (when sorts.Assign (sort t) (NeedItem (InParts (right_side (reference f is)) s))
-                        (has_node (down 9 (Chained s)) x t)) (not_after (down 9 (Chained s)) x t ts z
+                        (when sorts.Assign (sort t)
+                        (NeedItem (InParts (right_side (reference f is)) s))
+                        (has_node (down 9 (Chained s)) x t)) (not_after (down 9 (Chained s)) x t ts
+                        z
                         sorts.OpenBracket refl refl v)
                         ∙ miss sorts.Assign (sort t)
                         (NeedItem (InParts (right_side (reference f is)) s))

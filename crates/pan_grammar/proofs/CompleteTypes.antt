@@ -456,7 +456,8 @@ module _ (May : ℕ → Tokens → Type 0) where
         NameRead t s,
         miss sorts.OpenBrace (sort t) _ _ (differs is_type_name (sort t) sorts.OpenBrace k refl)
             ∙ (miss sorts.Extensible (sort t) _ _ (differs is_type_name (sort t) sorts.Extensible k
-            refl) ∙ (miss sorts.Choice (sort t) _ _ (differs is_type_name (sort t) sorts.Choice k refl)
+            refl) ∙ (miss sorts.Choice (sort t) _ _ (differs is_type_name (sort t) sorts.Choice k
+            refl)
             ∙ taken (is_type_name (sort t)) _ _ k)),
         (b, r0, kb, (ss, r1, sx, (e, w, r2, rest, d, v, q))),
       )

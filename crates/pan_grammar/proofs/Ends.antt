@@ -172,7 +172,8 @@ never_left [] end σ e h = by (step σ end) refl (over (opens σ end)) h where
       let m : at_end (Done d.0) ≡ Err (Bad []) = rw d.1 at k in cc
 never_left (t ∷ before) end σ e h =
     by (λ y k. never_left before end y e k) (step σ t) refl (over (opens σ t)) h where
-      by : ((y : State) → run (before ++ end ∷ []) y ≡ Err (Bad []) → ⊥) → (o : Option State) → step σ t
+      by : ((y : State) → run (before ++ end ∷ []) y ≡ Err (Bad []) → ⊥) → (o : Option State)
+          → step σ t
           ≡ o → (b : Bool) → and_run o b (run (before ++ end ∷ [])) (t ∷ before ++ end ∷ [])
           ≡ Err (Bad []) → ⊥
       by again None q b k = cc

@@ -34,7 +34,8 @@ run_sound : (May : ℕ → Tokens → Type 0) → ((d : ℕ) (at : Tokens) → d
 run_sound May within [] σ z e = end_sound May σ z e
 run_sound May within (t ∷ ts) σ z e =
     by (λ y k. run_sound May within ts y z k) (step σ t) refl (over (opens σ t)) refl e where
-      by : ((y : State) → run ts y ≡ Ok z → Completes May y ts z) → (o : Option State) → step σ t ≡ o
+      by : ((y : State) → run ts y ≡ Ok z → Completes May y ts z) → (o : Option State) → step σ t
+          ≡ o
           → (b : Bool) → over (opens σ t) ≡ b → and_run o b (run ts) (t ∷ ts) ≡ Ok z
           → Completes May σ (t ∷ ts) z
       by again None h b q k = absurd cc
@@ -118,7 +119,8 @@ run_bad : (ts : Tokens) (σ : State) (bad : Tokens) → run ts σ ≡ Err (Bad b
 run_bad [] σ bad e = ended σ bad e
 run_bad (t ∷ ts) σ bad e =
     by (λ y k. run_bad ts y bad k) (step σ t) refl (over (opens σ t)) refl e where
-      by : ((y : State) → run ts y ≡ Err (Bad bad) → StopsBad y ts bad) → (o : Option State) → step σ t
+      by : ((y : State) → run ts y ≡ Err (Bad bad) → StopsBad y ts bad) → (o : Option State)
+          → step σ t
           ≡ o → (b : Bool) → over (opens σ t) ≡ b → and_run o b (run ts) (t ∷ ts) ≡ Err (Bad bad)
           → StopsBad σ (t ∷ ts) bad
       by again None h b q k = let i : t ∷ ts ≡ bad = cc in
@@ -135,7 +137,8 @@ run_bad (t ∷ ts) σ bad e =
               on,
               r.viable.1,
               step_sound (DeepInLast (length on)) σ t (r.before ++ on)
-                  r.viable.1 y h r.viable.2 (may_within (DeepInLast (length on)) σ t (r.before ++ on)
+                  r.viable.1 y h r.viable.2 (may_within (DeepInLast (length on)) σ t
+                  (r.before ++ on)
                   (λ d le. inl (omega arith))),
             );
             dead = λ x rest e on z w. let g = step_complete Anywhere σ t (r.before ++ x ∷ on) z w in

@@ -238,7 +238,8 @@ module _ (May : ℕ → Tokens → Type 0) where
             ]
         | inr k ↦ elim (when_cases sorts.Assign (sort t)
             (NeedItem (InParts (right_side (reference f is)) s)) _ y k.1) [
-              | inl h ↦ let g = back May (NeedItem (InParts (right_side (reference f is)) s)) y ts z h.1
+              | inl h ↦ let g = back May (NeedItem (InParts (right_side (reference f is)) s)) y ts z
+                  h.1
                   c in
                   inr (
                     [],

@@ -171,7 +171,8 @@ module _ (May : ℕ → Tokens → Type 0) where
                   | inr m ↦ elim (when_cases sorts.Include (sort t) (IncludeRead t.place h ss) _ y
                       m.1) [
                         | inl k ↦ let g = back (IncludeRead t.place h ss) y ts z k.1 c in
-                            with_statement h ss (stated t.place (statements.Include g.0)) (t ∷ ts) g.3.0
+                            with_statement h ss (stated t.place (statements.Include g.0)) (t ∷ ts)
+                            g.3.0
                             z (include_statement k.0 g.2 g.3.1) g.3.2
                         | inr m ↦ elim (when_cases sorts.Prefix (sort t) _ _ y m.1) [
                           | inl k ↦ let g = back _ y ts z k.1 c in

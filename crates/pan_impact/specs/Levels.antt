@@ -3,7 +3,8 @@ use Rattle.std.specs.Prelude.{ℕ, zero, suc, List, Bool, ◌&&◌, ◌||◌, le
 use Rattle.std.specs.List.{filter, list_any}
 
 module _ (starts : List ℕ → Bool) (reads : List ℕ → List ℕ → Bool) (names : List (List ℕ)) where
-  -- a name is reached through at most so many reads: it is a start, or it reads one of the names that
+  -- a name is reached through at most so many reads: it is a start, or it reads one of the names
+  -- that
   -- is reached through fewer
   abbrev pub within : ℕ → List ℕ → Bool
   within zero name = starts name

@@ -3,7 +3,7 @@ use Rattle.std.proofs.Common.{◌≡◌, ℕ, List, [], Option, Some, None, inl,
 use Rattle.std.specs.Prelude.{flat_map, option_map}
 use Rattle.command_words.specs.declared.commands.Command.{Command}
 use Rattle.command_words.specs.declared.commands.Command.TheVariants.{Build, Watch, Demo, Format}
-use Rattle.compiler.specs.Standing.{Counts}
+use Rattle.engine_session.specs.Standing.{Counts}
 use Rattle.format_site.specs.Formats as formats
 use Rattle.format_site.specs.Formats.{formatting_for, BeginsPuts}
 use Rattle.rebuild.specs.Engines.{Meanings}

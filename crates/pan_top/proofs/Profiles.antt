@@ -19,9 +19,9 @@ use Rattle.session.specs.declared.Answer.{Answer}
 use Rattle.session.specs.declared.Outcome.{Outcome}
 use Rattle.session.specs.declared.Outcome.TheVariants.{Profile}
 use Rattle.promised_profiles.proofs.Promised.{keeps_promise}
-use Rattle.compiler.specs.Compiler.{answer_of, outcome_by}
-use Rattle.compiler.specs.Names.{objects_in}
-use Rattle.compiler.proofs.Said.{found_in}
+use Rattle.engine_session.specs.Compiler.{answer_of, outcome_by}
+use Rattle.engine_session.specs.Names.{objects_in}
+use Rattle.engine_session.proofs.Said.{found_in}
 use Rattle.pan_top.specs.Profiles.{IsKept, AreKept}
 
 module _ {T : Type 0} (means : Meanings T)

@@ -1,8 +1,8 @@
 -- A demo, and the line of its end.
 use Rattle.std.proofs.Common.{◌≡◌, ℕ, Bool, true, false, List, [], ◌++◌, length, take, drop, Option, inl, inr, refl, sym, ap, subst, ◌∙◌, append_assoc, append-nil, ◌∷◌}
 use Rattle.std.specs.Prelude.{option_map}
-use Rattle.compiler.specs.Standing.{Counts, HasSpentAtMost, SpendsAs}
-use Rattle.compiler.proofs.Counting.{at_most}
+use Rattle.engine_session.specs.Standing.{Counts, HasSpentAtMost, SpendsAs}
+use Rattle.engine_session.proofs.Counting.{at_most}
 use Rattle.demo.specs.Demo.{Ends, Breaks}
 use Rattle.demo.proofs.Turning.{part_by, text_by}
 use Rattle.outside.specs.Contents.{Appends, AppendsPart}

@@ -3,8 +3,8 @@ use Rattle.std.proofs.Common.{◌≡◌, ℕ, Bool, false, List, [], Option, Som
 use Rattle.std.specs.Prelude.{Result, Ok, Err, IfErr, IfSome}
 use std.Path.{fun_ext}
 use Rattle.command_words.specs.declared.commands.Work.{Work}
-use Rattle.compiler.specs.Compiler.{Compiled}
-use Rattle.compiler.specs.Standing.{Counts, IsIn}
+use Rattle.engine_session.specs.Compiler.{Compiled}
+use Rattle.engine_session.specs.Standing.{Counts, IsIn}
 use Rattle.engine_turns.specs.declared.core_data.Core.{Core}
 use Rattle.outside.specs.Causes.{Counted}
 use Rattle.outside.specs.Cells.{Cell, AreSame}

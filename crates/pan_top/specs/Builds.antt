@@ -1,7 +1,7 @@
 -- How a build ends.
 use Rattle.std.specs.Prelude.{◌≡◌, ◌⊎◌, ℕ, List, Option, IfSome}
 use Rattle.command_words.specs.declared.commands.Work.{Work}
-use Rattle.compiler.specs.Standing.{HasSpentAtMost}
+use Rattle.engine_session.specs.Standing.{HasSpentAtMost}
 use Rattle.outside.specs.Causes.{Counted}
 use Rattle.outside.specs.Contents.{AppendsPart}
 use Rattle.outside.specs.Cells.{AreSame}
@@ -18,7 +18,8 @@ use Rattle.pan_top.specs.Statuses.{status_after, status_of, line_of, IsCut, Says
 use Rattle.pan_top.specs.declared.status.Status.{Status}
 use Rattle.pan_top.specs.declared.status.Status.TheVariants as S
 
--- what an end has written: a first part of the text where a write failed or memory was wanting, else
+-- what an end has written: a first part of the text where a write failed or memory was wanting,
+-- else
 -- its line
 abbrev pub Wrote : List ℕ → End → Status → Option (List ℕ) → Option (List ℕ) → Type 0
 Wrote text E.Out status old new = (status ≡ S.OutFault) × AppendsPart old text new

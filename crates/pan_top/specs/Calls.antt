@@ -41,7 +41,8 @@ file_of (Some (Watch w)) = w.state
 file_of (Some (Demo d)) = None
 file_of (Some (Format p)) = None
 
--- a build and a watcher keep their rows in that file; no other command does anything with the keeper
+-- a build and a watcher keep their rows in that file; no other command does anything with the
+-- keeper
 abbrev pub CallBy : {T : Type 0} → Meanings T → Option Command → Option (List ℕ) → Status → Scene
     → Scene → Store → Store → Type 0
 CallBy means (Some (Build w)) (Some file) status before after store store_now =

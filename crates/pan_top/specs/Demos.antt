@@ -1,8 +1,8 @@
 -- How a demo ends.
 use Rattle.std.specs.Prelude.{◌≡◌, ◌⊎◌, ℕ, List, ◌++◌, Option}
 use Rattle.command_words.specs.declared.commands.Demonstration.{Demonstration}
-use Rattle.compiler.specs.Compiler.{Compiled}
-use Rattle.compiler.specs.Standing.{Counts, HasSpentAtMost, SpendsAs}
+use Rattle.engine_session.specs.Compiler.{Compiled}
+use Rattle.engine_session.specs.Standing.{Counts, HasSpentAtMost, SpendsAs}
 use Rattle.demo.specs.Demo.{demo_session}
 use Rattle.outside.specs.Causes.{Counted}
 use Rattle.outside.specs.Contents.{Appends, AppendsPart}

@@ -22,7 +22,8 @@ module _ (pair : Pair) (status : Status) (before after : Scene) where
     pub is : status ≡ status_after ended
     pub formats : Finishes pair ended before after
 
-  -- It ended early, by this end: a part of that at most. The device whose call failed counts it. No run
+  -- It ended early, by this end: a part of that at most. The device whose call failed counts it. No
+  -- run
   -- and no step was made.
   pub record FormattedPart : Type 0 where
     pub end : End

@@ -17,7 +17,8 @@ use Rattle.pan_top.specs.declared.status.Status.TheVariants as S
 
 module _ {T : Type 0} (means : Meanings T) (w : Work) (file : List ℕ) (status : Status)
     (before after : Scene) (store store_now : Store) where
-  -- its devices were opened and the rows read, and a session was played that goes on from what these
+  -- its devices were opened and the rows read, and a session was played that goes on from what
+  -- these
   -- give, which is said where that is sound
   pub record KeptPlays : Type 0 where
     pub names : List (List ℕ)

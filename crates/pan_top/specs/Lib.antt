@@ -1,5 +1,6 @@
 -- What a stranger must believe: the statuses and their lines; how a build, a watcher, each of them
--- with a keeper, a demo and a formatting end; the call; what profiles keep; and what a layout keeps.
+-- with a keeper, a demo and a formatting end; the call; what profiles keep; and what a layout
+-- keeps.
 pub mod Statuses
 pub mod Builds
 pub mod KeptBuilds

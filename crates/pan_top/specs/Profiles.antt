@@ -13,18 +13,20 @@ use Rattle.session.specs.Sessions.{outcome_of}
 use Rattle.session.specs.Texts.{answer_in}
 use Rattle.session.specs.declared.Outcome.TheVariants.{Profile}
 use Rattle.promised_profiles.specs.Promised.{KeepsPromise}
-use Rattle.compiler.specs.Compiler.{compiler}
-use Rattle.compiler.specs.Names.{objects_in}
+use Rattle.engine_session.specs.Compiler.{compiler}
+use Rattle.engine_session.specs.Names.{objects_in}
 
 module _ {T : Type 0} (means : Meanings T)
     (promises : List (List ℕ) → Limits → Built T → List (Key × Content) → Type 0) where
-  -- It is the text of a tree that the object's build makes of the picture, in which its check finds no
+  -- It is the text of a tree that the object's build makes of the picture, in which its check finds
+  -- no
   -- fault: so the tree keeps what a check promises, over the true contents of files and objects.
   pub record IsKept (dirs : List (List ℕ)) (limits : Limits) (files : List PictureFile)
       (name json : List ℕ) : Type 0 where
     pub tree : Plain
     pub text : json ≡ profile_of tree
-    pub keeps : KeepsPromise (means dirs limits) files (objects_in files dirs) (promises dirs limits)
+    pub keeps : KeepsPromise (means dirs limits) files (objects_in files dirs)
+        (promises dirs limits)
         name tree
 
   -- that holds of each profile among the answers of a picture

@@ -1,7 +1,7 @@
 -- How a watcher ends.
 use Rattle.std.specs.Prelude.{◌≡◌, ◌⊎◌, ℕ, Bool, false, List, [], Option, Some, None, IfSome, codes, option_map, vec_items}
 use Rattle.command_words.specs.declared.commands.Work.{Work}
-use Rattle.compiler.specs.Compiler.{Compiled, nothing}
+use Rattle.engine_session.specs.Compiler.{Compiled, nothing}
 use Rattle.engine_turns.specs.declared.core_data.Core.{Core}
 use Rattle.outside.specs.Causes.{Counted}
 use Rattle.outside.specs.Cells.{Cell, AreSame}
@@ -30,7 +30,8 @@ use Rattle.pan_top.specs.Statuses.{status_after, Says}
 use Rattle.pan_top.specs.declared.status.Status.{Status}
 use Rattle.pan_top.specs.declared.status.Status.TheVariants as S
 
--- the status of a watcher whose lines did not end it, and the line of its end: where a text could not
+-- the status of a watcher whose lines did not end it, and the line of its end: where a text could
+-- not
 -- be written, or memory was wanting, nothing more is written
 abbrev pub status_at : End → Status
 status_at W.Lines = S.LinesFault
@@ -48,14 +49,17 @@ line_at W.TooMuch = Some (codes "too much\n")
 line_at W.TooManyLines = Some (codes "too many lines\n")
 line_at W.Memory = None
 
--- behind what was written stands the line of an end, or a part of it, as it was cut; or nothing does,
+-- behind what was written stands the line of an end, or a part of it, as it was cut; or nothing
+-- does,
 -- where the end has none
 abbrev pub EndsWith : Status → Option (List ℕ) → Status → Option (List ℕ) → Option (List ℕ) → Type 0
 EndsWith own None status old new = (status ≡ own) × (new ≡ old)
 EndsWith own (Some line) status old new = Says own line status old new
 
--- what a watcher holds beside its devices: its engine, whether that has taken a picture, what it knows
--- of the shelf, the rows that the keeper holds, where rows are kept, and whether the last report had a
+-- what a watcher holds beside its devices: its engine, whether that has taken a picture, what it
+-- knows
+-- of the shelf, the rows that the keeper holds, where rows are kept, and whether the last report
+-- had a
 -- fault
 pub record Holds (T : Type 0) : Type 0 where
   pub core : Core T
@@ -125,7 +129,8 @@ pub record Unbegun (w : Work) (status : Status) (before after : Scene) : Type 0 
   pub shelf_count : Counted (IsFailureOf D.Shelf end) before.shelf_count after.shelf_count
   pub out_count : Counted (status ≡ S.OutFault) before.out_count after.out_count
 
--- The status of a session that came to its end says whether its last report had a fault; one that did
+-- The status of a session that came to its end says whether its last report had a fault; one that
+-- did
 -- not has the status and the line of its end.
 abbrev pub Closes : Option End → Bool → Status → Option (List ℕ) → Option (List ℕ) → Type 0
 Closes None has_faults status old new =
@@ -165,8 +170,10 @@ module _ {T : Type 0} (means : Meanings T) (w : Work) where
   PlaysTo (Some end) e names ps r first last = Stopped (engine_for means w) means w.directories
       (limits_of w) (started e ps names) end r first last
 
-  -- A session was played, with the pictures that the source had to give, over the names on the shelf,
-  -- that begins with this engine and with these rows; what was played is said where this is sound. Its
+  -- A session was played, with the pictures that the source had to give, over the names on the
+  -- shelf,
+  -- that begins with this engine and with these rows; what was played is said where this is sound.
+  -- Its
   -- publisher may remove as many names as the words allow. The roots are those that the words name,
   -- and the lines and the sink have counted the failure that ended it, and no other.
   pub record Plays (sound : Type 0) (e : Compiled T) (rows : Option (List StoredRow))

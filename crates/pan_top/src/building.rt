@@ -1,3 +1,4 @@
+ghost use Rattle.std.specs.Prelude.{◌≡◌, None};
 ghost use Rattle.site_build.specs.Scenes.{scene};
 ghost use Rattle.pan_top.specs.Builds.{BuildCall};
 
@@ -5,7 +6,7 @@ use crate::closing::close_build;
 use crate::status::Status;
 use base::Steps;
 use command_words::Work;
-use compiler::Works;
+use engine_session::Works;
 use outside::{Lines, Shelf, Sink, Source};
 use runner::Runner;
 use site_build::{Devices, build_site};
@@ -20,6 +21,8 @@ pub fn build<R: Runner, S: Source, H: Shelf, N: Lines, O: Sink, L: Ledger>(
     devices: &mut Devices<S, H, N, O>,
     steps: &mut Steps<L>,
 ) -> Status
+    requires source_closed { S.opened devices.old.source ≡ None }
+    requires shelf_closed { H.opened devices.old.shelf ≡ None }
     ensures { BuildCall R.meaning work.now result
         (scene R.Runner S.Source H.Shelf N.Lines O.Sink works.old.runner devices.old steps.old)
         (scene R.Runner S.Source H.Shelf N.Lines O.Sink works.new.runner devices.new steps.new) }

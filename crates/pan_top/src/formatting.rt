@@ -1,5 +1,6 @@
+ghost use Rattle.std.specs.Prelude.{◌≡◌, None};
 ghost use Rattle.site_build.specs.Scenes.{seen};
-ghost use Rattle.compiler.specs.Standing.{Counts};
+ghost use Rattle.engine_session.specs.Standing.{Counts};
 ghost use Rattle.pan_top.specs.Formats.{FormatCall};
 
 use crate::closing::close_build;
@@ -16,6 +17,8 @@ pub fn format_templates<S: Source, H: Shelf, N: Lines, O: Sink>(
     pair: &Pair,
     devices: &mut Devices<S, H, N, O>,
 ) -> Status
+    requires source_closed { S.opened devices.old.source ≡ None }
+    requires shelf_closed { H.opened devices.old.shelf ≡ None }
     ensures { (spent : Counts) → FormatCall pair.now result
         (seen S.Source H.Shelf N.Lines O.Sink devices.old spent)
         (seen S.Source H.Shelf N.Lines O.Sink devices.new spent) }

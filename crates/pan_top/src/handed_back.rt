@@ -1,7 +1,7 @@
 ghost use Rattle.std.specs.Prelude.{◌≡◌};
 
 use crate::status::Status;
-use compiler::Works;
+use engine_session::Works;
 use kept_build::KeptDevices;
 use runner::Runner;
 use site_build::Devices;

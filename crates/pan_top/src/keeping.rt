@@ -1,3 +1,4 @@
+ghost use Rattle.std.specs.Prelude.{◌≡◌, None};
 ghost use Rattle.kept_build.specs.Stores.{store_of};
 ghost use Rattle.pan_top.specs.KeptBuilds.{KeptCall};
 ghost use Rattle.site_build.specs.Scenes.{scene};
@@ -5,7 +6,7 @@ ghost use Rattle.site_build.specs.Scenes.{scene};
 use crate::closing::close_kept;
 use crate::status::Status;
 use base::Steps;
-use compiler::Works;
+use engine_session::Works;
 use keepers::Keeper;
 use kept_build::{KeptDevices, KeptWork, build_kept};
 use outside::{Lines, Shelf, Sink, Source};
@@ -21,6 +22,8 @@ pub fn build_with_rows<R: Runner, S: Source, H: Shelf, K: Keeper, N: Lines, O: S
     devices: &mut KeptDevices<S, H, K, N, O>,
     steps: &mut Steps<L>,
 ) -> Status
+    requires source_closed { S.opened devices.old.devices.source ≡ None }
+    requires shelf_closed { H.opened devices.old.devices.shelf ≡ None }
     ensures { KeptCall R.meaning request.now.work.now request.now.file.now result
         (scene R.Runner S.Source H.Shelf N.Lines O.Sink works.old.runner devices.old.devices
         steps.old)

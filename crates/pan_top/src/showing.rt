@@ -1,5 +1,5 @@
 ghost use Rattle.std.specs.Prelude.{◌≡◌, ◌≤◌, ℕ, List, Option};
-ghost use Rattle.compiler.specs.Standing.{Counts, counts};
+ghost use Rattle.engine_session.specs.Standing.{Counts, counts};
 ghost use Rattle.outside.specs.Causes.{Counted};
 ghost use Rattle.pan_top.specs.Demos.{Shows, limits_given, shown_by};
 ghost use Rattle.site_build.specs.Scenes.{Scene};
@@ -9,8 +9,8 @@ use crate::closing::say;
 use crate::status::Status;
 use base::Steps;
 use command_words::Demonstration;
-use compiler::Works;
 use demo::{End, Plan, demo};
+use engine_session::Works;
 use outside::Sink;
 use pan_ast::Limits;
 use runner::Runner;

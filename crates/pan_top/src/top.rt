@@ -1,4 +1,4 @@
-ghost use Rattle.std.specs.Prelude.{◌≤◌, ℕ, List, [], Some, length};
+ghost use Rattle.std.specs.Prelude.{◌≤◌, ℕ, List, [], Some, length, ◌≡◌, None};
 ghost use Rattle.asking.specs.declared.limits.TheConstants.{MAX_WORK};
 ghost use Rattle.command_words.specs.Commands.{command_of};
 ghost use Rattle.command_words.specs.declared.commands.Command.TheVariants.{Build};
@@ -8,8 +8,8 @@ ghost use Rattle.kept_build.specs.Stores.{store_of};
 ghost use Rattle.kept_state.specs.Stored.{Stored};
 ghost use Rattle.record_rows.specs.Rows.{Give};
 ghost use Rattle.blamed_works.specs.Profiles.{TellsProfiles};
-ghost use Rattle.compiler.specs.Rounds.{HasRounds};
-ghost use Rattle.compiler.specs.Untouched.{LeavesRest};
+ghost use Rattle.engine_session.specs.Rounds.{HasRounds};
+ghost use Rattle.engine_session.specs.Untouched.{LeavesRest};
 ghost use Rattle.engine_laws.specs.Circles.{AreCircles};
 ghost use Rattle.engine_laws.specs.Names.{Name};
 ghost use Rattle.engine_machine.specs.Machine.{runner_of};
@@ -31,7 +31,7 @@ use crate::status::Status;
 use crate::watching::watch;
 use base::{Steps, Text};
 use command_words::{Command, Work, read_command};
-use compiler::{Works, new_works};
+use engine_session::{Works, new_works};
 use keepers::Keeper;
 use kept_build::{KeptDevices, KeptWork};
 use outside::{Lines, Shelf, Sink, Source};
@@ -49,6 +49,8 @@ fn carry_out_build<R: Runner, S: Source, H: Shelf, K: Keeper, N: Lines, O: Sink,
     keeper: K,
     steps: &mut Steps<L>,
 ) -> HandedBack<R, S, H, K, N, O>
+    requires source_closed { S.opened devices.source ≡ None }
+    requires shelf_closed { H.opened devices.shelf ≡ None }
     ensures { CallOf R.meaning (Some (Build work.now)) result.status
         (scene R.Runner S.Source H.Shelf N.Lines O.Sink works.runner devices steps.old)
         (scene R.Runner S.Source H.Shelf N.Lines O.Sink result.works.runner result.devices steps.new)
@@ -78,6 +80,8 @@ fn carry_out<R: Runner, S: Source, H: Shelf, K: Keeper, N: Lines, O: Sink, L: Le
     keeper: K,
     steps: &mut Steps<L>,
 ) -> HandedBack<R, S, H, K, N, O>
+    requires source_closed { S.opened devices.source ≡ None }
+    requires shelf_closed { H.opened devices.shelf ≡ None }
     ensures { CallOf R.meaning (command_of words.now) result.status
         (scene R.Runner S.Source H.Shelf N.Lines O.Sink runner devices steps.old)
         (scene R.Runner S.Source H.Shelf N.Lines O.Sink result.works.runner result.devices steps.new)
@@ -114,17 +118,18 @@ fn carry_out<R: Runner, S: Source, H: Shelf, K: Keeper, N: Lines, O: Sink, L: Le
 /// pictures that the source has to give, by what the runner means; a fault of a device, and want of memory, end it early.
 /// Each profile keeps what the runner's checks promise (`profiles`), and an edit of one file changes no answer but those
 /// of the objects that a watcher's `impact` names (`edits`). The leaves that its `blame` tells are those of the profile
-/// (`leaves`). What a round runs is what had changed, and its turns cost at most what the records and those runs may cost
-/// (`rounds`). An object is circular exactly where its chain of reads never ends (`circles`). A layout keeps the template,
+/// (`leaves`). What a round runs is what had changed, and its turns cost at most what the records and those runs may cost,
+/// those of a session at most the sum (`rounds`). An object is circular exactly where its chain of reads never ends (`circles`). A layout keeps the template,
 /// its comments and its annotations (`layouts`), and has itself as its layout (`settled`).
 ///
 /// Where the words name a file of rows, the keeper is opened there: a build and a watcher go on from the rows of an
 /// earlier run, and keep their own behind each publication. What is said of them stands on the rows at the beginning being
 /// sound, as those are that a build has kept, and as none are (`unkept`); no other command does anything with the keeper.
 ///
-/// The devices and the keeper are handed back with the status, and so is the runner, with the engine that it ended with.
-/// `steps` rises by the session's steps: one for each file that is taken, for each item that is compared, and the work
-/// of each run.
+/// The source and the shelf are new: neither was opened yet. The call opens each once, before it asks anything of it; a
+/// command that needs neither leaves them closed. The devices and the keeper are handed back with the status, and so is the
+/// runner, with the engine that it ended with. `steps` rises by the session's steps: one for each file that is taken, for
+/// each item that is compared, and the work of each run.
 pub fn pan<R: Runner, S: Source, H: Shelf, K: Keeper, N: Lines, O: Sink, L: Ledger>(
     alloc: Global,
     words: &[Text],
@@ -133,6 +138,8 @@ pub fn pan<R: Runner, S: Source, H: Shelf, K: Keeper, N: Lines, O: Sink, L: Ledg
     keeper: K,
     steps: &mut Steps<L>,
 ) -> HandedBack<R, S, H, K, N, O>
+    requires source_closed { S.opened devices.source ≡ None }
+    requires shelf_closed { H.opened devices.shelf ≡ None }
     ensures call { CallOf R.meaning (command_of words.now) result.status
         (scene R.Runner S.Source H.Shelf N.Lines O.Sink runner devices steps.old)
         (scene R.Runner S.Source H.Shelf N.Lines O.Sink result.works.runner result.devices steps.new)

@@ -1,7 +1,7 @@
-ghost use Rattle.std.specs.Prelude.{◌≡◌, ◌≤◌, ◌⊎◌, ℕ, List, None, Option, Some, false, IfOk, IfErr, OnOk, option_map, true, vec_items};
+ghost use Rattle.std.specs.Prelude.{◌≡◌, ◌≤◌, ◌⊎◌, ℕ, List, None, Option, Some, false, IfOk, IfErr, OnOk, option_map, true, vec_items, IsSome};
 ghost use Rattle.command_words.specs.declared.commands.Command.TheVariants.{Watch};
-ghost use Rattle.compiler.specs.Compiler.{Compiled};
-ghost use Rattle.compiler.specs.Standing.{IsBegun, IsIn};
+ghost use Rattle.engine_session.specs.Compiler.{Compiled};
+ghost use Rattle.engine_session.specs.Standing.{IsBegun, IsIn};
 ghost use Rattle.kept_build.specs.Kept.{IsSoundStart, begun_for};
 ghost use Rattle.kept_state.specs.Stored.{stored};
 ghost use Rattle.outside.specs.Causes.{Caused, Counted};
@@ -27,7 +27,7 @@ use crate::handed_back::{HandedBack, beside, hand_back, hand_back_kept};
 use crate::status::Status;
 use base::{Steps, Text};
 use command_words::Work;
-use compiler::{Works, start};
+use engine_session::{Works, start};
 use keepers::Keeper;
 use kept_build::{Found, KeptDevices, KeptWork, open as open_kept};
 use kept_state::Kept;
@@ -49,6 +49,8 @@ fn open<S: Source, H: Shelf>(
     source: &mut S,
     shelf: &mut H,
 ) -> Result<Publisher, End>
+    requires source_closed { S.opened source.old ≡ None }
+    requires shelf_closed { H.opened shelf.old ≡ None }
     ensures knows { IfOk result (λ publisher. Knows publisher (H.cell shelf.new)) }
     ensures most { IfOk result (λ publisher. publisher.most ≡ work.now.most_removed) }
     ensures names { IfOk result (λ publisher. HasListed publisher (H.cell shelf.old)) }
@@ -102,7 +104,9 @@ fn play_site<R: Runner, S: Source, H: Shelf, K: Keeper, N: Lines, O: Sink, L: Le
     out: &mut O,
     steps: &mut Steps<L>,
 ) -> Status
-    requires { Knows site.old.publisher (H.cell site.old.shelf) }
+    requires source_open { IsSome (S.opened site.old.source) }
+    requires shelf_open { IsSome (H.opened site.old.shelf) }
+    requires knows { Knows site.old.publisher (H.cell site.old.shelf) }
     ensures { PlaysAll R.meaning (IsReady R.meaning site.old) (held_by site.old) result
         (scene R.Runner S.Source H.Shelf N.Lines O.Sink site.old.works.runner (record {
           source = site.old.source;
@@ -135,6 +139,8 @@ fn play_all<R: Runner, S: Source, H: Shelf, K: Keeper, N: Lines, O: Sink, L: Led
     devices: KeptDevices<S, H, K, N, O>,
     steps: &mut Steps<L>,
 ) -> HandedBack<R, S, H, K, N, O>
+    requires source_open { IsSome (S.opened devices.devices.source) }
+    requires shelf_open { IsSome (H.opened devices.devices.shelf) }
     requires knows { Knows publisher (H.cell devices.devices.shelf) }
     requires rising { is_rising (option_map vec_items rows) ≡ true }
     ensures { PlaysAll R.meaning (IsBegun R.meaning works) (record {
@@ -217,6 +223,8 @@ fn watch_unkept<R: Runner, S: Source, H: Shelf, K: Keeper, N: Lines, O: Sink, L:
     keeper: K,
     steps: &mut Steps<L>,
 ) -> HandedBack<R, S, H, K, N, O>
+    requires source_closed { S.opened devices.source ≡ None }
+    requires shelf_closed { H.opened devices.shelf ≡ None }
     ensures call { WatchCall R.meaning work.now result.status
         (scene R.Runner S.Source H.Shelf N.Lines O.Sink works.runner devices steps.old)
         (scene R.Runner S.Source H.Shelf N.Lines O.Sink result.works.runner result.devices steps.new)
@@ -276,6 +284,8 @@ fn watch_kept<R: Runner, S: Source, H: Shelf, K: Keeper, N: Lines, O: Sink, L: L
     devices: KeptDevices<S, H, K, N, O>,
     steps: &mut Steps<L>,
 ) -> HandedBack<R, S, H, K, N, O>
+    requires source_closed { S.opened devices.devices.source ≡ None }
+    requires shelf_closed { H.opened devices.devices.shelf ≡ None }
     ensures { KeptWatchCall R.meaning request.now.work.now request.now.file.now result.status
         (scene R.Runner S.Source H.Shelf N.Lines O.Sink works.runner devices.devices steps.old)
         (scene R.Runner S.Source H.Shelf N.Lines O.Sink result.works.runner result.devices steps.new)
@@ -308,6 +318,8 @@ pub fn watch<R: Runner, S: Source, H: Shelf, K: Keeper, N: Lines, O: Sink, L: Le
     keeper: K,
     steps: &mut Steps<L>,
 ) -> HandedBack<R, S, H, K, N, O>
+    requires source_closed { S.opened devices.source ≡ None }
+    requires shelf_closed { H.opened devices.shelf ≡ None }
     ensures { CallOf R.meaning (Some (Watch work.now)) result.status
         (scene R.Runner S.Source H.Shelf N.Lines O.Sink works.runner devices steps.old)
         (scene R.Runner S.Source H.Shelf N.Lines O.Sink result.works.runner result.devices steps.new)

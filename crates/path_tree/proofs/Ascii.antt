@@ -45,21 +45,31 @@ keyed : (ps : List (List ℕ)) → list_all is_segment ps ≡ true → are_keyed
 keyed [] h = refl
 keyed (p ∷ ps) h = both _ _ (second _ _ (first _ _ (first _ _ h))) (keyed ps (second _ _ h))
 
-onto : (c : ℕ) (ps : List (List ℕ)) → are_keyed (onto_first c ps) ≡ true → (is_key_byte c ≡ true) × (are_keyed ps ≡ true)
+onto : (c : ℕ) (ps : List (List ℕ)) → are_keyed (onto_first c ps) ≡ true → (is_key_byte c ≡ true)
+    × (are_keyed ps ≡ true)
 onto c [] h = (first (is_key_byte c) true (first (is_key_byte c && true) true h), refl)
 onto c (p ∷ ps) h =
-    let here : (is_key_byte c && list_all is_key_byte p) ≡ true = first (is_key_byte c && list_all is_key_byte p) (are_keyed ps) h in
-    let rest : are_keyed ps ≡ true = second (is_key_byte c && list_all is_key_byte p) (are_keyed ps) h in
-    (first (is_key_byte c) (list_all is_key_byte p) here, both (list_all is_key_byte p) (are_keyed ps) (second (is_key_byte c) (list_all is_key_byte p) here) rest)
+    let here : (is_key_byte c && list_all is_key_byte p) ≡ true =
+    first (is_key_byte c && list_all is_key_byte p) (are_keyed ps) h in
+    let rest : are_keyed ps ≡ true =
+    second (is_key_byte c && list_all is_key_byte p) (are_keyed ps) h in (
+      first (is_key_byte c) (list_all is_key_byte p) here,
+      both (list_all is_key_byte p)
+          (are_keyed ps) (second (is_key_byte c) (list_all is_key_byte p) here) rest,
+    )
 
-step : (c : ℕ) (t : Bool) (ps : List (List ℕ)) → (c == slash) ≡ t → are_keyed (cond t ([] ∷ ps) (onto_first c ps)) ≡ true → (c < 128) × (are_keyed ps ≡ true)
+step : (c : ℕ) (t : Bool) (ps : List (List ℕ)) → (c == slash) ≡ t
+    → are_keyed (cond t ([] ∷ ps) (onto_first c ps)) ≡ true → (c < 128) × (are_keyed ps ≡ true)
 step c true ps is h = (grind (arith, nat_tests), h)
 step c false ps is h = let o = onto c ps h in (small c o.0, o.1)
 
 split_ascii : (cs : List ℕ) → are_keyed (slice_split (λ c. c == slash) cs) ≡ true → IsAscii cs
 split_ascii [] h i = lit< tt
 split_ascii (c ∷ cs) h zero = (step c _ (slice_split (λ d. d == slash) cs) refl h).0
-split_ascii (c ∷ cs) h (suc i) = split_ascii cs (step c _ (slice_split (λ d. d == slash) cs) refl h).1 i
+split_ascii (c ∷ cs) h (suc i) =
+    split_ascii cs (step c _ (slice_split (λ d. d == slash) cs) refl h).1 i
 
 pub name_ascii : (cs : List ℕ) → is_name cs ≡ true → IsAscii cs
-name_ascii cs h = split_ascii cs (keyed (slice_split (λ c. c == slash) cs) (second (nat_le (length cs) MAX_NAME_BYTES) (list_all is_segment (slice_split (λ c. c == slash) cs)) h))
+name_ascii cs h = split_ascii cs (keyed (slice_split (λ c. c == slash) cs)
+    (second (nat_le (length cs) MAX_NAME_BYTES) (list_all is_segment
+    (slice_split (λ c. c == slash) cs)) h))

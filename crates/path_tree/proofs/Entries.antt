@@ -5,7 +5,8 @@ use Rattle.path_tree.specs.declared.tree.Entry.{Entry}
 use Rattle.path_tree.specs.View.{items_of, fields_of}
 use Rattle.path_tree.specs.Find.{item_at, item_count, value_at, field_key_at, field_count}
 
-pub item_at_in : (ts : List Plain) (i : ℕ) (d : Plain) → i < length ts → item_at i (items_of ts) ≡ Some (get_or ts i d)
+pub item_at_in : (ts : List Plain) (i : ℕ) (d : Plain) → i < length ts → item_at i (items_of ts)
+    ≡ Some (get_or ts i d)
 item_at_in [] i d h = absurd (omega arith)
 item_at_in (t ∷ ts) zero d h = refl
 item_at_in (t ∷ ts) (suc i) d h = item_at_in ts i d (omega arith)
@@ -20,7 +21,8 @@ pub item_count_of : (ts : List Plain) → item_count (items_of ts) ≡ length ts
 item_count_of [] = refl
 item_count_of (t ∷ ts) = ap suc (item_count_of ts)
 
-pub value_at_in : (es : List Entry) (i : ℕ) (d : Entry) → i < length es → value_at i (fields_of es) ≡ Some (get_or es i d).value
+pub value_at_in : (es : List Entry) (i : ℕ) (d : Entry) → i < length es → value_at i (fields_of es)
+    ≡ Some (get_or es i d).value
 value_at_in [] i d h = absurd (omega arith)
 value_at_in (e ∷ es) zero d h = refl
 value_at_in (e ∷ es) (suc i) d h = value_at_in es i d (omega arith)
@@ -31,7 +33,8 @@ value_at_past [] (suc i) h = refl
 value_at_past (e ∷ es) zero h = absurd (omega arith)
 value_at_past (e ∷ es) (suc i) h = value_at_past es i (omega arith)
 
-pub key_at_in : (es : List Entry) (i : ℕ) (d : Entry) → i < length es → field_key_at i (fields_of es) ≡ Some (get_or es i d).key
+pub key_at_in : (es : List Entry) (i : ℕ) (d : Entry) → i < length es
+    → field_key_at i (fields_of es) ≡ Some (get_or es i d).key
 key_at_in [] i d h = absurd (omega arith)
 key_at_in (e ∷ es) zero d h = refl
 key_at_in (e ∷ es) (suc i) d h = key_at_in es i d (omega arith)
@@ -46,4 +49,13 @@ pub field_count_of : (es : List Entry) → field_count (fields_of es) ≡ length
 field_count_of [] = refl
 field_count_of (e ∷ es) = ap suc (field_count_of es)
 
-pub ruleset entry_lemmas = (item_at_in, item_at_past, item_count_of, value_at_in, value_at_past, key_at_in, key_at_past, field_count_of)
+pub ruleset entry_lemmas = (
+  item_at_in,
+  item_at_past,
+  item_count_of,
+  value_at_in,
+  value_at_past,
+  key_at_in,
+  key_at_past,
+  field_count_of,
+)

@@ -124,10 +124,13 @@ mutual
 
   fields-is : (fs : Fields) → same_fields fs fs ≡ true
   fields-is no_fields = refl
-  fields-is (field k t fs) = ap (λ b. b && same_tree t t && same_fields fs fs) (bytes-is k) ∙ ap (λ b. b && same_fields fs fs) (same-is t) ∙ fields-is fs
+  fields-is (field k t fs) =
+      ap (λ b. b && same_tree t t && same_fields fs fs) (bytes-is k)
+      ∙ ap (λ b. b && same_fields fs fs) (same-is t) ∙ fields-is fs
 
 -- an answer that decides equality is the test
-pub same-decides : (b : Bool) (t u : Plain) → (b ≡ true → t ≡ u) → (t ≡ u → b ≡ true) → b ≡ same_tree t u
+pub same-decides : (b : Bool) (t u : Plain) → (b ≡ true → t ≡ u) → (t ≡ u → b ≡ true) → b
+    ≡ same_tree t u
 same-decides true t u there back = subst (λ y. true ≡ same_tree t y) (there refl) (sym (same-is t))
 same-decides false t u there back = by_test (same_tree t u) refl
   where

@@ -12,7 +12,8 @@ pub record Escaped (ks : List ℕ) : Type 0 where
   pub long : 3 ≤ length ks
   pub high : is_lower_hexadecimal_digit (get_or ks 1 0) ≡ true
   pub low : is_lower_hexadecimal_digit (get_or ks 2 0) ≡ true
-  pub rest : unescape_rest ks ≡ (16 * digit_value (get_or ks 1 0) + digit_value (get_or ks 2 0)) ∷ unescape_rest (drop 3 ks)
+  pub rest : unescape_rest ks
+      ≡ (16 * digit_value (get_or ks 1 0) + digit_value (get_or ks 2 0)) ∷ unescape_rest (drop 3 ks)
 
 first : (p q : Bool) → (p && q) ≡ true → p ≡ true
 first true q h = refl
@@ -28,7 +29,8 @@ escaped (c ∷ []) h = cc
 escaped (c ∷ a ∷ []) h = cc
 escaped (c ∷ a ∷ b ∷ cs) h = record {
   long = omega arith;
-  high = second (c == underscore) (is_lower_hexadecimal_digit a) (first ((c == underscore) && is_lower_hexadecimal_digit a) (is_lower_hexadecimal_digit b) h);
+  high = second (c == underscore) (is_lower_hexadecimal_digit a)
+      (first ((c == underscore) && is_lower_hexadecimal_digit a) (is_lower_hexadecimal_digit b) h);
   low = second ((c == underscore) && is_lower_hexadecimal_digit a) (is_lower_hexadecimal_digit b) h;
   rest = rw h refl;
 }
@@ -40,14 +42,23 @@ hex_digit d h = grind (arith, nat_tests)
 hex_number : (d : ℕ) → d < 16 → digit_value (digit_char d) ≡ d
 hex_number d h = grind (arith, nat_tests)
 
-escaped_is : (c : ℕ) → c < 256 → (r : List ℕ) → unescape_rest (escaped_byte c ++ r) ≡ c ∷ unescape_rest r
+escaped_is : (c : ℕ) → c < 256 → (r : List ℕ) → unescape_rest (escaped_byte c ++ r)
+    ≡ c ∷ unescape_rest r
 escaped_is c h r =
     let high : c / 16 < 16 = omega arith in
     let low : c % 16 < 16 = omega arith in
     let is : 16 * (c / 16) + c % 16 ≡ c = omega arith in
-    rw (hex_digit (c / 16) high, hex_digit (c % 16) low, hex_number (c / 16) high, hex_number (c % 16) low, is) refl
+    rw (
+      hex_digit (c / 16) high,
+      hex_digit (c % 16) low,
+      hex_number (c / 16) high,
+      hex_number
+          (c % 16) low,
+      is,
+    ) refl
 
-plain : (c : ℕ) (r : List ℕ) → (c == underscore) ≡ false → unescape_rest (c ∷ r) ≡ c ∷ unescape_rest r
+plain : (c : ℕ) (r : List ℕ) → (c == underscore) ≡ false → unescape_rest (c ∷ r)
+    ≡ c ∷ unescape_rest r
 plain c [] h = refl
 plain c (a ∷ []) h = refl
 plain c (a ∷ b ∷ cs) h = rw h refl
@@ -60,13 +71,16 @@ abbrev pub AreBytes : List ℕ → Type 0
 AreBytes [] = Unit {0}
 AreBytes (c ∷ cs) = (c < 256) × AreBytes cs
 
-one : (b : Bool) (c : ℕ) (r : List ℕ) → c < 256 → (b ≡ true → (c == underscore) ≡ false) → unescape_rest (cond b (c ∷ []) (escaped_byte c) ++ r) ≡ c ∷ unescape_rest r
+one : (b : Bool) (c : ℕ) (r : List ℕ) → c < 256 → (b ≡ true → (c == underscore) ≡ false)
+    → unescape_rest (cond b (c ∷ []) (escaped_byte c) ++ r) ≡ c ∷ unescape_rest r
 one true c r h plain_if = plain c r (plain_if refl)
 one false c r h plain_if = escaped_is c h r
 
 rest_undone : (cs : List ℕ) → AreBytes cs → unescape_rest (escape_rest cs) ≡ cs
 rest_undone [] h = refl
-rest_undone (c ∷ cs) h = one (is_letter c || is_digit c) c (escape_rest cs) h.0 (no_mark c) ∙ ap (λ ds. c ∷ ds) (rest_undone cs h.1)
+rest_undone (c ∷ cs) h =
+    one (is_letter c || is_digit c) c (escape_rest cs) h.0 (no_mark c)
+    ∙ ap (λ ds. c ∷ ds) (rest_undone cs h.1)
 
 letter_plain : (c : ℕ) → is_letter c ≡ true → (c == underscore) ≡ false
 letter_plain c h = grind (arith, nat_tests)
@@ -79,13 +93,17 @@ short : (c : ℕ) (r : List ℕ) → (c == underscore) ≡ false → unescape (c
 short c [] h = rw h refl
 short c (d ∷ r) h = refl
 
-begun : (b : Bool) (c : ℕ) (r : List ℕ) → (b ≡ true → (c == underscore) ≡ false) → unescape (cond b (c ∷ []) (escaped_byte c) ++ r) ≡ unescape_rest (cond b (c ∷ []) (escaped_byte c) ++ r)
+begun : (b : Bool) (c : ℕ) (r : List ℕ) → (b ≡ true → (c == underscore) ≡ false)
+    → unescape (cond b (c ∷ []) (escaped_byte c) ++ r)
+    ≡ unescape_rest (cond b (c ∷ []) (escaped_byte c) ++ r)
 begun true c r h = short c r (h refl)
 begun false c r h = refl
 
 pub undone : (t : List ℕ) → AreBytes t → unescape (escape t) ≡ t
 undone [] h = refl
-undone (c ∷ cs) h = begun (is_letter c) c (escape_rest cs) (letter_plain c) ∙ one (is_letter c) c (escape_rest cs) h.0 (letter_plain c) ∙ ap (λ ds. c ∷ ds) (rest_undone cs h.1)
+undone (c ∷ cs) h = begun (is_letter c) c (escape_rest cs) (letter_plain c)
+    ∙ one (is_letter c) c (escape_rest cs) h.0 (letter_plain c)
+    ∙ ap (λ ds. c ∷ ds) (rest_undone cs h.1)
 
 pub are_bytes : (cs : List ℕ) → ((i : ℕ) → i < length cs → get_or cs i 0 < 256) → AreBytes cs
 are_bytes [] h = tt

@@ -16,12 +16,14 @@ wrap_is : (m : Term) (ms : List Term) (v : Plain) → chain (m ∷ ms) v ≡ wra
 wrap_is (term.Key k) ms v = refl
 wrap_is (term.Index i) ms v = refl
 
-height_part : (i : ℕ) (ms : List Term) (v : Plain) → tree_height (chain (drop i ms) v) ≤ tree_height (chain ms v)
+height_part : (i : ℕ) (ms : List Term) (v : Plain)
+    → tree_height (chain (drop i ms) v) ≤ tree_height (chain ms v)
 height_part zero ms v = omega arith
 height_part (suc i) [] v = omega arith
 height_part (suc i) (m ∷ ms) v = omega (arith, height_part i ms v, chain_height m ms v)
 
-module _ (ms : List Term) (j i : ℕ) (m : Term) (v t : Plain) (next : j + 1 ≡ i) (within : i ≤ length ms) (is : m ≡ get_or ms j m) (below : t ≡ chain (drop i ms) v) where
+module _ (ms : List Term) (j i : ℕ) (m : Term) (v t : Plain) (next : j + 1 ≡ i)
+    (within : i ≤ length ms) (is : m ≡ get_or ms j m) (below : t ≡ chain (drop i ms) v) where
   -- a step further from the end
   pub made_at : wrap m t ≡ chain (drop j ms) v
   made_at =

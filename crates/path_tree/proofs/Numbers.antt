@@ -33,7 +33,8 @@ index_digits [] h = refl
 index_digits (c ∷ []) h = grind (arith, nat_tests)
 index_digits (c ∷ d ∷ cs) h = grind (arith, nat_tests)
 
-pub digit_at : (ds : List ℕ) (i d : ℕ) → list_all is_digit ds ≡ true → i < length ds → is_digit (get_or ds i d) ≡ true
+pub digit_at : (ds : List ℕ) (i d : ℕ) → list_all is_digit ds ≡ true → i < length ds
+    → is_digit (get_or ds i d) ≡ true
 digit_at [] i d h lt = absurd (omega arith)
 digit_at (c ∷ cs) zero d h lt = grind (arith, nat_tests)
 digit_at (c ∷ cs) (suc i) d h lt = digit_at cs i d (second _ _ h) (omega arith)
@@ -42,4 +43,5 @@ digit_at (c ∷ cs) (suc i) d h lt = digit_at cs i d (second _ _ h) (omega arith
     second true q h = h
     second false q h = cc
 
-pub ruleset number_lemmas = (limit_more, limit_small, index_short, index_digits, digit_at, nat_tests)
+pub ruleset number_lemmas =
+    (limit_more, limit_small, index_short, index_digits, digit_at, nat_tests)

@@ -40,7 +40,8 @@ one_le-height null = omega arith
 pub record IsChange (f : Plain → Plain) (c t : Plain) : Type 0 where
   pub size : (w : Plain) → tree_size (f w) + tree_size c ≡ tree_size t + tree_size w
   pub reaches : (w : Plain) → tree_height w + 1 ≤ tree_height (f w)
-  pub height : (w : Plain) → max (tree_height (f w)) (tree_height c + 1) ≡ max (tree_height t) (tree_height w + 1)
+  pub height : (w : Plain) → max (tree_height (f w)) (tree_height c + 1)
+      ≡ max (tree_height t) (tree_height w + 1)
   pub below : tree_height c + 1 ≤ tree_height t
   pub smaller : tree_size c + 1 ≤ tree_size t
 
@@ -51,18 +52,23 @@ pub record IsAddition (f : Plain → Plain) (n : ℕ) (t : Plain) : Type 0 where
 
 -- fields
 pub record FieldChange (k : List ℕ) (c : Plain) (fs : Fields) : Type 0 where
-  pub size : (w : Plain) → fields_size (put_field k w fs) + tree_size c ≡ fields_size fs + tree_size w
+  pub size : (w : Plain) → fields_size (put_field k w fs) + tree_size c
+      ≡ fields_size fs + tree_size w
   pub reaches : (w : Plain) → tree_height w ≤ fields_height (put_field k w fs)
-  pub height : (w : Plain) → max (fields_height (put_field k w fs)) (tree_height c) ≡ max (fields_height fs) (tree_height w)
+  pub height : (w : Plain) → max (fields_height (put_field k w fs)) (tree_height c)
+      ≡ max (fields_height fs) (tree_height w)
   pub below : tree_height c ≤ fields_height fs
   pub smaller : tree_size c ≤ fields_size fs
 
 pub record FieldAddition (k : List ℕ) (fs : Fields) : Type 0 where
   pub size : (w : Plain) → fields_size (put_field k w fs) ≡ fields_size fs + tree_size w
-  pub height : (w : Plain) → fields_height (put_field k w fs) ≡ max (fields_height fs) (tree_height w)
+  pub height : (w : Plain) → fields_height (put_field k w fs)
+      ≡ max (fields_height fs) (tree_height w)
 
 module _ (k l : List ℕ) (u : Plain) (fs : Fields) where
-  change_at : (o : Ordering) → slice_cmp nat_cmp k l ≡ o → (c : Plain) → (find_field k fs ≡ Some c → FieldChange k c fs) → match_ordering o None (Some u) (find_field k fs) ≡ Some c → FieldChange k c (field l u fs)
+  change_at : (o : Ordering) → slice_cmp nat_cmp k l ≡ o → (c : Plain)
+      → (find_field k fs ≡ Some c → FieldChange k c fs)
+      → match_ordering o None (Some u) (find_field k fs) ≡ Some c → FieldChange k c (field l u fs)
   change_at Less is c ih e = cc
   change_at Equal is c ih e =
       let same : u ≡ c = cc in
@@ -83,7 +89,9 @@ module _ (k l : List ℕ) (u : Plain) (fs : Fields) where
         smaller = omega (arith, h.smaller);
       }
 
-  addition_at : (o : Ordering) → slice_cmp nat_cmp k l ≡ o → (find_field k fs ≡ None → FieldAddition k fs) → match_ordering o None (Some u) (find_field k fs) ≡ None → FieldAddition k (field l u fs)
+  addition_at : (o : Ordering) → slice_cmp nat_cmp k l ≡ o
+      → (find_field k fs ≡ None → FieldAddition k fs)
+      → match_ordering o None (Some u) (find_field k fs) ≡ None → FieldAddition k (field l u fs)
   addition_at Less is ih e = record {
     size = λ w. rw is (omega arith);
     height = λ w. rw is (omega arith);
@@ -96,18 +104,22 @@ module _ (k l : List ℕ) (u : Plain) (fs : Fields) where
         height = λ w. rw is (omega (arith, h.height w));
       }
 
-field_change : (k : List ℕ) (c : Plain) (fs : Fields) → find_field k fs ≡ Some c → FieldChange k c fs
+field_change : (k : List ℕ) (c : Plain) (fs : Fields) → find_field k fs ≡ Some c
+    → FieldChange k c fs
 field_change k c no_fields e = cc
-field_change k c (field l u fs) e = change_at k l u fs (slice_cmp nat_cmp k l) refl c (field_change k c fs) e
+field_change k c (field l u fs) e =
+    change_at k l u fs (slice_cmp nat_cmp k l) refl c (field_change k c fs) e
 
 field_addition : (k : List ℕ) (fs : Fields) → find_field k fs ≡ None → FieldAddition k fs
 field_addition k no_fields e = record {
   size = λ w. omega arith;
   height = λ w. omega arith;
 }
-field_addition k (field l u fs) e = addition_at k l u fs (slice_cmp nat_cmp k l) refl (field_addition k fs) e
+field_addition k (field l u fs) e =
+    addition_at k l u fs (slice_cmp nat_cmp k l) refl (field_addition k fs) e
 
-pub changes_field : (k : List ℕ) (c : Plain) (fs : Fields) → find_field k fs ≡ Some c → IsChange (λ w. dict (put_field k w fs)) c (dict fs)
+pub changes_field : (k : List ℕ) (c : Plain) (fs : Fields) → find_field k fs ≡ Some c
+    → IsChange (λ w. dict (put_field k w fs)) c (dict fs)
 changes_field k c fs e =
     let h = field_change k c fs e in
     record {
@@ -118,7 +130,8 @@ changes_field k c fs e =
       smaller = omega (arith, h.smaller);
     }
 
-pub adds_field : (k : List ℕ) (fs : Fields) → find_field k fs ≡ None → IsAddition (λ w. dict (put_field k w fs)) 0 (dict fs)
+pub adds_field : (k : List ℕ) (fs : Fields) → find_field k fs ≡ None
+    → IsAddition (λ w. dict (put_field k w fs)) 0 (dict fs)
 adds_field k fs e =
     let h = field_addition k fs e in
     record {
@@ -130,7 +143,8 @@ adds_field k fs e =
 pub record ItemChange (i : ℕ) (c : Plain) (ts : Items) : Type 0 where
   pub size : (w : Plain) → items_size (put_item i w ts) + tree_size c ≡ items_size ts + tree_size w
   pub reaches : (w : Plain) → tree_height w ≤ items_height (put_item i w ts)
-  pub height : (w : Plain) → max (items_height (put_item i w ts)) (tree_height c) ≡ max (items_height ts) (tree_height w)
+  pub height : (w : Plain) → max (items_height (put_item i w ts)) (tree_height c)
+      ≡ max (items_height ts) (tree_height w)
   pub below : tree_height c ≤ items_height ts
   pub smaller : tree_size c ≤ items_size ts
 
@@ -158,7 +172,8 @@ item_change (suc i) c (item u us) e =
 
 pub record ItemAddition (i : ℕ) (ts : Items) : Type 0 where
   pub past : item_count ts ≤ i
-  pub size : (w : Plain) → items_size (put_item i w ts) + item_count ts ≡ items_size ts + i + tree_size w
+  pub size : (w : Plain) → items_size (put_item i w ts) + item_count ts
+      ≡ items_size ts + i + tree_size w
   pub height : (w : Plain) → items_height (put_item i w ts) ≡ max (items_height ts) (tree_height w)
 
 item_addition : (i : ℕ) (ts : Items) → item_at i ts ≡ None → ItemAddition i ts
@@ -183,7 +198,8 @@ item_addition (suc i) (item u us) e =
       height = λ w. omega (arith, h.height w);
     }
 
-pub changes_item : (i : ℕ) (c : Plain) (ts : Items) → item_at i ts ≡ Some c → IsChange (λ w. list (put_item i w ts)) c (list ts)
+pub changes_item : (i : ℕ) (c : Plain) (ts : Items) → item_at i ts ≡ Some c
+    → IsChange (λ w. list (put_item i w ts)) c (list ts)
 changes_item i c ts e =
     let h = item_change i c ts e in
     record {
@@ -194,7 +210,8 @@ changes_item i c ts e =
       smaller = omega (arith, h.smaller);
     }
 
-pub adds_item : (i : ℕ) (ts : Items) → item_at i ts ≡ None → IsAddition (λ w. list (put_item i w ts)) (i - item_count ts) (list ts)
+pub adds_item : (i : ℕ) (ts : Items) → item_at i ts ≡ None
+    → IsAddition (λ w. list (put_item i w ts)) (i - item_count ts) (list ts)
 adds_item i ts e =
     let h = item_addition i ts e in
     record {

@@ -9,7 +9,8 @@ use Rattle.path_tree.specs.declared.path.Term.{Term}
 abbrev pub slashed : Term → List ℕ
 slashed m = slash ∷ term_text m
 
-pub join_first : (m : Term) (ms : List Term) → terms_text (m ∷ ms) ≡ term_text m ++ flat_map slashed ms
+pub join_first : (m : Term) (ms : List Term) → terms_text (m ∷ ms) ≡ term_text m
+    ++ flat_map slashed ms
 join_first m [] = no_more (term_text m)
   where
     no_more : (xs : List ℕ) → xs ≡ xs ++ []
@@ -18,7 +19,8 @@ join_first m [] = no_more (term_text m)
 join_first m (n ∷ ms) = ap (λ xs. term_text m ++ (slash ∷ xs)) (join_first n ms)
 
 -- by the first term and the rest of a slice
-pub join_slice : (ms : List Term) (m : Term) → 1 ≤ length ms → m ≡ get_or ms 0 m → terms_text ms ≡ term_text m ++ flat_map slashed (take (length ms - 1) (drop 1 ms))
+pub join_slice : (ms : List Term) (m : Term) → 1 ≤ length ms → m ≡ get_or ms 0 m → terms_text ms
+    ≡ term_text m ++ flat_map slashed (take (length ms - 1) (drop 1 ms))
 join_slice [] m h is = absurd (omega arith)
 join_slice (n ∷ ms) m h is = rw (is, rest) (join_first n ms)
   where

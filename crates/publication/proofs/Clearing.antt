@@ -200,7 +200,8 @@ module _ (ws : List Want) (m : List ℕ) (rest : List (List ℕ)) (ts new_ts : L
   sweep_step going c s = subst (λ list. Clearing ws rest list before later start new)
       (sym s.troubles) (record {
         removals = removals_on c going s.trouble s.on;
-        causes = counted s.trouble s.done ts before count later s.is s.came.later s.came.rose c.causes;
+        causes = counted s.trouble s.done ts before count later s.is s.came.later s.came.rose
+            c.causes;
         most = no_more s.trouble s.done ts before count later s.is s.came.most c.most;
         kept = λ n stays. s.came.unsettles n (other_by n (bytes_eq m n) going stays refl)
             ∙ c.kept n stays;

@@ -137,5 +137,6 @@ partly p old mid new json dep =
     record {
       which = Dep;
       others =
-          λ n closed. partly_by p n (bytes_eq (json_name p.name) n) old mid new refl json (dep n closed);
+          λ n closed. partly_by p n (bytes_eq (json_name p.name) n) old mid new refl json
+          (dep n closed);
     }

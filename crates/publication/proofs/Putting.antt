@@ -1,5 +1,5 @@
 -- Files that are put one after the other.
-use Rattle.std.proofs.Common.{◌≡◌, ℕ, Bool, true, false, List, [], ◌∷◌, Option, Some, None, is_some, not, ◌&&◌, ◌⊎◌, inl, inr, refl, sym, ap, ◌∙◌}
+use Rattle.std.proofs.Common.{◌≡◌, ℕ, Bool, true, false, List, ◌∷◌, None, is_some, not, ◌⊎◌, inl, inr, sym, ap, ◌∙◌}
 use Rattle.std.specs.Prelude.{bytes_eq}
 use Rattle.outside.specs.Cells.{Cell, AllBut}
 use Rattle.outside.specs.declared.shelf.Change.{Change}

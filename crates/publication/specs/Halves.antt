@@ -1,5 +1,5 @@
 -- The two halves of a publication, as what becomes of a cell. Inner contracts use it.
-use Rattle.std.specs.Prelude.{◌≡◌, ℕ, Bool, false, List, Option, Some, None, if◌then◌else◌, bytes_eq, ◌&&◌, ◌⊎◌}
+use Rattle.std.specs.Prelude.{◌≡◌, ℕ, Bool, false, List, None, if◌then◌else◌, bytes_eq, ◌&&◌, ◌⊎◌}
 use Rattle.std.specs.List.{list_any}
 use Rattle.outside.specs.Cells.{Cell, with_content}
 use Rattle.publication.specs.declared.want.Want.{Want}

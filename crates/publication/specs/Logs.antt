@@ -94,7 +94,8 @@ pub record Writes (cell : List ℕ → Cell) (profiles : List Profile)
   pub did : log_now ≡ done log (flat_map (write_changes cell) calls)
 
 -- What a publication that was made did to the shelf, and which of its calls failed: the names that
--- may be there and that no profile wants went, in byte order, and then the profiles were written, in
+-- may be there and that no profile wants went, in byte order, and then the profiles were written,
+-- in
 -- the order of the list.
 pub record Logged (p : Publisher) (profiles : List Profile) (troubles : List Trouble) (cell : List ℕ
     → Cell) (log log_now : Option (List Change)) : Type 0 where

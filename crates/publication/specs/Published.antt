@@ -32,7 +32,8 @@ failures (Some x) = 1
 abbrev pub AtMost : ℕ → ℕ → ℕ → Type 0
 AtMost failed before now = saturated (before + failed) ≤ now
 
--- A publication was made, but for its troubles, and no other call failed; or nothing was changed, as
+-- A publication was made, but for its troubles, and no other call failed; or nothing was changed,
+-- as
 -- too many names were to go.
 pub record Published (ws : List Want) (p : Publication) (before now : ℕ) (old new : List ℕ
     → Cell) : Type 0 where
@@ -185,7 +186,8 @@ pub record Drops (name : List ℕ) (troubles_old troubles_new : List Trouble)
   pub troubles : troubles_new ≡ troubles_old ++ one_or_none trouble
   pub keys : (n : List ℕ) → known_now n ≡ (if bytes_eq name n then is_some trouble else known n)
 
--- Names being removed: which may be there, where at the start these might. Those of `rest` are still
+-- Names being removed: which may be there, where at the start these might. Those of `rest` are
+-- still
 -- to go.
 pub record Dropping (ws : List Want) (rest : List (List ℕ)) (troubles : List Trouble)
     (start known : List ℕ → Bool) : Type 0 where

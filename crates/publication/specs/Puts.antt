@@ -20,7 +20,8 @@ put_where (Some b) c = with_content (Some b) c
 abbrev pub placed : List Want → List ℕ → Cell → Cell
 placed ws n c = put_where (wanted ws n) c
 
--- But for names that are open, each name is as it was or has its bytes; one that is not wanted is as
+-- But for names that are open, each name is as it was or has its bytes; one that is not wanted is
+-- as
 -- it was.
 pub record PutsLeave (is_open : List ℕ → Bool) (ws : List Want) (old new : List ℕ → Cell)
     : Type 0 where

@@ -1,4 +1,4 @@
-ghost use Rattle.std.specs.Prelude.{◌≡◌, ◌≤◌, ◌++◌, ◌∷◌, [], ℕ, List, IfOk, OnOk, OnErr, IfErr, IfSome, Option, Some, None, true, false, MatchOption, bytes_eq};
+ghost use Rattle.std.specs.Prelude.{◌≡◌, ◌≤◌, ◌++◌, ◌∷◌, [], ℕ, List, IfOk, OnOk, OnErr, IfErr, IfSome, IsSome, Option, Some, None, true, false, MatchOption, bytes_eq};
 ghost use Rattle.std.specs.List.{list_any, list_all};
 ghost use Rattle.std.specs.Prelude.{cond};
 ghost use Rattle.std.specs.HashMap.{get};
@@ -55,6 +55,7 @@ fn bring_unread<H: Shelf>(
     bytes: &[u8],
     held: &mut Vec<u8>,
 ) -> Result<Option<Call>, AllocError>
+    requires open { IsSome (H.opened shelf.old) }
     ensures ok { IfOk result (λ failed. Brings name.now bytes.now failed (H.fault_count shelf.old)
         (H.fault_count shelf.new) (H.cell shelf.old) (H.cell shelf.new)) }
     ensures unsettles { OnErr result (AllBut (H.cell shelf.old) name.now (H.cell shelf.new)) }
@@ -79,6 +80,7 @@ fn bring_unread<H: Shelf>(
 
 /// An own name is taken away from the shelf, or the call failed.
 fn remove_name<H: Shelf>(shelf: &mut H, name: &str) -> Result<bool, AllocError>
+    requires open { IsSome (H.opened shelf.old) }
     ensures came { IfOk result (λ done. Came name.now None done (H.fault_count shelf.old)
         (H.fault_count shelf.new) (H.cell shelf.old) (H.cell shelf.new)) }
     ensures unsettles { OnErr result (AllBut (H.cell shelf.old) name.now (H.cell shelf.new)) }
@@ -195,7 +197,8 @@ impl Publisher {
 
     /// An own name is taken away from the shelf, or the call failed.
     fn remove<H: Shelf>(&mut self, shelf: &mut H, name: &Text) -> Result<bool, AllocError>
-        requires { Knows self.old (H.cell shelf.old) }
+        requires open { IsSome (H.opened shelf.old) }
+        requires knows { Knows self.old (H.cell shelf.old) }
         ensures came { IfOk result (λ done. Came name.now None done (H.fault_count shelf.old)
             (H.fault_count shelf.new) (H.cell shelf.old) (H.cell shelf.new)) }
         ensures knows { OnOk result (Knows self.new (H.cell shelf.new)) }
@@ -227,6 +230,7 @@ impl Publisher {
         bytes: &[u8],
         held: &mut Vec<u8>,
     ) -> Result<Option<Call>, AllocError>
+        requires open { IsSome (H.opened shelf.old) }
         requires own { is_own name.now ≡ true }
         requires knows { Knows self.old (H.cell shelf.old) }
         ensures ok { IfOk result (λ failed. Brings name.now bytes.now failed
@@ -264,6 +268,7 @@ impl Publisher {
         bytes: &[u8],
         held: &mut Vec<u8>,
     ) -> Result<Option<Trouble>, AllocError>
+        requires open { IsSome (H.opened shelf.old) }
         requires own { is_own (name_of which object.now) ≡ true }
         requires knows { Knows self.old (H.cell shelf.old) }
         ensures ok { IfOk result (λ trouble. BringsFile object.now which bytes.now trouble
@@ -301,6 +306,7 @@ impl Publisher {
         profile: &Profile,
         held: &mut Vec<u8>,
     ) -> Result<Option<Trouble>, AllocError>
+        requires open { IsSome (H.opened shelf.old) }
         requires proper { proper (wants_of (profile.now ∷ [])) ≡ true }
         requires knows { Knows self.old (H.cell shelf.old) }
         ensures ok { IfOk result (λ trouble. BringsProfile profile.now trouble
@@ -340,6 +346,7 @@ impl Publisher {
         profiles: &[Profile],
         troubles: &mut Vec<Trouble>,
     ) -> Result<(), AllocError>
+        requires open { IsSome (H.opened shelf.old) }
         requires proper { proper (wants_of profiles.now) ≡ true }
         requires knows { Knows self.old (H.cell shelf.old) }
         ensures ok { OnOk result ((before : ℕ) (start : List ℕ → Cell)
@@ -379,6 +386,7 @@ impl Publisher {
         name: &Text,
         troubles: &mut Vec<Trouble>,
     ) -> Result<(), AllocError>
+        requires open { IsSome (H.opened shelf.old) }
         requires own { is_own name.now ≡ true }
         requires knows { Knows self.old (H.cell shelf.old) }
         ensures ok { OnOk result (Sweeps name.now troubles.old.items troubles.new.items
@@ -413,6 +421,7 @@ impl Publisher {
         wants: &[Profile],
         troubles: &mut Vec<Trouble>,
     ) -> Result<(), AllocError>
+        requires open { IsSome (H.opened shelf.old) }
         requires going { list_all (goes (wants_of wants.now)) names.now ≡ true }
         requires knows { Knows self.old (H.cell shelf.old) }
         ensures ok { OnOk result ((before : ℕ) (start : List ℕ → Cell)
@@ -471,6 +480,7 @@ impl Publisher {
         gone: &[Text],
         profiles: &[Profile],
     ) -> Result<Vec<Trouble>, AllocError>
+        requires open { IsSome (H.opened shelf.old) }
         requires proper { proper (wants_of profiles.now) ≡ true }
         requires knows { Knows self.old (H.cell shelf.old) }
         requires going { list_all (goes (wants_of profiles.now)) gone.now ≡ true }
@@ -512,6 +522,7 @@ impl Publisher {
         shelf: &mut H,
         profiles: &[Profile],
     ) -> Result<Publication, AllocError>
+        requires open { IsSome (H.opened shelf.old) }
         requires proper { proper (wants_of profiles.now) ≡ true }
         requires knows { Knows self.old (H.cell shelf.old) }
         ensures ok { IfOk result (λ p. Published (wants_of profiles.now) p (H.fault_count shelf.old)

@@ -1,4 +1,4 @@
-ghost use Rattle.std.specs.Prelude.{◌≡◌, ◌∷◌, [], ℕ, List, flat_map, if◌then◌else◌, OnOk, OnErr, IfErr, IfSome, Option, Some, true, bytes_eq};
+ghost use Rattle.std.specs.Prelude.{◌≡◌, ◌∷◌, [], ℕ, List, flat_map, if◌then◌else◌, OnOk, OnErr, IfErr, IfSome, IsSome, Option, Some, true, bytes_eq};
 ghost use Rattle.outside.specs.Causes.{Caused, HasCause};
 ghost use Rattle.outside.specs.Cells.{Sets, AllBut, AreSame};
 ghost use Rattle.outside.specs.declared.shelf.Change.TheVariants.{Put};
@@ -45,6 +45,7 @@ pub(crate) fn put_one<H: Shelf>(
     bytes: &[u8],
     held: &mut Vec<u8>,
 ) -> Result<(), StoreError>
+    requires open { IsSome (H.opened shelf.old) }
     ensures ok { OnOk result (Sets (H.cell shelf.old) name.now (Some bytes.now)
         (H.cell shelf.new)) }
     ensures err { OnErr result (AllBut (H.cell shelf.old) name.now (H.cell shelf.new)) }
@@ -70,6 +71,7 @@ pub(crate) fn put_one<H: Shelf>(
 
 /// A wanted file gets its bytes, where it does not hold them.
 fn put_want<H: Shelf>(shelf: &mut H, want: &Want, held: &mut Vec<u8>) -> Result<(), PutError>
+    requires open { IsSome (H.opened shelf.old) }
     ensures ok { OnOk result (Sets (H.cell shelf.old) want.now.name (Some want.now.bytes)
         (H.cell shelf.new)) }
     ensures err { OnErr result (AllBut (H.cell shelf.old) want.now.name (H.cell shelf.new)) }
@@ -100,7 +102,8 @@ pub fn put_until_failure<H: Shelf>(
     shelf: &mut H,
     wants: &[Want],
 ) -> Result<(), PutError>
-    requires { are_apart wants.now ≡ true }
+    requires open { IsSome (H.opened shelf.old) }
+    requires apart { are_apart wants.now ≡ true }
     ensures ok { OnOk result ((n : List ℕ) → H.cell shelf.new n
         ≡ placed wants.now n (H.cell shelf.old n)) }
     ensures err { IfErr result (λ e. PutsLeft e wants.now (H.cell shelf.old)

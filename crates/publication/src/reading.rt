@@ -1,4 +1,4 @@
-ghost use Rattle.std.specs.Prelude.{◌≡◌, ℕ, List, IfOk, IfSome, Some, true};
+ghost use Rattle.std.specs.Prelude.{◌≡◌, ℕ, List, IfOk, IfSome, IsSome, Some, true};
 ghost use Rattle.outside.specs.Causes.{HasCause};
 ghost use Rattle.outside.specs.Cells.{AreSame};
 ghost use Rattle.publication.specs.Changing.{holds};
@@ -12,6 +12,7 @@ pub(crate) fn holds<H: Shelf>(
     bytes: &[u8],
     held: &mut Vec<u8>,
 ) -> Result<bool, StoreError>
+    requires open { IsSome (H.opened shelf.old) }
     ensures ok { IfOk result (λ same. same ≡ true → IfSome (H.cell shelf.old name.now)
         (λ content. content ≡ Some bytes.now)) }
     ensures exact { IfOk result (λ same. IfSome (H.cell shelf.old name.now)

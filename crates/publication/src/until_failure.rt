@@ -1,4 +1,4 @@
-ghost use Rattle.std.specs.Prelude.{◌≡◌, ◌∷◌, [], ℕ, List, flat_map, if◌then◌else◌, IfOk, OnOk, OnErr, IfErr, IfSome, Option, Some, None, true, false, bytes_eq};
+ghost use Rattle.std.specs.Prelude.{◌≡◌, ◌∷◌, [], ℕ, List, flat_map, if◌then◌else◌, IfOk, OnOk, OnErr, IfErr, IfSome, IsSome, Option, Some, None, true, false, bytes_eq};
 ghost use Rattle.std.specs.List.Sorted.{IsSorted};
 ghost use Rattle.std.specs.Cmp.Lexicographic.{slice_cmp};
 ghost use Rattle.std.specs.Ordering.{nat_cmp};
@@ -72,7 +72,8 @@ fn bring<H: Shelf>(
     bytes: &[u8],
     held: &mut Vec<u8>,
 ) -> Result<(), PublishError>
-    requires { is_own name.now ≡ true }
+    requires open { IsSome (H.opened shelf.old) }
+    requires own { is_own name.now ≡ true }
     ensures ok { OnOk result (Sets (H.cell shelf.old) name.now (Some bytes.now)
         (H.cell shelf.new)) }
     ensures err { OnErr result (AllBut (H.cell shelf.old) name.now (H.cell shelf.new)) }
@@ -112,6 +113,7 @@ fn sweep<H: Shelf>(
     name: &Text,
     names: &HashSet<Text>,
 ) -> Result<(), PublishError>
+    requires open { IsSome (H.opened shelf.old) }
     ensures ok { OnOk result ((wants : List Want) → Names names.now wants → (n : List ℕ)
         → H.cell shelf.new n ≡ swept name.now wants n (H.cell shelf.old n)) }
     ensures err { OnErr result (AllBut (H.cell shelf.old) name.now (H.cell shelf.new)) }
@@ -146,7 +148,8 @@ fn clear<H: Shelf>(
     names: &HashSet<Text>,
     wants: &[Want],
 ) -> Result<(), PublishError>
-    requires { Names names.now wants.now }
+    requires open { IsSome (H.opened shelf.old) }
+    requires names { Names names.now wants.now }
     ensures ok { OnOk result ((n : List ℕ) → H.cell shelf.new n
         ≡ cleared listed.now wants.now n (H.cell shelf.old n)) }
     ensures err { IfErr result (λ e. LeftAs e (cleared listed.now wants.now) (H.cell shelf.old)
@@ -166,7 +169,8 @@ fn clear<H: Shelf>(
 
 /// Each wanted name gets its bytes, in the order of the list.
 fn place<H: Shelf>(alloc: Global, shelf: &mut H, wants: &[Want]) -> Result<(), PublishError>
-    requires { proper wants.now ≡ true }
+    requires open { IsSome (H.opened shelf.old) }
+    requires proper { proper wants.now ≡ true }
     ensures ok { OnOk result ((n : List ℕ) → H.cell shelf.new n
         ≡ placed wants.now n (H.cell shelf.old n)) }
     ensures err { IfErr result (λ e. LeftAs e (placed wants.now) (H.cell shelf.old)
@@ -195,6 +199,7 @@ fn place<H: Shelf>(alloc: Global, shelf: &mut H, wants: &[Want]) -> Result<(), P
 
 /// All names of the shelf, in byte order.
 pub fn listed<H: Shelf>(alloc: Global, shelf: &mut H) -> Result<Vec<Text>, StoreError>
+    requires open { IsSome (H.opened shelf.old) }
     ensures ok { IfOk result (λ names. Lists names.items (H.cell shelf.old)) }
     ensures sorted { IfOk result (λ names. IsSorted (slice_cmp nat_cmp) names.items) }
     ensures changes { H.changes shelf.new ≡ H.changes shelf.old }
@@ -219,6 +224,7 @@ fn bring_all<H: Shelf>(
     names: &HashSet<Text>,
     wants: &[Want],
 ) -> Result<(), PublishError>
+    requires open { IsSome (H.opened shelf.old) }
     requires proper { proper wants.now ≡ true }
     requires listed { Lists listed.now (H.cell shelf.old) }
     requires names { Names names.now wants.now }
@@ -247,6 +253,7 @@ fn publish_wants<H: Shelf>(
     names: &HashSet<Text>,
     wants: &[Want],
 ) -> Result<(), PublishError>
+    requires open { IsSome (H.opened shelf.old) }
     requires proper { proper wants.now ≡ true }
     requires listed { Lists listed.now (H.cell shelf.old) }
     requires names { Names names.now wants.now }
@@ -294,6 +301,7 @@ fn publish_within<H: Shelf>(
     wants: &[Want],
     most: Option<u64>,
 ) -> Result<Publication, PublishError>
+    requires open { IsSome (H.opened shelf.old) }
     requires proper { proper wants.now ≡ true }
     requires listed { Lists listed.now (H.cell shelf.old) }
     ensures answer { IfOk result (λ p. p ≡ answer_over most listed.now wants.now) }
@@ -329,6 +337,7 @@ pub fn publish_until_failure<H: Shelf>(
     profiles: &[Profile],
     most: Option<u64>,
 ) -> Result<Publication, PublishError>
+    requires open { IsSome (H.opened shelf.old) }
     requires proper { proper (wants_of profiles.now) ≡ true }
     requires listed { Lists listed.now (H.cell shelf.old) }
     ensures answer { IfOk result

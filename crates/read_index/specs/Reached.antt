@@ -69,7 +69,8 @@ pub data Reaches (reads : Key → Key → Bool) (moved : List Key) : List ℕ �
       → Reaches reads moved object → Reaches reads moved name
 
 -- exactly those readers
-pub record AreReaching (reads : Key → Key → Bool) (moved : List Key) (names : List (List ℕ)) : Type 0
+pub record AreReaching (reads : Key → Key → Bool) (moved : List Key) (names : List (List ℕ)) : Type
+    0
   where
     pub only : (name : List ℕ) → list_any (bytes_eq name) names ≡ true → Reaches reads moved name
     pub all : (name : List ℕ) → Reaches reads moved name → list_any (bytes_eq name) names ≡ true

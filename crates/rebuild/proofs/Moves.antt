@@ -270,7 +270,8 @@ changed_only k (x ∷ files) others once e =
       or_left (equal x.name x.name)
           (is_among x.name (file_names files)) (equal-is x.name x.name refl),
       ap
-          (λ b. nat_eq (file_number_in others x.name) (cond b x.number (file_number_in files x.name)))
+          (λ b. nat_eq (file_number_in others x.name) (cond b x.number
+          (file_number_in files x.name)))
           (equal-is x.name x.name refl) ∙ off,
     )
     here later off false is e = more (later e)

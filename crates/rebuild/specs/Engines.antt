@@ -84,14 +84,16 @@ abbrev pub IsTrue : {T : Type 0} → Meanings T → EngineValue T → Type 0
 IsTrue m e = IsFromScratch (runner_of (m e.dirs e.limits).build) keeping
     (judge_of (m e.dirs e.limits).check) e.situation
 
--- What its next event does to the number of a key that asks for an object: a turn leaves it while the
+-- What its next event does to the number of a key that asks for an object: a turn leaves it while
+-- the
 -- same is seen there, and a number that it has lost does not come back; a take leaves it where a
 -- kept record reads the key.
 abbrev pub AreKept : {T : Type 0} → Meanings T → EngineValue T → Type 0
 AreKept m e = KeepsNumbers (runner_of (m e.dirs e.limits).build) keeping
     (judge_of (m e.dirs e.limits).check) e.situation
 
--- an object that is not touched has a record in which no item differs, and its next turn does not run
+-- an object that is not touched has a record in which no item differs, and its next turn does not
+-- run
 -- it, and leaves its result and its record
 pub record IsSpared {T : Type 0} (m : Meanings T) (e : EngineValue T) (o : Name) : Type 0 where
   pub narrowed : IsNarrowed (runner_of (m e.dirs e.limits).build) keeping

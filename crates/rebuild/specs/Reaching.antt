@@ -29,7 +29,8 @@ AreIndexed asks x =
     × ((p : Name) (k : Key) → x.state.touched p ≡ false
     → asks (reader_key p) k ≡ asks_for k (both_items (x.state.reads p) (x.state.checked p)))
 
--- an object is touched whatever the others are: it has no whole record, or was touched before and not
+-- an object is touched whatever the others are: it has no whole record, or was touched before and
+-- not
 -- all was settled since
 abbrev pub touched_first : {T : Type 0} → Bool → Row T → Bool
 touched_first settled r =

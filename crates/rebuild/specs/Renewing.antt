@@ -17,7 +17,8 @@ use Rattle.rebuild.specs.Engines.{situation_of}
 use Rattle.rebuild.specs.Reaching.{Asking, AreIndexed, touched_first}
 use Rattle.rebuild.specs.Taking.{new_row, numbered, counter_after}
 
--- both parts are unsettled, there are no paths, and the object is touched where it is so whatever the
+-- both parts are unsettled, there are no paths, and the object is touched where it is so whatever
+-- the
 -- others are
 abbrev pub reopened : {T : Type 0} → Bool → Row T → Row T
 reopened settled r = record r {
@@ -42,7 +43,8 @@ abbrev pub taken_rows : {T : Type 0} → Bool → List (Row T) → List Name →
 taken_rows settled rows objects = map (λ p. taken_row settled p (row_in p rows)) objects
 
 -- the row at this place takes what the old rows keep of its name; those keep all of other names
-pub record IsRenewed {T : Type 0} (settled : Bool) (at : ℕ) (fresh old fresh' old' : List (Row T)) : Type 0 where
+pub record IsRenewed {T : Type 0} (settled : Bool) (at : ℕ)
+    (fresh old fresh' old' : List (Row T)) : Type 0 where
   pub taken : (e : Row T) → fresh' ≡ slice_set fresh at
       (kept_or settled (get_or fresh at e) (row_in (get_or fresh at e).name old))
   pub others : (e : Row T) (q : Name) → equal q (get_or fresh at e).name ≡ false

@@ -15,7 +15,8 @@ pub record AreRounds {T : Type 0} (m : Meaning T) : Type 0 where
   pub runs : RunsWhatChanged (runner_of m.build) keeping (judge_of m.check)
   -- the turns cost at most what the records, and the runs that are made, may cost
   pub steps : IsBounded (runner_of m.build) keeping (judge_of m.check) (costs_of m)
-  pub costs : (files : List PictureFile) (objects : List Name) → AreCosts (runner_of m.build) keeping
+  pub costs : (files : List PictureFile) (objects : List Name)
+      → AreCosts (runner_of m.build) keeping
       (judge_of m.check) (costs_of m) (picture_in files objects) MAX_WORK
   -- an object is circular exactly where its chain of reads never ends
   pub circles : (files : List PictureFile) (objects : List Name)

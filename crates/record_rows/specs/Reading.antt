@@ -57,7 +57,8 @@ seen_header h = record {
 
 -- what stands behind a front
 abbrev pub behind : List ℕ → List ℕ → Option (List ℕ)
-behind front name = cond (bytes_eq (take (length front) name) front) (Some (drop (length front) name))
+behind front name = cond (bytes_eq (take (length front) name) front)
+    (Some (drop (length front) name))
     None
 
 abbrev pub file_with : List ℕ → FileParts → KeptFile

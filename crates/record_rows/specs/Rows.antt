@@ -153,7 +153,8 @@ are_distinct (n ∷ ns) = not (list_any (λ m. m == n) ns) && are_distinct ns
 -- names rise, and no number was drawn twice
 abbrev pub are_in_order : List KeptFile → List KeptObject → Bool
 are_in_order files objects = are_rising (map file_name files)
-    && are_rising (map object_name objects) && are_distinct (file_numbers files ++ tree_numbers objects)
+    && are_rising (map object_name objects) && are_distinct
+    (file_numbers files ++ tree_numbers objects)
 
 -- what is kept has rows of this format
 abbrev pub is_kept : Format → Stored → Bool

@@ -78,7 +78,8 @@ module _ {S : Type 0} (g : Ghosts S) (h : Held S) (mid end : State)
     new_is clean = made clean (record { schema = bare; inside = refl })
 
     pub table_made : Survives mid end (λ db. db ≡ mid.now.trees)
-        → (HasCleanDisk end → Shows mid end mid.now mid.now false) → HasCleanDisk end → IsMade end.now
+        → (HasCleanDisk end → Shows mid end mid.now mid.now false) → HasCleanDisk end
+        → IsMade end.now
     table_made last shown clean =
         let before : HasCleanDisk mid = let less = last.clean in omega (arith, clean, less) in
         let new = new_is before in

@@ -53,7 +53,8 @@ module _ {S : Type 0} (g : Ghosts S) (f : Change) (h : Held S) (mid end : State)
         made_holds made before end.now.trees (ap (λ (d : Database). d.trees) (shown clean).now_is)
 
     pub committed_survives : Makes f (state g (record h { in_transaction = true })) mid
-        → Survives mid end (λ db. db ≡ mid.now.trees) → Survives (state g h) end (Holds f (state g h))
+        → Survives mid end (λ db. db ≡ mid.now.trees)
+        → Survives (state g h) end (Holds f (state g h))
     committed_survives made last =
         survives_then (state g h) mid end (λ _. ⊥) (λ db. db ≡ mid.now.trees) (Holds f (state g h))
         (λ _ db none. absurd none)

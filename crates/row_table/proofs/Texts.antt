@@ -81,7 +81,8 @@ pub all_is : (command_of (understood row_schema all_text)
     ≡ Select (record {
       lets = [];
       body =
-          record (query_over [] (col 1 1 ∷ col 1 2 ∷ [])) { order = (col 1 1, ascending Binary) ∷ [] };
+          record (query_over [] (col 1 1 ∷ col 1 2 ∷ []))
+          { order = (col 1 1, ascending Binary) ∷ [] };
     })
     (codes "name" ∷ codes "bytes" ∷ [])) × (reads_listing row_schema all_text ≡ false)
 unfolding understood everything

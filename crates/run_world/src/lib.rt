@@ -2,14 +2,16 @@
 //! and what was asked is kept with the numbers that it had.
 //!
 //! In reading order: `words` (what each key tells), `notes` (what was asked), `told` (what is told of
-//! a file and of an object), `run_world`.
+//! a file and of an object), `trails` (where runs ended early), `run_world`.
 #![tactic(auto)]
 
 mod notes;
 mod run_world;
 mod told;
+mod trails;
 mod words;
 
 pub use notes::Notes;
 pub use run_world::{Kept, RunWorld};
+pub use trails::Trails;
 pub use words::Words;

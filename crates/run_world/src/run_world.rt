@@ -10,11 +10,12 @@ ghost use Rattle.run_world.specs.NotedSets.{AreNumbered-prop, AreWords-prop};
 
 use crate::notes::Notes;
 use crate::told::{foreign_of, seen_in, text_of};
+use crate::trails::Trails;
 use crate::words::Words;
 use base::Text;
 use dml_world::{Foreign, Seen, TemplateStop, World, WorldStop};
 use load_path::{Content, Picture};
-use pan_ast::{Failure, Template};
+use pan_ast::{Failure, Place, Template};
 use path_tree::{Name, Refused, Term, Tree};
 use runner::Known;
 use std::alloc::{AllocError, Global};
@@ -29,6 +30,7 @@ use value_calls::{Patterns, ValueCall, call, find};
 pub struct Kept {
     pub templates: TemplateCache,
     pub patterns: Patterns,
+    pub trails: Trails,
 }
 
 impl Kept {
@@ -37,6 +39,7 @@ impl Kept {
         Kept {
             templates: TemplateCache::new(alloc),
             patterns: Patterns::new(alloc),
+            trails: Trails::new(alloc),
         }
     }
 }
@@ -109,6 +112,10 @@ impl<'a, K: Known, T: Words> World for RunWorld<'a, K, T> {
             Ok(()) => Ok(foreign),
             Err(AllocError) => Err(WorldStop::Memory),
         }
+    }
+
+    fn note_passed(&self, place: &Place) {
+        self.kept.trails.note(place);
     }
 
     fn find(&self, name: &str) -> Option<ValueCall> {

@@ -1,4 +1,4 @@
-ghost use Rattle.std.specs.Prelude.{◌≡◌, ◌≤◌, ◌<◌, IfOk, IfErr, IfSome, IsErrOf, OnOk, OnErr, Some, None, true, length, count_by};
+ghost use Rattle.std.specs.Prelude.{◌≡◌, ◌≤◌, ◌<◌, IfOk, IfErr, IfSome, IsSome, IsErrOf, OnOk, OnErr, Some, None, true, length, count_by};
 ghost use Rattle.load_path.specs.Pictures.{has_short_content};
 ghost use Rattle.outside.specs.Causes.{Caused, HasCause};
 ghost use Rattle.scans.specs.Outcomes.{IsScan, IsPassed, IsPerhapsPassed, IsTakenIn, OfFile, one_where_named};
@@ -52,7 +52,8 @@ fn find<S: Source>(
     i: usize,
     bytes: &mut Vec<u8>,
 ) -> Result<Option<Content>, StoreError>
-    requires { i < S.count source.old }
+    requires open { IsSome (S.opened source.old) }
+    requires counted { i < S.count source.old }
     ensures ok { IfOk result (λ found. OfFile (S.scanned source.old) i (λ f. found ≡ found_of f)) }
     ensures short { IfOk result (λ found. IfSome found (λ content. has_short_content content
         ≡ true)) }
@@ -101,7 +102,8 @@ fn read_one<S: Source>(
     picture: &mut Picture,
     bytes: &mut Vec<u8>,
 ) -> Result<usize, StoreError>
-    requires { i < S.count source.old }
+    requires open { IsSome (S.opened source.old) }
+    requires counted { i < S.count source.old }
     ensures ok { IfOk result
         (λ weight. OfFile (S.scanned source.old) i (IsTakenIn weight picture.old picture.new)) }
     ensures few { IfOk result (λ weight. weight ≤ TOO_LONG_BYTES) }
@@ -122,6 +124,7 @@ fn read_one<S: Source>(
 /// The source's next picture without names that are no file names and without files that are gone, or None where it
 /// is too much. The names are counted before any file is read.
 fn read_picture<S: Source>(alloc: Global, source: &mut S) -> Result<Option<Picture>, StoreError>
+    requires open { IsSome (S.opened source.old) }
     ensures ok { IfOk result (λ got. IsScan (S.coming source.old) got) }
     ensures taken { OnOk result (IsPassed (S.coming source.old) (S.coming source.new)) }
     ensures err { OnErr result (IsPerhapsPassed (S.coming source.old) (S.coming source.new)) }
@@ -153,6 +156,7 @@ fn read_picture<S: Source>(alloc: Global, source: &mut S) -> Result<Option<Pictu
 /// `MAX_SCAN_BYTES` bytes that are read, a file over `MAX_FILE_BYTES` counting one more than these. `Fault` comes only
 /// where a call on the source failed. After `TooMuch` the picture was taken from the source too.
 pub fn scan<S: Source>(alloc: Global, source: &mut S) -> Result<Picture, ScanError>
+    requires open { IsSome (S.opened source.old) }
     ensures ok { IfOk result (λ picture. IsScan (S.coming source.old) (Some picture)) }
     ensures too_much { IsErrOf result ScanError.TooMuch → IsScan (S.coming source.old) None }
     ensures taken { OnOk result (IsPassed (S.coming source.old) (S.coming source.new)) }

@@ -3,7 +3,7 @@ ghost use Rattle.outside.specs.Pictures.{are_pictures};
 
 use crate::scan;
 use base::{Bytes, Seq, Text};
-use outside::{MemFile, SureSource, are_distinct};
+use outside::{MemFile, Source, SureSource, are_distinct};
 use std::alloc::{AllocError, Global};
 use std::test::Fail;
 
@@ -31,6 +31,7 @@ fn pictures(alloc: Global) -> Result<Vec<Seq<MemFile>>, AllocError>
 #[test]
 fn takes_what_has_a_file_name(rt: HostRuntime) -> Result<(), Fail> {
     let mut source = SureSource::new(rt.alloc(), pictures(rt.alloc())?);
+    source.open_root("site").map_err(|_| "not opened")?;
     let picture = scan(rt.alloc(), &mut source).map_err(|_| "no picture")?;
     assert!(rt; picture.find("a.pan").is_some());
     assert!(rt; picture.find(".hidden").is_none());

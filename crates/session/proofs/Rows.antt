@@ -56,7 +56,8 @@ changing = plain (codes "scan") ∷ plain (codes "turn 2") ∷ plain (codes "sca
     (codes "show h") ∷ plain (codes "build") ∷ plain (codes "show h") ∷ []
 
 changing_text : written (reached toy changing (started new_toy sites []))
-    ≡ Some (codes "files 2 objects 1\nturns 2 left 2\nfiles 2 objects 1\npending\nrun h\nobjects 1 ok 1 faults 0 run 1\nprofile {\"v\":2}\n")
+    ≡ Some (codes "files 2 objects 1\nturns 2 left 2\nfiles 2 objects 1\npending\n"
+    ++ codes "run h\nobjects 1 ok 1 faults 0 run 1\nprofile {\"v\":2}\n")
 unfolding digits
 changing_text = refl
 
@@ -73,7 +74,9 @@ with_old = (file (codes "h.pan") (codes "object template h;\n'/v' = 1;\n") ∷ f
     (codes "template old;\n") ∷ []) ∷ []
 
 looking_text : written (reached toy looking (started new_toy with_old []))
-    ≡ Some (codes "end\nend\nfiles 2 objects 1\npending\npending\nturns 4 left 0\ntouches h\nend\nend\nunused old.pan\nend\nbad line\nbad line\nbad line\n")
+    ≡ Some (codes "end\nend\nfiles 2 objects 1\npending\npending\nturns 4 left 0\n"
+    ++ codes "touches h\nend\nend\nunused old.pan\nend\nbad line\nbad line\n"
+    ++ codes "bad line\n")
 unfolding digits with_old
 looking_text = refl
 
@@ -106,7 +109,9 @@ mending = plain (codes "build") ∷ record {
     } ∷ plain (codes "build") ∷ []
 
 mending_text : written (reached toy mending (started new_toy pictures []))
-    ≡ Some (codes "run h\nobjects 1 ok 1 faults 0 run 1\nsource fault\nprofile {\"a\":1}\nshelf fault h\nrun h\nobjects 1 ok 1 faults 0 run 1\nobjects 1 ok 1 faults 0 run 0\n")
+    ≡ Some (codes "run h\nobjects 1 ok 1 faults 0 run 1\nsource fault\n"
+    ++ codes "profile {\"a\":1}\nshelf fault h\nrun h\n"
+    ++ codes "objects 1 ok 1 faults 0 run 1\nobjects 1 ok 1 faults 0 run 0\n")
 unfolding digits
 mending_text = refl
 
@@ -163,7 +168,8 @@ refused = plain (codes "build") ∷ record {
 } ∷ []
 
 refused_text : written (reached toy refused (started new_toy losing []))
-    ≡ Some (codes "run h\nobjects 1 ok 1 faults 0 run 1\ntoo many removals 2\nobjects 0 ok 0 faults 0 run 0\n")
+    ≡ Some (codes "run h\nobjects 1 ok 1 faults 0 run 1\ntoo many removals 2\n"
+    ++ codes "objects 0 ok 0 faults 0 run 0\n")
 unfolding digits
 refused_text = refl
 
@@ -203,7 +209,8 @@ saving = record {
     } ∷ []
 
 saving_text : written (reached toy saving (started new_toy pictures []))
-    ≡ Some (codes "keeper fault\nrun h\nobjects 1 ok 1 faults 0 run 1\nobjects 1 ok 1 faults 0 run 0\n")
+    ≡ Some (codes "keeper fault\nrun h\nobjects 1 ok 1 faults 0 run 1\n"
+    ++ codes "objects 1 ok 1 faults 0 run 0\n")
 unfolding digits
 saving_text = refl
 
@@ -242,7 +249,8 @@ unasked = plain (codes "show h") ∷ plain (codes "why h") ∷ plain (codes "dep
     (codes "turn 9") ∷ plain (codes "scan") ∷ plain (codes "show h") ∷ []
 
 unasked_text : written (reached toy unasked (started restored sites []))
-    ≡ Some (codes "no object\nno object\nno object\nno object\nend\nend\nturns 0 left 0\nfiles 2 objects 1\npending\n")
+    ≡ Some (codes "no object\nno object\nno object\nno object\nend\nend\n"
+    ++ codes "turns 0 left 0\nfiles 2 objects 1\npending\n")
 unfolding digits chars is_utf8 encode
 unasked_text = refl
 
@@ -253,6 +261,8 @@ blaming = plain (codes "build") ∷ plain (codes "blame h /v") ∷ plain (codes 
     (codes "blame h ") ∷ plain (codes "scan") ∷ plain (codes "blame h /") ∷ []
 
 blaming_text : written (reached toy blaming (started new_toy pictures []))
-    ≡ Some (codes "run h\nobjects 1 ok 1 faults 0 run 1\nh line 2\nend\nno object\nbad line\nbad line\nbad line\nbad line\nfiles 3 objects 1\npending\n")
+    ≡ Some (codes "run h\nobjects 1 ok 1 faults 0 run 1\nh line 2\nend\nno object\n"
+    ++ codes "bad line\nbad line\nbad line\nbad line\nfiles 3 objects 1\n"
+    ++ codes "pending\n")
 unfolding digits chars is_utf8 encode
 blaming_text = refl

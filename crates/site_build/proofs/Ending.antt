@@ -23,9 +23,9 @@ use Rattle.site_build.specs.Session.{Session, Finished, WritesEarly, ended_behin
 use Rattle.site_build.specs.Rounds.{given_by, session_at}
 use Rattle.site_build.specs.declared.building.Reached.{Reached}
 use Rattle.site_build.specs.declared.building.Reached.TheVariants as reached
-use Rattle.compiler.specs.Compiler.{compiler}
-use Rattle.compiler.specs.Standing.{Gives, compiled_in}
-use Rattle.compiler.specs.declared.building.Built.{Built}
+use Rattle.engine_session.specs.Compiler.{compiler}
+use Rattle.engine_session.specs.Standing.{Gives, compiled_in}
+use Rattle.engine_session.specs.declared.building.Built.{Built}
 use Rattle.engine_turns.specs.declared.core_data.Core.{Core}
 use Rattle.rebuild.specs.Engines.{Meanings}
 use Rattle.publication.specs.Wants.{wants_of}

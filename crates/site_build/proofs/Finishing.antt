@@ -1,10 +1,10 @@
 -- What a build publishes, writes and spends, by how far it came.
 use Rattle.std.proofs.Common.{◌≡◌, ℕ, Bool, true, false, List, Option, Some, None, IfSome, Result, Ok, Err, IfOk, sym, subst}
 use Rattle.command_words.specs.declared.commands.Work.{Work}
-use Rattle.compiler.specs.Compiler.{Compiled}
-use Rattle.compiler.specs.Standing.{Counts, Gives, HasSpentAtMost, SpendsAs}
-use Rattle.compiler.specs.declared.building.Built.{Built}
-use Rattle.compiler.proofs.Counting.{at_most}
+use Rattle.engine_session.specs.Compiler.{Compiled}
+use Rattle.engine_session.specs.Standing.{Counts, Gives, HasSpentAtMost, SpendsAs}
+use Rattle.engine_session.specs.declared.building.Built.{Built}
+use Rattle.engine_session.proofs.Counting.{at_most}
 use Rattle.engine_turns.specs.declared.core_data.Core.{Core}
 use Rattle.outside.specs.declared.source.MemFile.{MemFile}
 use Rattle.publication.specs.Wants.{wants_of}

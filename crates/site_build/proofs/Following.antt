@@ -2,7 +2,7 @@
 use Rattle.std.proofs.Common.{◌≡◌, ℕ, List, Option, None, Some, IfErr, OnErr, IfSome, refl, sym, subst}
 use Rattle.std.specs.Prelude.{Result, Err, IfOk, OnOk}
 use Rattle.std.proofs.lemmas.Result.{IfErr-weaker}
-use Rattle.compiler.specs.Standing.{Counts, counts, HasSpentAtMost}
+use Rattle.engine_session.specs.Standing.{Counts, counts, HasSpentAtMost}
 use Rattle.outside.specs.Contents.{Appends, AppendsPart}
 use Rattle.outside.specs.declared.source.MemFile.{MemFile}
 use Rattle.publication.specs.Changing.{BegunOver, Tells}

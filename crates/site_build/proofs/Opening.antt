@@ -4,7 +4,7 @@ use Rattle.std.proofs.Common.{◌≡◌, ◌⊎◌, ℕ, List, [], Option, Some,
 use Rattle.std.specs.Prelude.{Result, Ok, Err, IfOk, OnOk}
 use std.Path.{fun_ext}
 use Rattle.command_words.specs.declared.commands.Work.{Work}
-use Rattle.compiler.specs.Standing.{HasSpentAtMost}
+use Rattle.engine_session.specs.Standing.{HasSpentAtMost}
 use Rattle.outside.specs.Causes.{Caused, Counted}
 use Rattle.outside.specs.Cells.{Cell, AreSame}
 use Rattle.outside.specs.declared.shelf.Change.{Change}

@@ -8,11 +8,11 @@ use Rattle.rebuild.specs.Engines.{Meanings, turns_left_of}
 use Rattle.session.specs.Machines.{Machine}
 use Rattle.session.specs.Sessions.{NotSaved, State, Next, GoesOn, SpendsNumbers, IsTooMuch, Scanned, NotBegun, BrokeOff, Done, state_in, with_turns, built, reported, started, scanned, writes}
 use Rattle.engine_turns.specs.Spent.{counted_more}
-use Rattle.compiler.specs.Compiler.{Compiled, compiler}
-use Rattle.compiler.specs.Standing.{Here, Counts, HasSpent, HasSpentAtMost, IsAt, IsIn, IsRising, MakesTurns, TakesNext, has_failed}
-use Rattle.compiler.specs.declared.taking.Took.TheVariants as took
-use Rattle.compiler.proofs.Counting.{no_fewer, spent_none, turns_rise}
-use Rattle.compiler.proofs.Moves.{along}
+use Rattle.engine_session.specs.Compiler.{Compiled, compiler}
+use Rattle.engine_session.specs.Standing.{Here, Counts, HasSpent, HasSpentAtMost, IsAt, IsIn, IsRising, MakesTurns, TakesNext, has_failed}
+use Rattle.engine_session.specs.declared.taking.Took.TheVariants as took
+use Rattle.engine_session.proofs.Counting.{no_fewer, spent_none, turns_rise}
+use Rattle.engine_session.proofs.Moves.{along}
 use Rattle.site_build.specs.Rounds.{Reaches, build_of, session_at}
 use Rattle.site_build.specs.Session.{engine_for, limits_of, round_from, session_after, state_from}
 use Rattle.site_build.specs.declared.building.Reached.TheVariants as reached

@@ -1,9 +1,9 @@
 -- A build behind its devices: what a settled engine gives, and how far a build came.
 use Rattle.std.specs.Prelude.{◌≡◌, ℕ, List, [], Option, Result, Ok, Err, IfOk, IfErr, OnOk, OnErr, nat_lt}
 use Rattle.command_words.specs.declared.commands.Work.{Work}
-use Rattle.compiler.specs.Compiler.{Compiled}
-use Rattle.compiler.specs.Standing.{Counts, HasSpent, HasSpentAtMost, IsIn, SpendsAs, compiled_in, machine_in}
-use Rattle.compiler.specs.declared.building.Built.{Built}
+use Rattle.engine_session.specs.Compiler.{Compiled}
+use Rattle.engine_session.specs.Standing.{Counts, HasSpent, HasSpentAtMost, IsIn, SpendsAs, compiled_in, machine_in}
+use Rattle.engine_session.specs.declared.building.Built.{Built}
 use Rattle.engine_turns.specs.declared.core_data.Core.{Core}
 use Rattle.outside.specs.declared.source.MemFile.{MemFile}
 use Rattle.publication.specs.Changing.{MadeOver, BegunOver, Tells}
@@ -69,7 +69,8 @@ pub record Reaches {T : Type 0} (means : Meanings T) (e : Compiled T) (work : Wo
   pub spent : SpendsBy how (state_from means e work pictures) before now
   pub ends : EndsIn means work (round_from means e work pictures) how core
 
--- the shelf with these names, and the sink, follow a session, to its end or as far as an end lets them
+-- the shelf with these names, and the sink, follow a session, to its end or as far as an end lets
+-- them
 pub record Follows (s : Session) (names : List (List ℕ)) (result : Result Ended End)
     (before after : Outs) : Type 0 where
   pub ok : IfOk result (λ how. Finished s how before.held after.held before.cell after.cell)

@@ -1,6 +1,6 @@
 -- What the devices and the runner tell before and after a call.
 use Rattle.std.specs.Prelude.{◌≡◌, ℕ, List, Option}
-use Rattle.compiler.specs.Standing.{Counts, counts}
+use Rattle.engine_session.specs.Standing.{Counts, counts}
 use Rattle.outside.specs.Cells.{Cell}
 use Rattle.outside.specs.declared.lines.Lines as lines
 use Rattle.outside.specs.declared.shelf.Change.{Change}

@@ -2,8 +2,8 @@
 -- give; and how a build ends.
 use Rattle.std.specs.Prelude.{◌≡◌, ℕ, List, [], Option, Some, None, IfSome, option_map, ◌⊎◌}
 use Rattle.command_words.specs.declared.commands.Work.{Work}
-use Rattle.compiler.specs.Compiler.{Compiled, compiler, nothing}
-use Rattle.compiler.specs.Standing.{HasSpentAtMost, SpendsAs}
+use Rattle.engine_session.specs.Compiler.{Compiled, compiler, nothing}
+use Rattle.engine_session.specs.Standing.{HasSpentAtMost, SpendsAs}
 use Rattle.outside.specs.Causes.{Counted}
 use Rattle.outside.specs.Cells.{Cell, AreSame}
 use Rattle.outside.specs.Contents.{Appends, AppendsPart}
@@ -126,7 +126,8 @@ TakesEarly E.Memory old new = (new ≡ old) ⊎ IsPassed old new
 abbrev pub IsPerhapsOpened : List ℕ → Option (List ℕ) → Option (List ℕ) → Type 0
 IsPerhapsOpened folder old new = (new ≡ old) ⊎ (new ≡ Some folder)
 
--- A build came to its end: its session is that of the names on the shelf, in byte order. All changes
+-- A build came to its end: its session is that of the names on the shelf, in byte order. All
+-- changes
 -- of its publication were made, over these names, and no other; without a publication nothing was
 -- done. The runs and steps are the session's, the roots are those that the words name, one picture
 -- was taken, no line was read, and no call of a device failed.

@@ -1,6 +1,6 @@
-ghost use Rattle.std.specs.Prelude.{◌≡◌, ◌≤◌, ◌⊎◌, IfOk, IfErr, OnOk, OnErr, IfSome, Some, true};
-ghost use Rattle.compiler.specs.Compiler.{Compiled};
-ghost use Rattle.compiler.specs.Standing.{IsBegun, IsFaithful, IsIn, HasSpentAtMost, counts};
+ghost use Rattle.std.specs.Prelude.{◌≡◌, ◌≤◌, ◌⊎◌, IfOk, IfErr, OnOk, OnErr, IfSome, IsSome, Some, true};
+ghost use Rattle.engine_session.specs.Compiler.{Compiled};
+ghost use Rattle.engine_session.specs.Standing.{IsBegun, IsFaithful, IsIn, HasSpentAtMost, counts};
 ghost use Rattle.outside.specs.Causes.{Caused};
 ghost use Rattle.outside.specs.Contents.{Appends, AppendsPart};
 ghost use Rattle.publication.specs.Listings.{Lists};
@@ -19,7 +19,7 @@ use crate::ends::End;
 use crate::handed::Devices;
 use base::{Steps, Text};
 use command_words::Work;
-use compiler::{Built, Took, Works, make_all_turns, start, take_next};
+use engine_session::{Built, Took, Works, make_all_turns, start, take_next};
 use outside::{Lines, Shelf, Sink, Source};
 use pan_ast::Limits;
 use publication::Publication;
@@ -105,6 +105,7 @@ fn publish_built<H: Shelf, O: Sink>(
     shelf: &mut H,
     out: &mut O,
 ) -> Result<Ended, End>
+    requires open { IsSome (H.opened shelf.old) }
     requires proper { proper (wants_of built.profiles.items) ≡ true }
     requires listed { Lists listed.now (H.cell shelf.old) }
     ensures follows { Follows (given_by most listed.now built) listed.now result
@@ -130,6 +131,7 @@ fn finish<R: Runner, S: Source, H: Shelf, N: Lines, O: Sink>(
     listed: &[Text],
     devices: &mut Devices<S, H, N, O>,
 ) -> Result<Ended, End>
+    requires open { IsSome (H.opened devices.old.shelf) }
     requires settled { reached ≡ Reached.All → turns_left_of works.now.engine.core ≡ 0 }
     requires listed { Lists listed.now (H.cell devices.old.shelf) }
     ensures follows { (reached ≡ Reached.All → IsFaithful R.meaning works.now) → Follows
@@ -147,7 +149,7 @@ fn finish<R: Runner, S: Source, H: Shelf, N: Lines, O: Sink>(
 {
     match reached {
         Reached::All => {
-            let built = compiler::build(alloc, works)?;
+            let built = engine_session::build(alloc, works)?;
             publish_built(
                 alloc,
                 built,
@@ -173,6 +175,7 @@ pub fn settle<R: Runner, S: Source, L: Ledger>(
     source: &mut S,
     steps: &mut Steps<L>,
 ) -> Result<Reached, End>
+    requires open { IsSome (S.opened source.old) }
     ensures ok { IsBegun R.meaning works.old → IfOk result (λ how. (work : Work)
         (e : Compiled R.Rest) → IsIn work.directories (limits_of work) works.old.engine.core e
         → IfSome (S.coming source.old) (λ ps. Reaches R.meaning e work how ps
@@ -216,7 +219,9 @@ pub fn build_over<R: Runner, S: Source, H: Shelf, N: Lines, O: Sink, L: Ledger>(
     listed: &[Text],
     steps: &mut Steps<L>,
 ) -> Result<Ended, End>
-    requires { Lists listed.now (H.cell devices.old.shelf) }
+    requires source_open { IsSome (S.opened devices.old.source) }
+    requires shelf_open { IsSome (H.opened devices.old.shelf) }
+    requires listed { Lists listed.now (H.cell devices.old.shelf) }
     ensures follows { IfSome (S.coming devices.old.source) (λ ps. Follows
         (session_for R.meaning work.now listed.now ps) listed.now result
         (outs H.Shelf O.Sink devices.old.shelf devices.old.out)

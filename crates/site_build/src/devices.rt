@@ -1,4 +1,4 @@
-ghost use Rattle.std.specs.Prelude.{◌≡◌, ℕ, List, IfOk, IfErr, OnOk, OnErr, Some, true, [], bytes_eq};
+ghost use Rattle.std.specs.Prelude.{◌≡◌, ℕ, List, IfOk, IfErr, OnOk, OnErr, Some, true, [], bytes_eq, IsSome, None};
 ghost use Rattle.std.specs.List.{list_any};
 ghost use Rattle.std.specs.List.Sorted.{IsSorted, IsStrictlySortedBy};
 ghost use Rattle.std.specs.Cmp.Lexicographic.{slice_cmp};
@@ -20,8 +20,9 @@ use outside::{Shelf, Sink, Source, StoreError};
 use publication::{Profile, Publication, PublishError, listed, publish_until_failure};
 use std::alloc::Global;
 
-/// Opens the source at a folder.
+/// Opens the source, which is closed, at a folder.
 pub fn open_source<S: Source>(source: &mut S, root: &str) -> Result<(), End>
+    requires closed { S.opened source.old ≡ None }
     ensures opened { OnOk result (S.opened source.new ≡ Some root.now) }
     ensures refused { OnErr result (S.opened source.new ≡ S.opened source.old) }
     ensures coming { S.coming source.new ≡ S.coming source.old }
@@ -36,8 +37,9 @@ pub fn open_source<S: Source>(source: &mut S, root: &str) -> Result<(), End>
     }
 }
 
-/// Opens the shelf at a folder.
+/// Opens the shelf, which is closed, at a folder.
 pub fn open_shelf<H: Shelf>(shelf: &mut H, root: &str) -> Result<(), End>
+    requires closed { H.opened shelf.old ≡ None }
     ensures opened { OnOk result (H.opened shelf.new ≡ Some root.now) }
     ensures refused { OnErr result (H.opened shelf.new ≡ H.opened shelf.old) }
     ensures same { AreSame (H.cell shelf.old) (H.cell shelf.new) }
@@ -65,6 +67,7 @@ fn keep_once(names: &mut Vec<Text>)
 
 /// All names of the shelf, each once, in byte order.
 pub fn list_shelf<H: Shelf>(alloc: Global, shelf: &mut H) -> Result<Vec<Text>, End>
+    requires open { IsSome (H.opened shelf.old) }
     ensures ok { IfOk result (λ names. Lists names.items (H.cell shelf.old)) }
     ensures sorted { IfOk result (λ names. IsStrictlySortedBy (slice_cmp nat_cmp) names.items) }
     ensures changes { H.changes shelf.new ≡ H.changes shelf.old }
@@ -93,6 +96,7 @@ pub fn publish<H: Shelf>(
     profiles: &[Profile],
     most: Option<u64>,
 ) -> Result<Publication, End>
+    requires open { IsSome (H.opened shelf.old) }
     requires proper { proper (wants_of profiles.now) ≡ true }
     requires listed { Lists listed.now (H.cell shelf.old) }
     ensures answer { IfOk result

@@ -1,4 +1,4 @@
-ghost use Rattle.std.specs.Prelude.{◌≡◌, IfOk, IfErr};
+ghost use Rattle.std.specs.Prelude.{◌≡◌, IfOk, IfErr, None};
 ghost use Rattle.site_build.specs.Scenes.{scene};
 ghost use Rattle.site_build.specs.Session.{Finishes, Breaks};
 
@@ -8,7 +8,7 @@ use crate::ends::End;
 use crate::handed::Devices;
 use base::Steps;
 use command_words::Work;
-use compiler::Works;
+use engine_session::Works;
 use outside::{Lines, Shelf, Sink, Source};
 use runner::Runner;
 use session::Ended;
@@ -28,6 +28,8 @@ pub fn build_site<R: Runner, S: Source, H: Shelf, N: Lines, O: Sink, L: Ledger>(
     devices: &mut Devices<S, H, N, O>,
     steps: &mut Steps<L>,
 ) -> Result<Ended, End>
+    requires source_closed { S.opened devices.old.source ≡ None }
+    requires shelf_closed { H.opened devices.old.shelf ≡ None }
     ensures ok { IfOk result (λ ended. Finishes R.meaning work.now ended
         (scene R.Runner S.Source H.Shelf N.Lines O.Sink works.old.runner devices.old steps.old)
         (scene R.Runner S.Source H.Shelf N.Lines O.Sink works.new.runner devices.new steps.new)) }

@@ -164,7 +164,8 @@ set_run p last x v = do
 abbrev pub present_global : List ℕ → Program → Plain
 present_global x s = unwrap_or (found s.globals.variables x) undef
 
--- a variable that may be set: where the statement is conditional and a value is there, nothing; else
+-- a variable that may be set: where the statement is conditional and a value is there, nothing;
+-- else
 -- the DML, with the present value as SELF, and then the change
 unfoldable pub variable_value : Site → Inside → Place → Bool → List ℕ → Bool → Item → Run (Unit {0})
 variable_value site n p last x conditional i = now >>= (λ s.
@@ -335,7 +336,8 @@ runs_once kind.Unique = true
 runs_once kind.Declaration = true
 runs_once k = false
 
--- whether a template runs now: a unique or declaration template does so once, and counts as run from
+-- whether a template runs now: a unique or declaration template does so once, and counts as run
+-- from
 -- its beginning on
 unfoldable pub starts : TemplateKind → List ℕ → Run Bool
 starts k name = cond (runs_once k) (now >>= (λ s.

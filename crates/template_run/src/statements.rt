@@ -313,14 +313,25 @@ fn include_value<W: World, L: Ledger>(
     ensures counted { steps.new + work.new.left ≡ steps.old + work.old.left }
 {
     if let Some(name) = value.as_text() {
-        return include(
+        let end = include(
             alloc, place, name, site, inside, program, world, work, steps,
         );
+        return passed(place, end, world);
     }
     if passes(Test::Defined, value.kind()) {
         return Err(stop_on(alloc, Code::BadArgument, place, ""));
     }
     Ok(())
+}
+
+/// The end of an include at a place; an early one is noted for a reader.
+fn passed<W: World>(place: &Place, end: Result<(), Stop>, world: &W) -> Result<(), Stop>
+    ensures { result ≡ end }
+{
+    if end.is_err() {
+        world.note_passed(place);
+    }
+    end
 }
 
 /// Includes the template of a name, where an include may still be opened.

@@ -187,7 +187,8 @@ module _ {T : Type 0} (m : Meaning T) (dirs : List (List ℕ)) (old new : List P
     same_end : (r : End T) → built_end m old objects o ≡ r → checked_end m old objects r
         ≡ checked_end m new others r
     same_end (Err f) is = refl
-    same_end (Ok b) is = ap (by_verdict b.tree) ((check_alike b is).ends (judge_of m.check).unfinished
+    same_end (Ok b) is = ap (by_verdict b.tree) ((check_alike b is).ends
+        (judge_of m.check).unfinished
         (runner_of m.build).limit)
 
     pub as_before : IsAsBefore m old new objects others o

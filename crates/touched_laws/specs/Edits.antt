@@ -25,7 +25,8 @@ abbrev pub Has : {X : Type 0} → X → List X → Type 0
 Has x [] = ⊥
 Has x (y ∷ ys) = (y ≡ x) ⊎ Has x ys
 
--- under this name stands an item with this key, whose number is 0 where the key has the content of an
+-- under this name stands an item with this key, whose number is 0 where the key has the content of
+-- an
 -- object that is not there
 pub record HasItem (entries : List Entry) (name : List ℕ) (key : Key) (told : Content)
     : Type 0 where

@@ -35,7 +35,8 @@ module _ {T : Type 0} (m : Meaning T) (old new : List PictureFile) (objects othe
 abbrev pub LeavesUntouched : {T : Type 0} → Meaning T → Type 0
 LeavesUntouched m = (dirs : List (List ℕ)) (old new : List PictureFile) (objects others : List Name)
     (file : List ℕ) (entries : List Entry) (touched : List (List ℕ)) → IsLawful m
-    → LooksForTemplates m dirs → length dirs ≤ MAX_WORK → AreObjects old dirs objects → AreObjects new dirs others
+    → LooksForTemplates m dirs → length dirs ≤ MAX_WORK → AreObjects old dirs objects
+    → AreObjects new dirs others
     → IsEdit file old new → IsRegister m old objects entries
     → AreTouched entries file dirs touched → (o : Name) → is_among o objects ≡ true
     → stands_in o touched ≡ false → IsAsBefore m old new objects others o

@@ -10,4 +10,5 @@ dict_with (key ∷ keys) e = refl
 pub dict_without : (keys : List (List ℕ)) → nat_eq (length keys) 0 ≡ true
     → dict_words keys ≡ codes "a dict"
 dict_without [] e = refl
-dict_without (key ∷ keys) e = absurd (let none : length (key ∷ keys) ≡ 0 = search arith in omega arith)
+dict_without (key ∷ keys) e =
+    absurd (let none : length (key ∷ keys) ≡ 0 = search arith in omega arith)

@@ -1,8 +1,8 @@
 -- A line that asks who set the leaves of an object.
 use Rattle.std.proofs.Common.{◌≡◌, ℕ, List, [], Some, not, false, nat_eq, if◌then◌else◌, refl, sym, ap, ◌∙◌, subst, arith, codes}
 use Rattle.blamed_works.specs.Lines.{Blames}
-use Rattle.compiler.specs.Compiler.{Compiled, compiler}
-use Rattle.compiler.specs.Standing.{Here, Counts, HasSpentAtMost}
+use Rattle.engine_session.specs.Compiler.{Compiled, compiler}
+use Rattle.engine_session.specs.Standing.{Here, Counts, HasSpentAtMost}
 use Rattle.engine_turns.specs.declared.core_data.Core.{Core}
 use Rattle.pan_ast.specs.declared.work.Limits.{Limits}
 use Rattle.path_tree.specs.declared.path.Term.{Term}

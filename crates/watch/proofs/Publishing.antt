@@ -1,6 +1,6 @@
 -- A publication that was cut off changes no rows.
 use Rattle.std.proofs.Common.{List, ap, inl, inr, refl}
-use Rattle.compiler.specs.Compiler.{Compiled}
+use Rattle.engine_session.specs.Compiler.{Compiled}
 use Rattle.publication.specs.declared.publisher.Publisher.{Publisher}
 use Rattle.session.specs.Machines.{Machine}
 use Rattle.stored_rows.specs.declared.row.StoredRow.{StoredRow}

@@ -1,9 +1,9 @@
 -- What holds before each line, and what is kept of an engine.
 use Rattle.std.proofs.Common.{◌≡◌, ℕ, true, List, refl, subst}
-use Rattle.compiler.specs.Compiler.{Compiled}
-use Rattle.compiler.specs.Standing.{IsBegun, IsFaithful, IsIn, compiled_in}
-use Rattle.compiler.specs.declared.works.Works.{Works}
-use Rattle.compiler.proofs.Fits.{begins}
+use Rattle.engine_session.specs.Compiler.{Compiled}
+use Rattle.engine_session.specs.Standing.{IsBegun, IsFaithful, IsIn, compiled_in}
+use Rattle.engine_session.specs.declared.works.Works.{Works}
+use Rattle.engine_session.proofs.Fits.{begins}
 use Rattle.engine_rows.specs.Restoring.{IsSoundKept}
 use Rattle.engine_rows.proofs.Stored.{kept_sound}
 use Rattle.engine_turns.specs.declared.core_data.Core.{Core}

@@ -1,7 +1,7 @@
 -- What becomes of the rows that are kept.
 use Rattle.std.proofs.Common.{◌≡◌, ◌≤◌, ◌+◌, ◌⊎◌, ℕ, List, [], ◌∷◌, Option, Some, None, option_map, inl, inr, refl, sym, ap, ◌∙◌, subst, arith}
 use Rattle.std.specs.Prelude.{IfSome}
-use Rattle.compiler.specs.Compiler.{Compiled, forgotten}
+use Rattle.engine_session.specs.Compiler.{Compiled, forgotten}
 use Rattle.engine_laws.specs.Names.{Name}
 use Rattle.engine_rows.specs.Restoring.{IsSoundKept}
 use Rattle.engine_rows.specs.Storing.{kept_object, kept_objects, with_some}

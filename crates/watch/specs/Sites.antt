@@ -1,8 +1,8 @@
 -- What a session works on, as clauses speak of it, and what a line makes of it.
 use Rattle.std.specs.declared.alloc.Global.{Global}
 use Rattle.std.specs.Prelude.{◌≡◌, ◌≤◌, ℕ, List, Option, Some, None, true, false, Result, OnOk, option_map, vec_items, Vec}
-use Rattle.compiler.specs.Compiler.{Compiled, compiler}
-use Rattle.compiler.specs.Standing.{Here, IsBegun, IsFaithful, IsIn, counts}
+use Rattle.engine_session.specs.Compiler.{Compiled, compiler}
+use Rattle.engine_session.specs.Standing.{Here, IsBegun, IsFaithful, IsIn, counts}
 use Rattle.keepers.specs.declared.keeper.Keeper as keeper
 use Rattle.outside.specs.declared.shelf.Shelf as shelf
 use Rattle.outside.specs.declared.source.MemFile.{MemFile}
@@ -87,7 +87,8 @@ pub record IsLater {R S H K T : Type 0} {M : runner.Ghosts R T} (D : source.Ghos
   pub shelf_later : P.fault_count before.shelf ≤ P.fault_count after.shelf
   pub store_later : Q.fault_count before.keeper ≤ Q.fault_count after.keeper
 
--- what holds behind a line, however it ended: where it was worked on, the publisher knows the shelf,
+-- what holds behind a line, however it ended: where it was worked on, the publisher knows the
+-- shelf,
 -- and where no rows are kept the keeper was not called
 pub record IsBehind {R S H K T A E : Type 0} {M : runner.Ghosts R T} (D : source.Ghosts S)
     (P : shelf.Ghosts H) (Q : keeper.Ghosts K) (result : Result A E)

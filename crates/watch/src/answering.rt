@@ -1,6 +1,6 @@
 ghost use Rattle.std.specs.Prelude.{◌≡◌, ◌++◌, OnOk, codes, if◌then◌else◌};
-ghost use Rattle.compiler.specs.Compiler.{cause_text};
-ghost use Rattle.compiler.specs.Standing.{compiled_in, machine_in};
+ghost use Rattle.engine_session.specs.Compiler.{cause_text};
+ghost use Rattle.engine_session.specs.Standing.{compiled_in, machine_in};
 ghost use Rattle.rebuild.specs.Answers.{why_at};
 ghost use Rattle.rebuild.specs.Engines.{situation_of};
 ghost use Rattle.session.specs.Sessions.{deps_of, shown_of, touched_of, unused_of};
@@ -9,7 +9,7 @@ ghost use Rattle.watch.specs.Sites.{IsReady};
 
 use crate::site::Site;
 use crate::texts::{push_deps, push_shown, push_touched, push_unused};
-use compiler::{deps, push_cause, shown, touched, unused};
+use engine_session::{deps, push_cause, shown, touched, unused};
 use runner::Runner;
 use std::alloc::{AllocError, Global};
 

@@ -1,5 +1,5 @@
-ghost use Rattle.std.specs.Prelude.{◌≡◌, ◌≤◌, ◌++◌, IfOk, OnOk, OnErr, [], option_map, true, vec_items};
-ghost use Rattle.compiler.specs.Standing.{IsFaithful, compiled_in, machine_in};
+ghost use Rattle.std.specs.Prelude.{◌≡◌, ◌≤◌, ◌++◌, IfOk, OnOk, OnErr, [], option_map, true, vec_items, IsSome};
+ghost use Rattle.engine_session.specs.Standing.{IsFaithful, compiled_in, machine_in};
 ghost use Rattle.kept_works.specs.Kept.{rows_by};
 ghost use Rattle.publication.specs.Published.{Knows};
 ghost use Rattle.rebuild.specs.Engines.{turns_left_of};
@@ -16,7 +16,7 @@ use crate::site::Site;
 use crate::step::Step;
 use crate::texts::{push_publication, push_saving};
 use base::Steps;
-use compiler::{Built, Took, Works, build, make_all_turns, take_next};
+use engine_session::{Built, Took, Works, build, make_all_turns, take_next};
 use keepers::Keeper;
 use outside::{Shelf, Source};
 use publication::{Publication, Publisher};
@@ -39,6 +39,7 @@ fn announce<R: Runner, H: Shelf>(
     shelf: &mut H,
     publisher: &mut Publisher,
 ) -> Result<Announced, AllocError>
+    requires open { IsSome (H.opened shelf.old) }
     requires settled { turns_left_of works.now.engine.core ≡ 0 }
     requires knows { Knows publisher.old (H.cell shelf.old) }
     ensures done { IsFaithful R.meaning works.now → IfOk result (λ a. Announces
@@ -84,6 +85,7 @@ fn publish_built<R: Runner, H: Shelf, K: Keeper>(
     rows: &mut Option<Vec<StoredRow>>,
     text: &mut Vec<u8>,
 ) -> Result<bool, AllocError>
+    requires open { IsSome (H.opened shelf.old) }
     requires text { text.old.items ≡ [] }
     requires settled { turns_left_of works.now.engine.core ≡ 0 }
     requires knows { Knows publisher.old (H.cell shelf.old) }
@@ -123,6 +125,8 @@ pub(crate) fn build_line<R: Runner, S: Source, H: Shelf, K: Keeper, L: Ledger>(
     text: &mut Vec<u8>,
     steps: &mut Steps<L>,
 ) -> Result<Step, AllocError>
+    requires source_open { IsSome (S.opened site.old.source) }
+    requires shelf_open { IsSome (H.opened site.old.shelf) }
     requires text { text.old.items ≡ [] }
     requires knows { Knows site.old.publisher (H.cell site.old.shelf) }
     ensures went { IsReady R.meaning site.old → IfOk result (λ step. Goes R.meaning orders.Build

@@ -1,6 +1,6 @@
 ghost use Rattle.std.specs.Prelude.{◌≡◌, ◌≤◌, ℕ, IfOk, List, OnErr, Some, map, option_map, true, vec_items};
-ghost use Rattle.compiler.specs.Compiler.{Compiled};
-ghost use Rattle.compiler.specs.Standing.{IsIn};
+ghost use Rattle.engine_session.specs.Compiler.{Compiled};
+ghost use Rattle.engine_session.specs.Standing.{IsIn};
 ghost use Rattle.kept_works.specs.Kept.{rows_by};
 ghost use Rattle.pan_ast.specs.declared.work.Limits.{Limits};
 ghost use Rattle.session.specs.Sessions.{NotSaved};
@@ -10,7 +10,7 @@ ghost use Rattle.watch.specs.Shelves.{KeepsOver, SavesAs, is_rising};
 ghost use Rattle.watch.specs.Sites.{LeavesUnkept, stocked};
 ghost use Rattle.watch.specs.Steps.{IsUnsaved};
 
-use compiler::Works;
+use engine_session::Works;
 use keepers::Keeper;
 use kept_works::rows;
 use outside::StoreError;

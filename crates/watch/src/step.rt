@@ -1,4 +1,4 @@
-ghost use Rattle.std.specs.Prelude.{◌≡◌, IfOk, OnOk, OnErr, []};
+ghost use Rattle.std.specs.Prelude.{◌≡◌, IfOk, OnOk, OnErr, [], IsSome};
 ghost use Rattle.publication.specs.Published.{Knows};
 ghost use Rattle.session.specs.Orders as orders;
 ghost use Rattle.session.specs.Orders.{order_of};
@@ -11,7 +11,7 @@ use crate::site::Site;
 use crate::texts::{push_files, push_turns};
 use base::Steps;
 use blamed_works::blame;
-use compiler::{Took, make_turns, take_next};
+use engine_session::{Took, make_turns, take_next};
 use keepers::Keeper;
 use outside::{Shelf, Source};
 use path_tree::Path;
@@ -35,6 +35,7 @@ fn scan_line<R: Runner, S: Source, H: Shelf, K: Keeper, L: Ledger>(
     text: &mut Vec<u8>,
     steps: &mut Steps<L>,
 ) -> Result<Step, AllocError>
+    requires source_open { IsSome (S.opened site.old.source) }
     requires text { text.old.items ≡ [] }
     ensures went { IsReady R.meaning site.old → IfOk result (λ step. Goes R.meaning orders.Scan
         step text.new.items
@@ -153,6 +154,8 @@ pub fn work_on<R: Runner, S: Source, H: Shelf, K: Keeper, L: Ledger>(
     text: &mut Vec<u8>,
     steps: &mut Steps<L>,
 ) -> Result<Step, AllocError>
+    requires source_open { IsSome (S.opened site.old.source) }
+    requires shelf_open { IsSome (H.opened site.old.shelf) }
     requires text { text.old.items ≡ [] }
     requires knows { Knows site.old.publisher (H.cell site.old.shelf) }
     ensures went { IsReady R.meaning site.old → IfOk result (λ step. Goes R.meaning

@@ -1,4 +1,4 @@
-ghost use Rattle.std.specs.Prelude.{◌≡◌, IfOk, OnOk, OnErr, IfErr, true, false};
+ghost use Rattle.std.specs.Prelude.{◌≡◌, IfOk, OnOk, OnErr, IfErr, true, false, IsSome};
 ghost use Rattle.outside.specs.Causes.{Caused};
 ghost use Rattle.outside.specs.Contents.{Appends, AppendsPart};
 ghost use Rattle.outside.specs.Lines.{NextLine};
@@ -7,6 +7,7 @@ ghost use Rattle.watch.specs.Played.{IsEndOf, reel};
 ghost use Rattle.watch.specs.Sites.{Finishes, IsReady, LeavesUnkept, Stops, begun, spot_of};
 
 use crate::ends::End;
+use crate::noting::note;
 use crate::site::Site;
 use crate::step::{Step, work_on};
 use base::Steps;
@@ -60,6 +61,8 @@ pub fn play<R: Runner, S: Source, H: Shelf, K: Keeper, N: Lines, O: Sink, L: Led
     out: &mut O,
     steps: &mut Steps<L>,
 ) -> Result<(), End>
+    requires source_open { IsSome (S.opened site.old.source) }
+    requires shelf_open { IsSome (H.opened site.old.shelf) }
     requires knows { Knows site.old.publisher (H.cell site.old.shelf) }
     ensures ok { IsReady R.meaning site.old → OnOk result (Finishes R.meaning
         (reel (N.left lines.old) (N.left lines.new) (O.held out.old) (O.held out.new))
@@ -99,6 +102,7 @@ pub fn play<R: Runner, S: Source, H: Shelf, K: Keeper, N: Lines, O: Sink, L: Led
             Ok(()) => {}
             Err(end) => return Err(end),
         }
+        note(alloc, &line, site, out);
     }
     Err(End::TooManyLines)
 }

@@ -4,10 +4,10 @@ ghost use Rattle.engine_turns.specs.Spent.{Spends};
 ghost use Rattle.engine_turns.specs.States.{pictured};
 ghost use Rattle.rebuild.specs.Engines.{objects_of, turns_left_of};
 ghost use Rattle.run_again.specs.Again.{IsEndOf, scratch_steps};
-ghost use Rattle.compiler.specs.Standing.{IsFaithful};
+ghost use Rattle.engine_session.specs.Standing.{IsFaithful};
 
 use base::Steps;
-use compiler::Works;
+use engine_session::Works;
 use engine_turns::row_in;
 use pan_ast::Fault;
 use run_again::run_again;

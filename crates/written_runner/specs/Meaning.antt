@@ -1,4 +1,5 @@
--- What written objects mean: their builds give the value of the last line, and so do their checks, which
+-- What written objects mean: their builds give the value of the last line, and so do their checks,
+-- which
 -- give it up.
 use Rattle.std.specs.Prelude.{ℕ, List, [], Some, None, Ok, Err}
 use Rattle.path_tree.specs.Plain.{Plain, undef}

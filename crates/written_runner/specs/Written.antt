@@ -87,7 +87,8 @@ object_asked p then (Some object) = step p >>= (λ _. (ask (Under object []) >>=
 abbrev pub file_asked : Place → List ℕ → (Content → Run Plain (Unit {0})) → Run Plain (Unit {0})
 file_asked p file then = step p >>= (λ _. (ask (File file) >>= then))
 
--- files are asked for in order up to the first that is there, and the run goes on with its content, or
+-- files are asked for in order up to the first that is there, and the run goes on with its content,
+-- or
 -- else with that of a file that is not there
 abbrev pub first_asked : Place → List (List ℕ) → (Content → Run Plain (Unit {0}))
     → Run Plain (Unit {0})

@@ -11,7 +11,8 @@ first : (a b : Bool) → (a && b) ≡ true → a ≡ true
 first true b e = refl
 first false b e = cc
 
-one_more : (ps : List (List MemFile)) (p : List MemFile) → are_pictures ps ≡ true → are_distinct p ≡ true → are_pictures (ps ++ p ∷ []) ≡ true
+one_more : (ps : List (List MemFile)) (p : List MemFile) → are_pictures ps ≡ true → are_distinct p
+    ≡ true → are_pictures (ps ++ p ∷ []) ≡ true
 one_more [] p all last = ap (λ b. b && true) last
 one_more (q ∷ ps) p all last =
     let rest = one_more ps p (both (are_distinct q) (are_pictures ps) all) last in
@@ -20,5 +21,7 @@ one_more (q ∷ ps) p all last =
 pub returns : goal.returns
 returns c =
     let distinct : are_distinct c.args.files.items ≡ true = search rules in
-    let pushed : c.push.new.self.items ≡ c.args.pictures.now.items ++ c.args.files.items ∷ [] = search rules in
-    ap are_pictures pushed ∙ one_more c.args.pictures.now.items c.args.files.items c.requires distinct
+    let pushed : c.push.new.self.items ≡ c.args.pictures.now.items ++ c.args.files.items ∷ [] =
+    search rules in
+    ap are_pictures pushed ∙ one_more c.args.pictures.now.items c.args.files.items c.requires
+    distinct

@@ -31,7 +31,8 @@ chains::run_chain-turns-init g t c =
       counted = c.start.ensures.counted;
     }
 
-pub chains::run_chain-returns-in-None-pop-clause-gives : goal.chains::run_chain-returns-in-None-pop-clause-gives
+pub chains::run_chain-returns-in-None-pop-clause-gives :
+    goal.chains::run_chain-returns-in-None-pop-clause-gives
 unfolding steps_run
 chains::run_chain-returns-in-None-pop-clause-gives g t c =
     let empty : length c.turns.waiting.items ≡ 0 =
@@ -56,7 +57,8 @@ creating::run_included-returns-clause-gives g t c =
           (search (rules, template)) (inside.1 told),
     )
 
-pub built_in::exists_item-returns-in_err-argument-clause-gives : goal.built_in::exists_item-returns-in_err-argument-clause-gives
+pub built_in::exists_item-returns-in_err-argument-clause-gives :
+    goal.built_in::exists_item-returns-in_err-argument-clause-gives
 built_in::exists_item-returns-in_err-argument-clause-gives g t c = λ keys.
     let leaves = exists_leaves (around_of c.args.around.now g.W.World.reading g.W.World.calls)
     g.W.World.plain c.args.room c.args.place.now (item_seen c.args.item.now)
@@ -64,7 +66,8 @@ built_in::exists_item-returns-in_err-argument-clause-gives g t c = λ keys.
     (env c.args.live.now) (meter c.args.live.now.work (g.W.World.asked c.args.world.now)) in
     grind (arith, leaves)
 
-pub built_in::exists_item-returns-in_err-value-clause-gives : goal.built_in::exists_item-returns-in_err-value-clause-gives
+pub built_in::exists_item-returns-in_err-value-clause-gives :
+    goal.built_in::exists_item-returns-in_err-value-clause-gives
 built_in::exists_item-returns-in_err-value-clause-gives g t c = λ keys.
     let stops = exists_stops (around_of c.args.around.now g.W.World.reading g.W.World.calls)
     g.W.World.plain c.args.room c.in_err-value.field-0.0 c.args.place.now
@@ -73,7 +76,8 @@ built_in::exists_item-returns-in_err-value-clause-gives g t c = λ keys.
     (meter c.open_item.new.live.work (g.W.World.asked c.open_item.new.world)) in
     grind (arith, stops)
 
-pub built_in::delete_item-returns-in_err-argument-clause-gives : goal.built_in::delete_item-returns-in_err-argument-clause-gives
+pub built_in::delete_item-returns-in_err-argument-clause-gives :
+    goal.built_in::delete_item-returns-in_err-argument-clause-gives
 built_in::delete_item-returns-in_err-argument-clause-gives g t c = λ keys.
     let leaves = delete_leaves (around_of c.args.around.now g.W.World.reading g.W.World.calls)
     g.W.World.plain c.args.room c.args.place.now (item_seen c.args.item.now)
@@ -81,7 +85,8 @@ built_in::delete_item-returns-in_err-argument-clause-gives g t c = λ keys.
     (env c.args.live.now) (meter c.args.live.now.work (g.W.World.asked c.args.world.now)) in
     grind (arith, leaves)
 
-pub built_in::run_copy-returns-in_err-list-clause-gives : goal.built_in::run_copy-returns-in_err-list-clause-gives
+pub built_in::run_copy-returns-in_err-list-clause-gives :
+    goal.built_in::run_copy-returns-in_err-list-clause-gives
 built_in::run_copy-returns-in_err-list-clause-gives g t c = λ keys.
     let stops = copy_stops (around_of c.args.around.now g.W.World.reading g.W.World.calls)
     g.W.World.plain c.args.room c.in_err-list.field-0.0 c.args.place.now c.args.side
@@ -91,7 +96,8 @@ built_in::run_copy-returns-in_err-list-clause-gives g t c = λ keys.
     (meter c.open_item.new.live.work (g.W.World.asked c.open_item.new.world)) in
     grind (arith, stops)
 
-pub built_in::run_change-returns-in_err-reached-clause-gives : goal.built_in::run_change-returns-in_err-reached-clause-gives
+pub built_in::run_change-returns-in_err-reached-clause-gives :
+    goal.built_in::run_change-returns-in_err-reached-clause-gives
 built_in::run_change-returns-in_err-reached-clause-gives g t c = λ keys.
     let stops = reached_stops (around_of c.args.around.now g.W.World.reading g.W.World.calls)
     g.W.World.plain c.args.room c.in_err-reached.field-0.0 c.args.place.now c.args.side
@@ -102,7 +108,8 @@ built_in::run_change-returns-in_err-reached-clause-gives g t c = λ keys.
     (meter c.open_reference.new.live.work (g.W.World.asked c.open_reference.new.world)) in
     grind (arith, stops)
 
-pub built_in::run_change-returns-in_err-value-clause-gives : goal.built_in::run_change-returns-in_err-value-clause-gives
+pub built_in::run_change-returns-in_err-value-clause-gives :
+    goal.built_in::run_change-returns-in_err-value-clause-gives
 built_in::run_change-returns-in_err-value-clause-gives g t c = λ keys.
     let stops = extended_stops (around_of c.args.around.now g.W.World.reading g.W.World.calls)
     g.W.World.plain c.args.room c.in_err-value.field-0.0 c.args.place.now c.args.side
@@ -115,7 +122,8 @@ built_in::run_change-returns-in_err-value-clause-gives g t c = λ keys.
     (meter c.open_reference.new.live.work (g.W.World.asked c.open_reference.new.world)) in
     grind (arith, stops)
 
-pub chains::start-returns-in_err-value-clause-gives : goal.chains::start-returns-in_err-value-clause-gives
+pub chains::start-returns-in_err-value-clause-gives :
+    goal.chains::start-returns-in_err-value-clause-gives
 chains::start-returns-in_err-value-clause-gives g t c = λ keys.
     let stops = spine_stops (around_of c.args.around.now g.W.World.reading g.W.World.calls)
     g.W.World.plain c.args.room c.in_err-value.field-0.0 c.args.chain.place.now
@@ -125,7 +133,8 @@ chains::start-returns-in_err-value-clause-gives g t c = λ keys.
     (meter c.run_operand.new.live.work (g.W.World.asked c.run_operand.new.world)) in
     grind (arith, stops)
 
-pub chains::take_up-returns-in_err-value-in-Right-clause-gives : goal.chains::take_up-returns-in_err-value-in-Right-clause-gives
+pub chains::take_up-returns-in_err-value-in-Right-clause-gives :
+    goal.chains::take_up-returns-in_err-value-in-Right-clause-gives
 chains::take_up-returns-in_err-value-in-Right-clause-gives g t c = λ keys.
     let stops = chain_stops (around_of c.args.around.now g.W.World.reading g.W.World.calls)
     g.W.World.plain c.args.room c.in_err-value-in-Right.field-0.0 c.args.waiting.place.now
@@ -137,7 +146,8 @@ chains::take_up-returns-in_err-value-in-Right-clause-gives g t c = λ keys.
     (g.W.World.asked c.args.world.now)) in
     grind (arith, stops)
 
-pub chains::take_up-returns-in_err-value-in-Deciding-clause-gives : goal.chains::take_up-returns-in_err-value-in-Deciding-clause-gives
+pub chains::take_up-returns-in_err-value-in-Deciding-clause-gives :
+    goal.chains::take_up-returns-in_err-value-in-Deciding-clause-gives
 chains::take_up-returns-in_err-value-in-Deciding-clause-gives g t c = λ keys.
     let stops = chain_stops (around_of c.args.around.now g.W.World.reading g.W.World.calls)
     g.W.World.plain c.args.room c.in_err-value-in-Deciding.field-0.0 c.args.waiting.place.now
@@ -149,7 +159,8 @@ chains::take_up-returns-in_err-value-in-Deciding-clause-gives g t c = λ keys.
     (g.W.World.asked c.args.world.now)) in
     grind (arith, stops)
 
-pub chains::run_binary-returns-in_err-value-clause-gives : goal.chains::run_binary-returns-in_err-value-clause-gives
+pub chains::run_binary-returns-in_err-value-clause-gives :
+    goal.chains::run_binary-returns-in_err-value-clause-gives
 chains::run_binary-returns-in_err-value-clause-gives g t c = λ keys.
     let inner = operand_stops (around_of c.args.around.now g.W.World.reading g.W.World.calls)
     g.W.World.plain c.args.room c.in_err-value.field-0.0 c.args.place.now c.args.left c.args.op
@@ -166,7 +177,8 @@ chains::run_binary-returns-in_err-value-clause-gives g t c = λ keys.
     (meter c.run_operand.new.live.work (g.W.World.asked c.run_operand.new.world)) in
     grind (arith, inner, stops)
 
-pub chains::run_binary-returns-in_err-value-in-Value-clause-gives : goal.chains::run_binary-returns-in_err-value-in-Value-clause-gives
+pub chains::run_binary-returns-in_err-value-in-Value-clause-gives :
+    goal.chains::run_binary-returns-in_err-value-in-Value-clause-gives
 chains::run_binary-returns-in_err-value-in-Value-clause-gives g t c = λ keys.
     let inner = applied_stops (around_of c.args.around.now g.W.World.reading g.W.World.calls)
     g.W.World.plain c.args.room c.in_err-value-in-Value.field-0.0 c.args.place.now c.args.left
@@ -185,7 +197,8 @@ chains::run_binary-returns-in_err-value-in-Value-clause-gives g t c = λ keys.
     (meter c.apply_binary.new.live.work (g.W.World.asked c.run_operand.new.world)) in
     grind (arith, inner, stops)
 
-pub chains::run_both-returns-in_err-value-in-Some-false-clause-gives : goal.chains::run_both-returns-in_err-value-in-Some-false-clause-gives
+pub chains::run_both-returns-in_err-value-in-Some-false-clause-gives :
+    goal.chains::run_both-returns-in_err-value-in-Some-false-clause-gives
 chains::run_both-returns-in_err-value-in-Some-false-clause-gives g t c = λ keys.
     let same = others_both c.args.place.now (node_run (eval c.args.room)
     (around_of c.args.around.now g.W.World.reading g.W.World.calls)
@@ -207,7 +220,8 @@ chains::run_both-returns-in_err-value-in-Some-false-clause-gives g t c = λ keys
     (g.W.World.asked c.args.world.now)) in
     grind (arith, same, inner, stops)
 
-pub chains::run_either-returns-in_err-value-in-Some-true-clause-gives : goal.chains::run_either-returns-in_err-value-in-Some-true-clause-gives
+pub chains::run_either-returns-in_err-value-in-Some-true-clause-gives :
+    goal.chains::run_either-returns-in_err-value-in-Some-true-clause-gives
 chains::run_either-returns-in_err-value-in-Some-true-clause-gives g t c = λ keys.
     let same = others_either c.args.place.now (node_run (eval c.args.room)
     (around_of c.args.around.now g.W.World.reading g.W.World.calls)
@@ -229,7 +243,8 @@ chains::run_either-returns-in_err-value-in-Some-true-clause-gives g t c = λ key
     (g.W.World.asked c.args.world.now)) in
     grind (arith, same, inner, stops)
 
-pub chains::run_second-returns-in_err-value-in-Value-clause-gives : goal.chains::run_second-returns-in_err-value-in-Value-clause-gives
+pub chains::run_second-returns-in_err-value-in-Value-clause-gives :
+    goal.chains::run_second-returns-in_err-value-in-Value-clause-gives
 chains::run_second-returns-in_err-value-in-Value-clause-gives g t c = λ keys.
     let inner = second_stops (around_of c.args.around.now g.W.World.reading g.W.World.calls)
     g.W.World.plain c.args.room c.in_err-value-in-Value.field-0.0 c.args.place.now
@@ -248,7 +263,8 @@ chains::run_second-returns-in_err-value-in-Value-clause-gives g t c = λ keys.
     (g.W.World.asked c.run_operand.new.world)) in
     grind (arith, inner, stops)
 
-pub chains::run_chain-returns-in_err-push-in-Inner-clause-gives : goal.chains::run_chain-returns-in_err-push-in-Inner-clause-gives
+pub chains::run_chain-returns-in_err-push-in-Inner-clause-gives :
+    goal.chains::run_chain-returns-in_err-push-in-Inner-clause-gives
 chains::run_chain-returns-in_err-push-in-Inner-clause-gives g t c = λ keys.
     let done = c.turns.invariant.gives keys in (
       done.0,
@@ -263,7 +279,8 @@ chains::run_chain-returns-in_err-push-in-Inner-clause-gives g t c = λ keys.
           grind (arith, leaves),
     )
 
-pub chains::run_chain-returns-in_err-turn-in-Inner-clause-gives : goal.chains::run_chain-returns-in_err-turn-in-Inner-clause-gives
+pub chains::run_chain-returns-in_err-turn-in-Inner-clause-gives :
+    goal.chains::run_chain-returns-in_err-turn-in-Inner-clause-gives
 chains::run_chain-returns-in_err-turn-in-Inner-clause-gives g t c = λ keys.
     let more = resumed_more (eval c.args.room) (around_of c.args.around.now g.W.World.reading
     g.W.World.calls) (only keys g.W.World.answers) c.turns.waiting.items c.in-Inner.outer
@@ -285,7 +302,8 @@ chains::run_chain-returns-in_err-turn-in-Inner-clause-gives g t c = λ keys.
     let here = c.start-in-Inner.ensures.gives keys in
     grind (arith, more, ends, done, here)
 
-pub chains::run_chain-returns-in_err-turn-in-Some-clause-gives : goal.chains::run_chain-returns-in_err-turn-in-Some-clause-gives
+pub chains::run_chain-returns-in_err-turn-in-Some-clause-gives :
+    goal.chains::run_chain-returns-in_err-turn-in-Some-clause-gives
 chains::run_chain-returns-in_err-turn-in-Some-clause-gives g t c = λ keys.
     let first = steps_more (eval c.args.room) (around_of c.args.around.now g.W.World.reading
     g.W.World.calls) c.in-Steps.place.now (map step_seen c.in-Steps.rest.now)
@@ -306,7 +324,8 @@ chains::run_chain-returns-in_err-turn-in-Some-clause-gives g t c = λ keys.
     let here = c.run_step.ensures.gives keys in
     grind (arith, first, ends, done, here)
 
-pub chains::run_chain-returns-in_err-turn-in-Some-pop-clause-gives : goal.chains::run_chain-returns-in_err-turn-in-Some-pop-clause-gives
+pub chains::run_chain-returns-in_err-turn-in-Some-pop-clause-gives :
+    goal.chains::run_chain-returns-in_err-turn-in-Some-pop-clause-gives
 chains::run_chain-returns-in_err-turn-in-Some-pop-clause-gives g t c = λ keys.
     let end = steps_end (eval c.args.room) (around_of c.args.around.now g.W.World.reading
     g.W.World.calls) c.in-Steps.place.now (map step_seen c.in-Steps.rest.now) c.in-Steps.value
@@ -333,7 +352,8 @@ chains::run_chain-returns-in_err-turn-in-Some-pop-clause-gives g t c = λ keys.
     let here = c.take_up.ensures.gives keys in
     grind (arith, end, more, ends, done, here)
 
-pub creating::run_created-returns-in_err-share-clause-gives : goal.creating::run_created-returns-in_err-share-clause-gives
+pub creating::run_created-returns-in_err-share-clause-gives :
+    goal.creating::run_created-returns-in_err-share-clause-gives
 creating::run_created-returns-in_err-share-clause-gives g t c = λ keys.
     let leaves = made_leaves (around_of c.args.around.now g.W.World.reading g.W.World.calls)
     g.W.World.plain c.args.room c.args.place.now c.args.name.now
@@ -343,7 +363,8 @@ creating::run_created-returns-in_err-share-clause-gives g t c = λ keys.
     (meter c.structure_named.new.live.work (g.W.World.asked c.structure_named.new.world)) in
     grind (arith, leaves)
 
-pub creating::run_statements-returns-in_err-made-clause-gives : goal.creating::run_statements-returns-in_err-made-clause-gives
+pub creating::run_statements-returns-in_err-made-clause-gives :
+    goal.creating::run_statements-returns-in_err-made-clause-gives
 creating::run_statements-returns-in_err-made-clause-gives g t c = λ keys.
     let stops = statements_stop (around_of c.args.around.now g.W.World.reading g.W.World.calls)
     g.W.World.plain c.args.room c.in_err-made.field-0.0 c.args.around.now.includes_left
@@ -354,7 +375,8 @@ creating::run_statements-returns-in_err-made-clause-gives g t c = λ keys.
     c.statements-test.true c.statement-item.is in
     grind (arith, stops)
 
-pub creating::run_assignment-returns-in_err-terms-clause-gives : goal.creating::run_assignment-returns-in_err-terms-clause-gives
+pub creating::run_assignment-returns-in_err-terms-clause-gives :
+    goal.creating::run_assignment-returns-in_err-terms-clause-gives
 creating::run_assignment-returns-in_err-terms-clause-gives g t c = λ keys.
     let stops = terms_stop (around_of c.args.around.now g.W.World.reading g.W.World.calls)
     g.W.World.plain c.args.room c.in_err-terms.field-0.0 c.args.place.now c.args.path.now
@@ -364,7 +386,8 @@ creating::run_assignment-returns-in_err-terms-clause-gives g t c = λ keys.
     (g.W.World.asked c.args.world.now)) in
     grind (arith, stops)
 
-pub creating::run_assigned-returns-in_err-present-clause-gives : goal.creating::run_assigned-returns-in_err-present-clause-gives
+pub creating::run_assigned-returns-in_err-present-clause-gives :
+    goal.creating::run_assigned-returns-in_err-present-clause-gives
 creating::run_assigned-returns-in_err-present-clause-gives g t c = λ keys.
     let leaves = assigned_leaves (around_of c.args.around.now g.W.World.reading g.W.World.calls)
     g.W.World.plain c.args.room c.args.place.now c.args.path.now c.args.terms.now
@@ -372,7 +395,8 @@ creating::run_assigned-returns-in_err-present-clause-gives g t c = λ keys.
     (meter c.args.live.now.work (g.W.World.asked c.args.world.now)) in
     grind (arith, leaves)
 
-pub creating::run_include-returns-in_err-value-clause-gives : goal.creating::run_include-returns-in_err-value-clause-gives
+pub creating::run_include-returns-in_err-value-clause-gives :
+    goal.creating::run_include-returns-in_err-value-clause-gives
 creating::run_include-returns-in_err-value-clause-gives g t c = λ keys.
     let stops = include_stops (around_of c.args.around.now g.W.World.reading g.W.World.calls)
     g.W.World.plain c.args.room c.in_err-value.field-0.0 c.args.around.now.includes_left
@@ -382,7 +406,8 @@ creating::run_include-returns-in_err-value-clause-gives g t c = λ keys.
     (meter c.run_inner.new.live.work (g.W.World.asked c.run_inner.new.world)) in
     grind (arith, stops)
 
-pub creating::run_included-returns-in_err-template-clause-gives : goal.creating::run_included-returns-in_err-template-clause-gives
+pub creating::run_included-returns-in_err-template-clause-gives :
+    goal.creating::run_included-returns-in_err-template-clause-gives
 creating::run_included-returns-in_err-template-clause-gives g t c = λ keys.
     let stops = included_stops (around_of c.args.around.now g.W.World.reading g.W.World.calls)
     g.W.World.plain c.args.room c.args.around.now.includes_left c.in_err-template.field-0.0
@@ -392,7 +417,8 @@ creating::run_included-returns-in_err-template-clause-gives g t c = λ keys.
     (meter c.structure_named.new.live.work (g.W.World.asked c.structure_named.new.world)) in
     grind (arith, stops)
 
-pub creating::run_inner-returns-in_err-share_called-clause-gives : goal.creating::run_inner-returns-in_err-share_called-clause-gives
+pub creating::run_inner-returns-in_err-share_called-clause-gives :
+    goal.creating::run_inner-returns-in_err-share_called-clause-gives
 creating::run_inner-returns-in_err-share_called-clause-gives g t c = λ keys.
     let leaves = inner_leaves (around_of c.args.around.now g.W.World.reading g.W.World.calls)
     g.W.World.plain c.args.room (is_fixed c.args.self_use) c.args.self_value
@@ -400,7 +426,8 @@ creating::run_inner-returns-in_err-share_called-clause-gives g t c = λ keys.
     (meter c.args.live.now.work (g.W.World.asked c.args.world.now)) in
     grind (arith, leaves)
 
-pub items::run_block-returns-in_err-last-clause-gives : goal.items::run_block-returns-in_err-last-clause-gives
+pub items::run_block-returns-in_err-last-clause-gives :
+    goal.items::run_block-returns-in_err-last-clause-gives
 items::run_block-returns-in_err-last-clause-gives g t c = λ keys.
     let stops = block_stops (around_of c.args.around.now g.W.World.reading g.W.World.calls)
     g.W.World.plain c.args.room c.in_err-last.field-0.0 c.args.items.now c.items.item-index
@@ -410,7 +437,8 @@ items::run_block-returns-in_err-last-clause-gives g t c = λ keys.
     c.item-item.is in
     grind (arith, stops)
 
-pub items::open_values-returns-in_err-value-clause-gives : goal.items::open_values-returns-in_err-value-clause-gives
+pub items::open_values-returns-in_err-value-clause-gives :
+    goal.items::open_values-returns-in_err-value-clause-gives
 items::open_values-returns-in_err-value-clause-gives g t c = λ keys.
     let stops = values_stop (around_of c.args.around.now g.W.World.reading g.W.World.calls)
     g.W.World.plain c.args.room c.in_err-value.field-0.0 c.args.items.now c.items.item-index
@@ -420,7 +448,8 @@ items::open_values-returns-in_err-value-clause-gives g t c = λ keys.
     c.item-item.is in
     grind (arith, stops)
 
-pub items::open_values-returns-in_err-push-clause-gives : goal.items::open_values-returns-in_err-push-clause-gives
+pub items::open_values-returns-in_err-push-clause-gives :
+    goal.items::open_values-returns-in_err-push-clause-gives
 items::open_values-returns-in_err-push-clause-gives g t c = λ keys.
     let leaves = values_left (around_of c.args.around.now g.W.World.reading g.W.World.calls)
     g.W.World.plain c.args.room c.args.items.now c.items.item-index c.item-item.result
@@ -430,7 +459,8 @@ items::open_values-returns-in_err-push-clause-gives g t c = λ keys.
     c.item-item.is in
     grind (arith, leaves)
 
-pub items::run_set-returns-in_err-keys-clause-gives : goal.items::run_set-returns-in_err-keys-clause-gives
+pub items::run_set-returns-in_err-keys-clause-gives :
+    goal.items::run_set-returns-in_err-keys-clause-gives
 items::run_set-returns-in_err-keys-clause-gives g t c = λ keys.
     let stops = keys_stop (around_of c.args.around.now g.W.World.reading g.W.World.calls)
     g.W.World.plain c.args.room c.in_err-keys.field-0.0 c.args.place.now c.args.name.now
@@ -440,7 +470,8 @@ items::run_set-returns-in_err-keys-clause-gives g t c = λ keys.
     (meter c.open_values.new.live.work (g.W.World.asked c.open_values.new.world)) in
     grind (arith, stops)
 
-pub items::run_set-returns-in_err-value-clause-gives : goal.items::run_set-returns-in_err-value-clause-gives
+pub items::run_set-returns-in_err-value-clause-gives :
+    goal.items::run_set-returns-in_err-value-clause-gives
 items::run_set-returns-in_err-value-clause-gives g t c = λ keys.
     let stops = right_stops (around_of c.args.around.now g.W.World.reading g.W.World.calls)
     g.W.World.plain c.args.room c.in_err-value.field-0.0 c.args.place.now c.args.name.now
@@ -451,7 +482,8 @@ items::run_set-returns-in_err-value-clause-gives g t c = λ keys.
     (meter c.open_values.new.live.work (g.W.World.asked c.open_values.new.world)) in
     grind (arith, stops)
 
-pub loops::turn_for-returns-in_err-turned-clause-gives : goal.loops::turn_for-returns-in_err-turned-clause-gives
+pub loops::turn_for-returns-in_err-turned-clause-gives :
+    goal.loops::turn_for-returns-in_err-turned-clause-gives
 loops::turn_for-returns-in_err-turned-clause-gives g t c = λ keys.
     let stops = turn_stops (around_of c.args.around.now g.W.World.reading g.W.World.calls)
     g.W.World.plain c.args.room c.in_err-turned.field-0.0 c.args.left c.args.place.now
@@ -461,7 +493,8 @@ loops::turn_for-returns-in_err-turned-clause-gives g t c = λ keys.
     (meter c.turn_while.new.live.work (g.W.World.asked c.turn_while.new.world)) in
     grind (arith, stops)
 
-pub loops::turns_for-returns-in_err-value-clause-gives : goal.loops::turns_for-returns-in_err-value-clause-gives
+pub loops::turns_for-returns-in_err-value-clause-gives :
+    goal.loops::turns_for-returns-in_err-value-clause-gives
 loops::turns_for-returns-in_err-value-clause-gives g t c = λ keys.
     let stops = for_stops (around_of c.args.around.now g.W.World.reading g.W.World.calls)
     g.W.World.plain c.args.room c.turns.left c.in_err-value.field-0.0 c.args.place.now
@@ -471,7 +504,8 @@ loops::turns_for-returns-in_err-value-clause-gives g t c = λ keys.
     (meter c.turn_for.new.live.work (g.W.World.asked c.turn_for.new.world)) in
     grind (arith, stops)
 
-pub loops::turn_pair-returns-in_err-set_pair-clause-gives : goal.loops::turn_pair-returns-in_err-set_pair-clause-gives
+pub loops::turn_pair-returns-in_err-set_pair-clause-gives :
+    goal.loops::turn_pair-returns-in_err-set_pair-clause-gives
 loops::turn_pair-returns-in_err-set_pair-clause-gives g t c = λ keys.
     let stops = pair_stops (around_of c.args.around.now g.W.World.reading g.W.World.calls)
     g.W.World.plain c.args.room (c.args.around.now.frame.now.max_iteration - c.args.i)
@@ -482,7 +516,8 @@ loops::turn_pair-returns-in_err-set_pair-clause-gives g t c = λ keys.
     (meter c.set_pair.new.live.work (g.W.World.asked c.args.world.now)) in
     grind (arith, stops)
 
-pub loops::turn_while-returns-in_err-holds-clause-gives : goal.loops::turn_while-returns-in_err-holds-clause-gives
+pub loops::turn_while-returns-in_err-holds-clause-gives :
+    goal.loops::turn_while-returns-in_err-holds-clause-gives
 loops::turn_while-returns-in_err-holds-clause-gives g t c = λ keys.
     let stops = condition_stops (around_of c.args.around.now g.W.World.reading g.W.World.calls)
     g.W.World.plain c.args.room c.in_err-holds.field-0.0 c.args.left c.args.place.now
@@ -492,7 +527,8 @@ loops::turn_while-returns-in_err-holds-clause-gives g t c = λ keys.
     (g.W.World.asked c.holds.new.world)) in
     grind (arith, stops)
 
-pub loops::run_while-returns-in_err-value-clause-gives : goal.loops::run_while-returns-in_err-value-clause-gives
+pub loops::run_while-returns-in_err-value-clause-gives :
+    goal.loops::run_while-returns-in_err-value-clause-gives
 loops::run_while-returns-in_err-value-clause-gives g t c = λ keys.
     let stops = while_stops (around_of c.args.around.now g.W.World.reading g.W.World.calls)
     g.W.World.plain c.args.room c.turns.left c.in_err-value.field-0.0 c.args.place.now
@@ -502,7 +538,8 @@ loops::run_while-returns-in_err-value-clause-gives g t c = λ keys.
     (meter c.turn_while.new.live.work (g.W.World.asked c.turn_while.new.world)) in
     grind (arith, stops)
 
-pub nodes::open_sign-returns-in_err-value-clause-gives : goal.nodes::open_sign-returns-in_err-value-clause-gives
+pub nodes::open_sign-returns-in_err-value-clause-gives :
+    goal.nodes::open_sign-returns-in_err-value-clause-gives
 nodes::open_sign-returns-in_err-value-clause-gives g t c = λ keys.
     let stops = sign_stops (around_of c.args.around.now g.W.World.reading g.W.World.calls)
     g.W.World.plain c.args.room c.in_err-value.field-0.0 c.args.place.now c.args.op
@@ -511,7 +548,8 @@ nodes::open_sign-returns-in_err-value-clause-gives g t c = λ keys.
     (meter c.run_node.new.live.work (g.W.World.asked c.run_node.new.world)) in
     grind (arith, stops)
 
-pub references::value_or_nothing-returns-in_err-argument-clause-gives : goal.references::value_or_nothing-returns-in_err-argument-clause-gives
+pub references::value_or_nothing-returns-in_err-argument-clause-gives :
+    goal.references::value_or_nothing-returns-in_err-argument-clause-gives
 references::value_or_nothing-returns-in_err-argument-clause-gives g t c = λ keys.
     let leaves = value_leaves (around_of c.args.around.now g.W.World.reading g.W.World.calls)
     g.W.World.plain c.args.room (item_seen c.args.item.now)
@@ -519,7 +557,8 @@ references::value_or_nothing-returns-in_err-argument-clause-gives g t c = λ key
     (env c.args.live.now) (meter c.args.live.now.work (g.W.World.asked c.args.world.now)) in
     grind (arith, leaves)
 
-pub references::open_reference-returns-in_err-take_step-clause-gives : goal.references::open_reference-returns-in_err-take_step-clause-gives
+pub references::open_reference-returns-in_err-take_step-clause-gives :
+    goal.references::open_reference-returns-in_err-take_step-clause-gives
 references::open_reference-returns-in_err-take_step-clause-gives g t c = λ keys.
     let stops = reference_stops (around_of c.args.around.now g.W.World.reading g.W.World.calls)
     g.W.World.plain c.args.room c.in_err-take_step.field-0.0 (purpose_of c.args.purpose.now)
@@ -529,7 +568,8 @@ references::open_reference-returns-in_err-take_step-clause-gives g t c = λ keys
     (meter c.take_step.new.live.work (g.W.World.asked c.args.world.now)) in
     grind (arith, stops)
 
-pub references::open_reference-returns-in_err-value-clause-gives : goal.references::open_reference-returns-in_err-value-clause-gives
+pub references::open_reference-returns-in_err-value-clause-gives :
+    goal.references::open_reference-returns-in_err-value-clause-gives
 references::open_reference-returns-in_err-value-clause-gives g t c = λ keys.
     let stops = start_stops (around_of c.args.around.now g.W.World.reading g.W.World.calls)
     g.W.World.plain c.args.room c.in_err-value.field-0.0 (purpose_of c.args.purpose.now)
@@ -541,7 +581,8 @@ references::open_reference-returns-in_err-value-clause-gives g t c = λ keys.
     (meter c.take_step.new.live.work (g.W.World.asked c.args.world.now)) in
     grind (arith, stops)
 
-pub references::open_reference-returns-clause-gives : goal.references::open_reference-returns-clause-gives
+pub references::open_reference-returns-clause-gives :
+    goal.references::open_reference-returns-clause-gives
 references::open_reference-returns-clause-gives g t c = λ keys.
     let goes = reference_goes (around_of c.args.around.now g.W.World.reading g.W.World.calls)
     g.W.World.plain c.args.room (purpose_of c.args.purpose.now) c.args.place.now
@@ -554,7 +595,8 @@ references::open_reference-returns-clause-gives g t c = λ keys.
     (g.W.World.asked c.args.world.now)) in
     grind (arith, goes)
 
-pub references::reach_from-returns-in_err-key-clause-gives : goal.references::reach_from-returns-in_err-key-clause-gives
+pub references::reach_from-returns-in_err-key-clause-gives :
+    goal.references::reach_from-returns-in_err-key-clause-gives
 references::reach_from-returns-in_err-key-clause-gives g t c = λ keys.
     let stops = index_stops (around_of c.args.around.now g.W.World.reading g.W.World.calls)
     g.W.World.plain c.args.room c.in_err-key.field-0.0 c.args.all c.args.place.now
@@ -572,28 +614,32 @@ pub built_in::run_extend-returns-clause-gives : goal.built_in::run_extend-return
 built_in::run_extend-returns-clause-gives g t c = λ keys. let here =
     c.run_change.ensures.gives keys in grind (arith, extends, item_place_seen, here)
 
-pub built_in::run_extend-returns-in_default-2-clause-gives : goal.built_in::run_extend-returns-in_default-2-clause-gives
+pub built_in::run_extend-returns-in_default-2-clause-gives :
+    goal.built_in::run_extend-returns-in_default-2-clause-gives
 built_in::run_extend-returns-in_default-2-clause-gives g t c = λ keys. let here =
     c.run_copy.ensures.gives keys in grind (arith, extends, item_place_seen, here)
 
-pub built_in::run_extend-returns-then-not-is_changed-clause-gives : goal.built_in::run_extend-returns-then-not-is_changed-clause-gives
+pub built_in::run_extend-returns-then-not-is_changed-clause-gives :
+    goal.built_in::run_extend-returns-then-not-is_changed-clause-gives
 built_in::run_extend-returns-then-not-is_changed-clause-gives g t c = λ keys. let here =
     c.run_copy-then-not-is_changed.ensures.gives keys in
     grind (arith, extends, item_place_seen, here)
 
-pub calls::run_function-run_called-requires : goal.calls::run_function-run_called-requires
-calls::run_function-run_called-requires g t c =
+pub calls::run_function-run_called-end-requires : goal.calls::run_function-run_called-end-requires
+calls::run_function-run_called-end-requires g t c =
     let opened = (c.open_call.ensures (λ k. true)).1 (none_beyond _) in
     let some : 0 < c.args.around.now.calls_left = grind (arith, opened) in
     search (rules, some)
 
-pub creating::run_statement-returns-in-Assign-clause-gives : goal.creating::run_statement-returns-in-Assign-clause-gives
+pub creating::run_statement-returns-in-Assign-clause-gives :
+    goal.creating::run_statement-returns-in-Assign-clause-gives
 creating::run_statement-returns-in-Assign-clause-gives g t c = λ keys.
     let step = c.take_step.ensures.gives keys in
     let here = c.run_assignment.ensures.gives keys in
     grind (arith, statements, step, here)
 
-pub references::reach_from-returns-in_err-value-clause-gives : goal.references::reach_from-returns-in_err-value-clause-gives
+pub references::reach_from-returns-in_err-value-clause-gives :
+    goal.references::reach_from-returns-in_err-value-clause-gives
 references::reach_from-returns-in_err-value-clause-gives g t c = λ keys.
     let done = c.indexes.invariant.gives keys in
     let key = c.open_item.ensures.gives keys in

@@ -303,7 +303,8 @@ invariant-references::reach_from-indexes g l =
 abbrev pub decreases-references::reach_from-indexes : goal.decreases-references::reach_from-indexes
 decreases-references::reach_from-indexes g l = length l.indexes.items
 
-abbrev pub invariant-creating::run_statements-statements : goal.invariant-creating::run_statements-statements
+abbrev pub invariant-creating::run_statements-statements :
+    goal.invariant-creating::run_statements-statements
 invariant-creating::run_statements-statements g l =
     let asked = g.W.World.asked in
     let from = statements_from (included l.around.includes_left (eval l.room)) (eval l.room)

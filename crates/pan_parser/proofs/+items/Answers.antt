@@ -15,7 +15,8 @@ use Rattle.pan_parser.proofs.Turns.{assign_turns, at_operand, at_zero, below, bl
 use Rattle.pan_ast.proofs.Pointers.{items_push}
 use Rattle.pan_parser.proofs.+items.Goals as goal
 
-pub chains::arguments-returns-in_err-rest-clause-read : goal.chains::arguments-returns-in_err-rest-clause-read
+pub chains::arguments-returns-in_err-rest-clause-read :
+    goal.chains::arguments-returns-in_err-rest-clause-read
 chains::arguments-returns-in_err-rest-clause-read t c = λ n h.
     let p = err_from_is_err_and c.from_residual-in_err-rest.result
     c.from_residual-in_err-rest.ensures.1 in
@@ -33,7 +34,8 @@ chains::arguments-returns-in_err-rest-clause-read t c = λ n h.
     (c.in_err-rest.ensures.read after (λ t. HasPrimary (called w new) n)
     (refl, λ t. refl, λ t. refl)))
 
-pub chains::arguments-returns-in_default-next_is-clause-read : goal.chains::arguments-returns-in_default-next_is-clause-read
+pub chains::arguments-returns-in_default-next_is-clause-read :
+    goal.chains::arguments-returns-in_default-next_is-clause-read
 chains::arguments-returns-in_default-next_is-clause-read t c = λ n h.
     let l = c.loop-items in
     let w = c.args.word.now in
@@ -48,16 +50,19 @@ chains::arguments-returns-in_default-next_is-clause-read t c = λ n h.
     ∙ c.in_ok-rest.ensures.read after (λ t. HasPrimary (called w new) n)
     (refl, λ t. refl, λ t. refl)
 
-pub chains::chain-returns-then-line-eq0-clause-read : goal.chains::chain-returns-then-line-eq0-clause-read
+pub chains::chain-returns-then-line-eq0-clause-read :
+    goal.chains::chain-returns-then-line-eq0-clause-read
 chains::chain-returns-then-line-eq0-clause-read t c =
     at_zero c.args.depth c.args.tokens.now (node_seen c.args.first) c.args.line c.if-line-eq0.true
 
-pub chains::chain-returns-then-ends_chains-clause-read : goal.chains::chain-returns-then-ends_chains-clause-read
+pub chains::chain-returns-then-ends_chains-clause-read :
+    goal.chains::chain-returns-then-ends_chains-clause-read
 chains::chain-returns-then-ends_chains-clause-read t c =
     at_operand c.args.depth c.args.tokens.now (node_seen c.args.first) c.args.line
     (sym c.ends_chains.ensures ∙ c.if-ends_chains.true)
 
-pub chains::chain-returns-in_err-left-clause-read : goal.chains::chain-returns-in_err-left-clause-read
+pub chains::chain-returns-in_err-left-clause-read :
+    goal.chains::chain-returns-in_err-left-clause-read
 chains::chain-returns-in_err-left-clause-read t c =
     let p = err_from_is_err_and c.from_residual.result c.from_residual.ensures.1 in
     rw (p.1, p.2) (first_fails c.args.depth c.in_err-left.field-0.0 c.args.tokens.now
@@ -75,7 +80,8 @@ chains::chain-loop-operator-init t c = (
       (arith, c.in_ok-left.ensures.pointers),
 )
 
-pub chains::chain-returns-in_err-right-clause-read : goal.chains::chain-returns-in_err-right-clause-read
+pub chains::chain-returns-in_err-right-clause-read :
+    goal.chains::chain-returns-in_err-right-clause-read
 chains::chain-returns-in_err-right-clause-read t c =
     let p = err_from_is_err_and c.from_residual-in_err-right.result
     c.from_residual-in_err-right.ensures.1 in
@@ -121,7 +127,8 @@ chains::chain_item-returns-clause-read t c = λ s h.
     ∙ chained r.rest.now (node_seen r.node) s
     ∙ ap (λ i. run r.rest.now (HasItem i s)) (sym c.in_ok-make_plain.ensures.seen)
 
-pub chains::indexes-returns-in_err-rest-clause-read : goal.chains::indexes-returns-in_err-rest-clause-read
+pub chains::indexes-returns-in_err-rest-clause-read :
+    goal.chains::indexes-returns-in_err-rest-clause-read
 chains::indexes-returns-in_err-rest-clause-read t c = λ n h.
     let p = err_from_is_err_and c.from_residual-in_err-rest.result
     c.from_residual-in_err-rest.ensures.1 in
@@ -157,7 +164,8 @@ chains::indexes-loop-after-preserved t c =
       omega (arith, c.in_ok-index.ensures.pointers, c.in_ok-whole.ensures.pointers, l.invariant.2),
     )
 
-pub chains::operand-returns-in_err-first-clause-read : goal.chains::operand-returns-in_err-first-clause-read
+pub chains::operand-returns-in_err-first-clause-read :
+    goal.chains::operand-returns-in_err-first-clause-read
 chains::operand-returns-in_err-first-clause-read t c = λ n h.
     let p = err_from_is_err_and c.from_residual.result c.from_residual.ensures.1 in
     rw (p.1, p.2) (c.in_err-first.ensures.read (down c.args.line n)
@@ -168,7 +176,8 @@ chains::operand-returns-clause-read t c = λ n h.
     goes_along c.chain.result _ _ _ (c.in_ok-first.ensures.read (down c.args.line n)
     (down_holders c.args.line n ∙ h)) (c.chain.ensures.read n h)
 
-pub chains::primary-returns-in_err-rest-clause-read : goal.chains::primary-returns-in_err-rest-clause-read
+pub chains::primary-returns-in_err-rest-clause-read :
+    goal.chains::primary-returns-in_err-rest-clause-read
 chains::primary-returns-in_err-rest-clause-read t c = λ n h.
     let p = err_from_is_err_and c.from_residual-in_err-rest.result
     c.from_residual-in_err-rest.ensures.1 in
@@ -195,7 +204,8 @@ chains::primary-returns-clause-read t c = λ n h.
     (refl, λ t. refl, λ t. refl)
     ∙ ap (λ v. run c.in_ok-rest.rest.now (HasPrimary v n)) (sym made)
 
-pub chains::reference_indexes-returns-in_err-rest-clause-read : goal.chains::reference_indexes-returns-in_err-rest-clause-read
+pub chains::reference_indexes-returns-in_err-rest-clause-read :
+    goal.chains::reference_indexes-returns-in_err-rest-clause-read
 chains::reference_indexes-returns-in_err-rest-clause-read t c = λ s h.
     let p = err_from_is_err_and c.from_residual-in_err-rest.result
     c.from_residual-in_err-rest.ensures.1 in
@@ -211,7 +221,8 @@ chains::reference_indexes-returns-in_err-rest-clause-read t c = λ s h.
     (c.in_err-rest.ensures.read (HasItem i (InReference w is x s))
     (λ t. HasReference w (is ++ i ∷ []) (index x i) s) (refl, λ t. refl, λ t. refl)))
 
-pub chains::reference_indexes-loop-after-preserved : goal.chains::reference_indexes-loop-after-preserved
+pub chains::reference_indexes-loop-after-preserved :
+    goal.chains::reference_indexes-loop-after-preserved
 chains::reference_indexes-loop-after-preserved t c =
     let l = c.loop-after in
     let w = c.args.word.now in
@@ -240,7 +251,8 @@ chains::reference_indexes-loop-after-preserved t c =
       ),
     )
 
-pub chains::unary-returns-in_err-node-2-clause-read : goal.chains::unary-returns-in_err-node-2-clause-read
+pub chains::unary-returns-in_err-node-2-clause-read :
+    goal.chains::unary-returns-in_err-node-2-clause-read
 chains::unary-returns-in_err-node-2-clause-read t c = λ n h.
     let p = err_from_is_err_and c.from_residual-in_err-node-2.result
     c.from_residual-in_err-node-2.ensures.1 in
@@ -267,7 +279,8 @@ chains::unary-returns-clause-read t c = λ n h.
     ∙ signed_done r.rest.now op first.place (node_seen r.node) n
     ∙ ap (λ v. run r.rest.now (HasNode v n)) (sym made)
 
-pub items::block_items-returns-in_err-next-clause-read : goal.items::block_items-returns-in_err-next-clause-read
+pub items::block_items-returns-in_err-next-clause-read :
+    goal.items::block_items-returns-in_err-next-clause-read
 items::block_items-returns-in_err-next-clause-read t c = λ s h.
     let p = err_from_is_err_and c.from_residual.result c.from_residual.ensures.1 in
     let l = c.loop-after in
@@ -278,7 +291,8 @@ items::block_items-returns-in_err-next-clause-read t c = λ s h.
     ∙ in_block l.rest.now q is s c.in_default.ensures)
     (c.in_err-next.ensures.read (InBlock q is s) h))
 
-pub items::block_items-returns-in_err-rest-clause-read : goal.items::block_items-returns-in_err-rest-clause-read
+pub items::block_items-returns-in_err-rest-clause-read :
+    goal.items::block_items-returns-in_err-rest-clause-read
 items::block_items-returns-in_err-rest-clause-read t c = λ s h.
     let p = err_from_is_err_and c.from_residual-in_err-rest.result
     c.from_residual-in_err-rest.ensures.1 in
@@ -296,7 +310,8 @@ items::block_items-returns-in_err-rest-clause-read t c = λ s h.
     (c.in_err-rest.ensures.read (Takes (Closes Braces) (λ t. HasItem (block q new) s))
     (λ t. HasItem (block q new) s) (refl, λ t. refl, λ t. refl)))
 
-pub items::block_items-returns-in_default-next_is-clause-read : goal.items::block_items-returns-in_default-next_is-clause-read
+pub items::block_items-returns-in_default-next_is-clause-read :
+    goal.items::block_items-returns-in_default-next_is-clause-read
 items::block_items-returns-in_default-next_is-clause-read t c = λ s h.
     let l = c.loop-after in
     let q = c.args.place.now in
@@ -337,14 +352,16 @@ items::block_items-loop-after-preserved t c =
       ),
     )
 
-pub items::while_item-returns-in_err-rest-clause-read : goal.items::while_item-returns-in_err-rest-clause-read
+pub items::while_item-returns-in_err-rest-clause-read :
+    goal.items::while_item-returns-in_err-rest-clause-read
 items::while_item-returns-in_err-rest-clause-read t c = λ s h.
     let p = err_from_is_err_and c.from_residual.result c.from_residual.ensures.1 in
     let q = c.args.place.now in
     rw (p.1, p.2) (c.in_err-rest.ensures.read (while_read q s)
     (λ o. NeedItem (InParts (while_parts q) s)) (refl, λ t. refl, λ t. refl))
 
-pub items::while_item-returns-in_err-condition-clause-read : goal.items::while_item-returns-in_err-condition-clause-read
+pub items::while_item-returns-in_err-condition-clause-read :
+    goal.items::while_item-returns-in_err-condition-clause-read
 items::while_item-returns-in_err-condition-clause-read t c = λ s h.
     let p = err_from_is_err_and c.from_residual-in_err-condition.result
     c.from_residual-in_err-condition.ensures.1 in
@@ -354,7 +371,8 @@ items::while_item-returns-in_err-condition-clause-read t c = λ s h.
     (refl, λ t. refl, λ t. refl))
     (c.in_err-condition.ensures.read AtClose (λ x. Last (λ b. nodes.While q x b)) s refl h))
 
-pub items::while_item-returns-in_err-body-clause-read : goal.items::while_item-returns-in_err-body-clause-read
+pub items::while_item-returns-in_err-body-clause-read :
+    goal.items::while_item-returns-in_err-body-clause-read
 items::while_item-returns-in_err-body-clause-read t c = λ s h.
     let p = err_from_is_err_and c.from_residual-in_err-body.result
     c.from_residual-in_err-body.ensures.1 in
@@ -378,14 +396,16 @@ items::while_item-returns-clause-read t c = λ s h.
     ∙ last_done r.rest.now (λ b. nodes.While q x b) (item_seen r.body.value) s
     ∙ ap (λ i. run r.rest.now (HasItem i s)) (sym c.in_ok-make_while.ensures.seen)
 
-pub items::for_item-returns-in_err-rest-clause-read : goal.items::for_item-returns-in_err-rest-clause-read
+pub items::for_item-returns-in_err-rest-clause-read :
+    goal.items::for_item-returns-in_err-rest-clause-read
 items::for_item-returns-in_err-rest-clause-read t c = λ s h.
     let p = err_from_is_err_and c.from_residual.result c.from_residual.ensures.1 in
     let q = c.args.place.now in
     rw (p.1, p.2) (c.in_err-rest.ensures.read (for_read q s)
     (λ o. NeedItem (InParts (for_parts q) s)) (refl, λ t. refl, λ t. refl))
 
-pub items::for_item-returns-in_err-first-clause-read : goal.items::for_item-returns-in_err-first-clause-read
+pub items::for_item-returns-in_err-first-clause-read :
+    goal.items::for_item-returns-in_err-first-clause-read
 items::for_item-returns-in_err-first-clause-read t c = λ s h.
     let p = err_from_is_err_and c.from_residual-in_err-first.result
     c.from_residual-in_err-first.ensures.1 in
@@ -396,7 +416,8 @@ items::for_item-returns-in_err-first-clause-read t c = λ s h.
     (c.in_err-first.ensures.read AtSemicolon (λ a. Further AtSemicolon
     (λ x. Further AtClose (λ m. Last (λ b. nodes.For q a x m b)))) s refl h))
 
-pub items::for_item-returns-in_err-condition-clause-read : goal.items::for_item-returns-in_err-condition-clause-read
+pub items::for_item-returns-in_err-condition-clause-read :
+    goal.items::for_item-returns-in_err-condition-clause-read
 items::for_item-returns-in_err-condition-clause-read t c = λ s h.
     let p = err_from_is_err_and c.from_residual-in_err-condition.result
     c.from_residual-in_err-condition.ensures.1 in
@@ -410,7 +431,8 @@ items::for_item-returns-in_err-condition-clause-read t c = λ s h.
     (c.in_err-condition.ensures.read AtSemicolon (λ x. Further AtClose
     (λ m. Last (λ b. nodes.For q a x m b))) s refl h))
 
-pub items::for_item-returns-in_err-step-clause-read : goal.items::for_item-returns-in_err-step-clause-read
+pub items::for_item-returns-in_err-step-clause-read :
+    goal.items::for_item-returns-in_err-step-clause-read
 items::for_item-returns-in_err-step-clause-read t c = λ s h.
     let p = err_from_is_err_and c.from_residual-in_err-step.result
     c.from_residual-in_err-step.ensures.1 in
@@ -426,7 +448,8 @@ items::for_item-returns-in_err-step-clause-read t c = λ s h.
     (λ m. Last (λ b. nodes.For q a x m b))) s refl h)
     (c.in_err-step.ensures.read AtClose (λ m. Last (λ b. nodes.For q a x m b)) s refl h))
 
-pub items::for_item-returns-in_err-body-clause-read : goal.items::for_item-returns-in_err-body-clause-read
+pub items::for_item-returns-in_err-body-clause-read :
+    goal.items::for_item-returns-in_err-body-clause-read
 items::for_item-returns-in_err-body-clause-read t c = λ s h.
     let p = err_from_is_err_and c.from_residual-in_err-body.result
     c.from_residual-in_err-body.ensures.1 in
@@ -462,14 +485,16 @@ items::for_item-returns-clause-read t c = λ s h.
     ∙ last_done r.rest.now (λ b. nodes.For q a x m b) (item_seen r.body.value) s
     ∙ ap (λ i. run r.rest.now (HasItem i s)) (sym c.in_ok-make_for.ensures.seen)
 
-pub items::foreach_item-returns-in_err-key-clause-read : goal.items::foreach_item-returns-in_err-key-clause-read
+pub items::foreach_item-returns-in_err-key-clause-read :
+    goal.items::foreach_item-returns-in_err-key-clause-read
 items::foreach_item-returns-in_err-key-clause-read t c = λ s h.
     let p = err_from_is_err_and c.from_residual.result c.from_residual.ensures.1 in
     let q = c.args.place.now in
     rw (p.1, p.2) (c.in_err-key.ensures.read (λ k v. NeedItem
     (InParts (foreach_parts q k.value v.value) s)))
 
-pub items::foreach_item-returns-in_err-items-clause-read : goal.items::foreach_item-returns-in_err-items-clause-read
+pub items::foreach_item-returns-in_err-items-clause-read :
+    goal.items::foreach_item-returns-in_err-items-clause-read
 items::foreach_item-returns-in_err-items-clause-read t c = λ s h.
     let p = err_from_is_err_and c.from_residual-in_err-items.result
     c.from_residual-in_err-items.ensures.1 in
@@ -480,7 +505,8 @@ items::foreach_item-returns-in_err-items-clause-read t c = λ s h.
     (c.in_ok-key.ensures.read (λ k v. NeedItem (InParts (foreach_parts q k.value v.value) s)))
     (c.in_err-items.ensures.read AtClose (λ x. Last (λ b. nodes.Foreach q k v x b)) s refl h))
 
-pub items::foreach_item-returns-in_err-body-clause-read : goal.items::foreach_item-returns-in_err-body-clause-read
+pub items::foreach_item-returns-in_err-body-clause-read :
+    goal.items::foreach_item-returns-in_err-body-clause-read
 items::foreach_item-returns-in_err-body-clause-read t c = λ s h.
     let p = err_from_is_err_and c.from_residual-in_err-body.result
     c.from_residual-in_err-body.ensures.1 in
@@ -508,14 +534,16 @@ items::foreach_item-returns-clause-read t c = λ s h.
     ∙ last_done r.rest.now (λ b. nodes.Foreach q k v x b) (item_seen r.body.value) s
     ∙ ap (λ i. run r.rest.now (HasItem i s)) (sym made)
 
-pub items::if_item-returns-in_err-rest-clause-read : goal.items::if_item-returns-in_err-rest-clause-read
+pub items::if_item-returns-in_err-rest-clause-read :
+    goal.items::if_item-returns-in_err-rest-clause-read
 items::if_item-returns-in_err-rest-clause-read t c = λ s h.
     let p = err_from_is_err_and c.from_residual.result c.from_residual.ensures.1 in
     let q = c.args.place.now in
     rw (p.1, p.2) (c.in_err-rest.ensures.read (if_read q s) (λ o. NeedItem (InParts (if_parts q) s))
     (refl, λ t. refl, λ t. refl))
 
-pub items::if_item-returns-in_err-condition-clause-read : goal.items::if_item-returns-in_err-condition-clause-read
+pub items::if_item-returns-in_err-condition-clause-read :
+    goal.items::if_item-returns-in_err-condition-clause-read
 items::if_item-returns-in_err-condition-clause-read t c = λ s h.
     let p = err_from_is_err_and c.from_residual-in_err-condition.result
     c.from_residual-in_err-condition.ensures.1 in
@@ -525,7 +553,8 @@ items::if_item-returns-in_err-condition-clause-read t c = λ s h.
     (refl, λ t. refl, λ t. refl))
     (c.in_err-condition.ensures.read AtClose (λ x. MayElse (λ a b. choice q x a b)) s refl h))
 
-pub items::if_item-returns-in_err-then-clause-read : goal.items::if_item-returns-in_err-then-clause-read
+pub items::if_item-returns-in_err-then-clause-read :
+    goal.items::if_item-returns-in_err-then-clause-read
 items::if_item-returns-in_err-then-clause-read t c = λ s h.
     let p = err_from_is_err_and c.from_residual-in_err-then.result
     c.from_residual-in_err-then.ensures.1 in
@@ -537,7 +566,8 @@ items::if_item-returns-in_err-then-clause-read t c = λ s h.
     ∙ c.in_ok-condition.ensures.read AtClose (λ x. MayElse (λ a b. choice q x a b)) s refl h)
     (c.in_err-then.ensures.read (InParts (MayElse (λ a b. choice q x a b)) s) h))
 
-pub items::if_item-returns-in_default-clause-read : goal.items::if_item-returns-in_default-clause-read
+pub items::if_item-returns-in_default-clause-read :
+    goal.items::if_item-returns-in_default-clause-read
 items::if_item-returns-in_default-clause-read t c = λ s h.
     let q = c.args.place.now in
     let x = item_seen c.in_ok-condition.condition.value in
@@ -549,7 +579,8 @@ items::if_item-returns-in_default-clause-read t c = λ s h.
     ∙ no_else c.in_ok-then.rest.now (λ a b. choice q x a b) a s c.in_default.ensures
     ∙ ap (λ i. run c.in_ok-then.rest.now (HasItem i s)) (sym c.in_ok-make_if.ensures.seen)
 
-pub items::if_item-returns-in_err-otherwise-clause-read : goal.items::if_item-returns-in_err-otherwise-clause-read
+pub items::if_item-returns-in_err-otherwise-clause-read :
+    goal.items::if_item-returns-in_err-otherwise-clause-read
 items::if_item-returns-in_err-otherwise-clause-read t c = λ s h.
     let p = err_from_is_err_and c.from_residual-in_err-otherwise.result
     c.from_residual-in_err-otherwise.ensures.1 in
@@ -581,7 +612,8 @@ items::if_item-returns-clause-read t c = λ s h.
     ∙ last_done r.rest.now (λ b. choice q x a (Some b)) (item_seen r.otherwise.value) s
     ∙ ap (λ i. run r.rest.now (HasItem i s)) (sym c.in_ok-make_if_else.ensures.seen)
 
-pub items::item_before-returns-in_err-rest-clause-read : goal.items::item_before-returns-in_err-rest-clause-read
+pub items::item_before-returns-in_err-rest-clause-read :
+    goal.items::item_before-returns-in_err-rest-clause-read
 items::item_before-returns-in_err-rest-clause-read t c = λ k make s e h.
     let p = err_from_is_err_and c.from_residual-in_err-rest.result
     c.from_residual-in_err-rest.ensures.1 in
@@ -598,7 +630,8 @@ items::item_before-returns-clause-read t c = λ k make s e h.
     ∙ c.in_ok-rest.ensures.read (HasItem i (InParts (Further k make) s))
     (λ t. NeedItem (InParts (make i) s)) (refl, λ t. rw e refl, λ t. refl)
 
-pub items::item-returns-in_err-node-in_default-sort : goal.items::item-returns-in_err-node-in_default-sort
+pub items::item-returns-in_err-node-in_default-sort :
+    goal.items::item-returns-in_err-node-in_default-sort
 items::item-returns-in_err-node-in_default-sort t c =
     let p = err_from_is_err_and c.from_residual-in_err-node-in_default-sort.result
     c.from_residual-in_err-node-in_default-sort.ensures.1 in
@@ -625,7 +658,8 @@ items::item-returns-in_err-node-in_default-sort t c =
       pointers = rw p.1 tt;
     }
 
-pub items::item-returns-in_ok-node-in_default-sort : goal.items::item-returns-in_ok-node-in_default-sort
+pub items::item-returns-in_ok-node-in_default-sort :
+    goal.items::item-returns-in_ok-node-in_default-sort
 items::item-returns-in_ok-node-in_default-sort t c =
     let first = c.in-Some.first.now in
     let ts = c.args.tokens.now in
@@ -678,7 +712,8 @@ items::word_item-returns-clause-read t c = λ s h.
     ∙ r.ensures.read (down 9 (Chained s)) h)
     (c.chain_item.ensures.read s h)
 
-pub chains::arguments-returns-in_default-next_is-clause-pointers : goal.chains::arguments-returns-in_default-next_is-clause-pointers
+pub chains::arguments-returns-in_default-next_is-clause-pointers :
+    goal.chains::arguments-returns-in_default-next_is-clause-pointers
 chains::arguments-returns-in_default-next_is-clause-pointers t c =
     omega (
       arith,
@@ -712,7 +747,8 @@ chains::arguments-loop-items-preserved t c =
       ),
     )
 
-pub items::block_items-returns-in_default-next_is-clause-pointers : goal.items::block_items-returns-in_default-next_is-clause-pointers
+pub items::block_items-returns-in_default-next_is-clause-pointers :
+    goal.items::block_items-returns-in_default-next_is-clause-pointers
 items::block_items-returns-in_default-next_is-clause-pointers t c =
     omega (
       arith,

@@ -106,7 +106,8 @@ invariant-chains::indexes-loop-after l =
 abbrev pub decreases-chains::indexes-loop-after : goal.decreases-chains::indexes-loop-after
 decreases-chains::indexes-loop-after l = length l.rest
 
-abbrev pub invariant-chains::reference_indexes-loop-after : goal.invariant-chains::reference_indexes-loop-after
+abbrev pub invariant-chains::reference_indexes-loop-after :
+    goal.invariant-chains::reference_indexes-loop-after
 invariant-chains::reference_indexes-loop-after l =
     ((s : ItemStack) → suc (holders s) ≡ l.fn.depth → run l.fn.tokens
     (HasReference l.fn.word [] (name l.fn.word) s)
@@ -114,5 +115,6 @@ invariant-chains::reference_indexes-loop-after l =
     (indexed (name l.fn.word) (map item_seen l.items.items)) s))
     × (length l.rest ≤ length l.fn.tokens) × Within 0 l.fn.depth (items_pointers l.items.items)
 
-abbrev pub decreases-chains::reference_indexes-loop-after : goal.decreases-chains::reference_indexes-loop-after
+abbrev pub decreases-chains::reference_indexes-loop-after :
+    goal.decreases-chains::reference_indexes-loop-after
 decreases-chains::reference_indexes-loop-after l = length l.rest

@@ -7,9 +7,9 @@ use Rattle.run_again.specs.Again.{scratch_steps}
 use Rattle.run_again.proofs.Settled.{on_err}
 use Rattle.session.specs.Sessions.{writes}
 use Rattle.session.specs.Texts.{blame_text}
-use Rattle.compiler.specs.Blaming.{leaves_of}
-use Rattle.compiler.specs.Compiler.{compiler}
-use Rattle.compiler.specs.Standing.{counts}
+use Rattle.engine_session.specs.Blaming.{leaves_of}
+use Rattle.engine_session.specs.Compiler.{compiler}
+use Rattle.engine_session.specs.Standing.{counts}
 use Rattle.blamed_works.specs.Lines.{Blames}
 use Rattle.blamed_works.proofs.Cases.{none_seen, fault_seen, profile_seen, told_pending, told_none, told_fault, told_leaves}
 use Rattle.blamed_works.proofs.Lines.{after_run, behind_none, cut_before, cut_after, on_done, spent_most, told_text, told_run}

@@ -1,7 +1,7 @@
 use Rattle.std.proofs.Common.{◌≡◌, ◌++◌, [], map}
 use Rattle.pan_blame.specs.Blamed.{leaf_seen}
 use Rattle.session.specs.Texts.{name_lines}
-use Rattle.compiler.specs.Blaming.{leaf_text}
+use Rattle.engine_session.specs.Blaming.{leaf_text}
 use Rattle.blamed_works.proofs.texts.push_leaves.Given as goal
 
 abbrev pub invariant-loop-leaf : goal.invariant-loop-leaf

@@ -4,10 +4,10 @@ use Rattle.outside.specs.Causes.{Rose}
 use Rattle.publication.proofs.Planning.{on_err}
 use Rattle.publication.specs.declared.answer.Publication.TheVariants as publication
 use Rattle.session.specs.Sessions.{NotSaved, built}
-use Rattle.compiler.specs.Compiler.{compiler}
-use Rattle.compiler.specs.Standing.{counts, MakesTurns, TakesNext}
-use Rattle.compiler.proofs.Fits.{begins}
-use Rattle.compiler.proofs.Moves.{forgotten_in, forgotten_kept}
+use Rattle.engine_session.specs.Compiler.{compiler}
+use Rattle.engine_session.specs.Standing.{counts, MakesTurns, TakesNext}
+use Rattle.engine_session.proofs.Fits.{begins}
+use Rattle.engine_session.proofs.Moves.{forgotten_in, forgotten_kept}
 use Rattle.demo.proofs.Turning.{at_end, end_rises, build_rises}
 use Rattle.demo.proofs.Going.{take_spends, take_exceeds, cut_turning, turns_spend, cut_made, reports}
 use Rattle.demo.proofs.builds.build_next.Goals as goal

@@ -1,11 +1,12 @@
-use Rattle.std.proofs.Common.{◌≡◌, ◌-◌, ◌+◌, suc, [], refl, arith, ◌∙◌}
-use Rattle.compiler.specs.Compiler.{compiler}
+use Rattle.std.proofs.Common.{◌≡◌, ◌-◌, ◌+◌, suc, [], ap, is_some, refl, arith, ◌∙◌}
+use Rattle.engine_session.specs.Compiler.{compiler}
 use Rattle.outside.specs.Contents.{Appends, AppendsPart}
 use Rattle.demo.proofs.Going.{none_yet, one_more, spends, exceeds, cut_off, unwritten, all_made}
 use Rattle.demo.proofs.builds.play.Goals as goal
 
 pub loop-i-init : goal.loop-i-init
 loop-i-init g c = record {
+  opened = c.requires;
   out = refl;
   faithful = λ f. f;
   played = λ f dirs limits e ps is told. none_yet (compiler (g.R.Runner.meaning dirs limits) dirs)
@@ -80,6 +81,7 @@ loop-i-preserved g c =
     let whole : Appends (g.O.Sink.held c.loop-i.out) c.build_next.new.line.items
     (g.O.Sink.held c.write.new.out) = rw c.deref.ensures.value at c.in-Ok.ensures.ok in
     record {
+      opened = ap is_some c.build_next.ensures.opened ∙ c.loop-i.invariant.opened;
       out = c.in-Ok.ensures.cause.done ∙ c.loop-i.invariant.out;
       faithful = λ f. c.in-Ok-Reports.ensures.faithful (c.loop-i.invariant.faithful f);
       played = λ f dirs limits e ps is told. let p =

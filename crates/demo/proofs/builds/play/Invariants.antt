@@ -1,6 +1,6 @@
-use Rattle.std.proofs.Common.{◌≡◌, ◌-◌, List, [], ℕ}
-use Rattle.compiler.specs.Compiler.{Compiled, compiler}
-use Rattle.compiler.specs.Standing.{IsFaithful, counts, IsIn}
+use Rattle.std.proofs.Common.{◌≡◌, ◌-◌, IsSome, List, [], ℕ}
+use Rattle.engine_session.specs.Compiler.{Compiled, compiler}
+use Rattle.engine_session.specs.Standing.{IsFaithful, counts, IsIn}
 use Rattle.outside.specs.declared.source.MemFile.{MemFile}
 use Rattle.pan_ast.specs.declared.work.Limits.{Limits}
 use Rattle.session.specs.Sessions.{started}
@@ -9,6 +9,7 @@ use Rattle.demo.proofs.builds.play.Given as goal
 
 abbrev pub invariant-loop-i : goal.invariant-loop-i
 invariant-loop-i g l = record {
+  opened : IsSome l.source.root;
   out : g.O.Sink.fault_count l.out ≡ g.O.Sink.fault_count l.fn.out;
   faithful : IsFaithful g.R.Runner.meaning l.fn.works → IsFaithful g.R.Runner.meaning l.works;
   played : IsFaithful g.R.Runner.meaning l.fn.works

@@ -1,7 +1,7 @@
 use Rattle.std.proofs.Common.{subst, ◌∙◌}
 use Rattle.std.specs.Prelude.{OnOk}
-use Rattle.compiler.specs.Compiler.{nothing}
-use Rattle.compiler.specs.Standing.{IsIn}
+use Rattle.engine_session.specs.Compiler.{nothing}
+use Rattle.engine_session.specs.Standing.{IsIn}
 use Rattle.demo.proofs.builds.start_at_root.Goals as goal
 
 pub returns-clause-at : goal.returns-clause-at

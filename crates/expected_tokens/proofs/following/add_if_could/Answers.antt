@@ -11,4 +11,5 @@ returns-in_ok-push-clause-sifted c = λ among sifted.
 
 pub returns-else-branch-clause-sifted : goal.returns-else-branch-clause-sifted
 returns-else-branch-clause-sifted c = λ among sifted.
-    sifted_less c.args.candidate.now sifted (c.in_ok-could_follow.ensures.could_not c.if-branch.false)
+    sifted_less c.args.candidate.now sifted (c.in_ok-could_follow.ensures.could_not
+    c.if-branch.false)

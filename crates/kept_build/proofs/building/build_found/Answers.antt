@@ -1,7 +1,7 @@
 use Rattle.std.proofs.Common.{◌≡◌, IfSome, ap, inl, refl, sym, subst, ◌∙◌}
 use Rattle.std.specs.Prelude.{Err}
 use Rattle.std.proofs.lemmas.Result.{IfErr-weaker, IfOk-weaker, err_from_is_err_and}
-use Rattle.compiler.specs.Standing.{counts, HasSpentAtMost, IsBegun}
+use Rattle.engine_session.specs.Standing.{counts, HasSpentAtMost, IsBegun}
 use Rattle.engine_rows.specs.Restoring.{IsSoundKept}
 use Rattle.kept_state.specs.Stored.{stored}
 use Rattle.site_build.specs.Ends.{IsFailureOf}

@@ -13,7 +13,7 @@ use Rattle.site_build.specs.Rounds.{given_by}
 use Rattle.site_build.specs.Scenes.{outs}
 use Rattle.site_build.specs.Session.{ended_behind, text_behind}
 use Rattle.site_build.specs.declared.ends.Device.TheVariants as D
-use Rattle.compiler.specs.Standing.{compiled_in}
+use Rattle.engine_session.specs.Standing.{compiled_in}
 use Rattle.kept_build.specs.Stores.{Keeps}
 use Rattle.kept_build.specs.Rounds.{rows_in}
 use Rattle.kept_build.proofs.Ending.{all_done, unpublished, unsaved, untold}

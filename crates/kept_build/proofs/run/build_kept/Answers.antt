@@ -1,6 +1,6 @@
-use Rattle.std.proofs.Common.{◌⊎◌, inl}
+use Rattle.std.proofs.Common.{◌⊎◌, ap, inl, is_some}
 use Rattle.std.proofs.lemmas.Result.{err_from_is_err_and}
-use Rattle.compiler.specs.Standing.{counts}
+use Rattle.engine_session.specs.Standing.{counts}
 use Rattle.kept_state.specs.Stored.{stored}
 use Rattle.site_build.specs.Scenes.{scene}
 use Rattle.kept_build.specs.Builds.{Breaks, Unbegun}
@@ -23,6 +23,14 @@ returns-in_err-found-clause-part g c =
     handed_on (λ e. Unbegun w file e before after store store_now ⊎ Breaks g.R.Runner.meaning w file
     e before after store store_now) r c.in_err-found.field-0.0 p.0 p.1 p.2
     (inl (c.in_err-found.ensures.part before.spent))
+
+pub build_found-requires-clause-source_open : goal.build_found-requires-clause-source_open
+build_found-requires-clause-source_open g c =
+    ap (λ s. is_some s.source_opened) (c.in_ok-found.ensures.ok (counts 0 0)).scene
+
+pub build_found-requires-clause-shelf_open : goal.build_found-requires-clause-shelf_open
+build_found-requires-clause-shelf_open g c =
+    ap (λ s. is_some s.shelf_opened) (c.in_ok-found.ensures.ok (counts 0 0)).scene
 
 pub build_found-requires-clause-rising : goal.build_found-requires-clause-rising
 build_found-requires-clause-rising g c = (c.in_ok-found.ensures.ok (counts 0 0)).loaded.listed.rise

@@ -1,6 +1,6 @@
 use Rattle.std.proofs.Common.{OnOk, option_map, sym, subst}
 use Rattle.kept_state.specs.Stored.{stored}
-use Rattle.compiler.specs.Standing.{IsBegun}
+use Rattle.engine_session.specs.Standing.{IsBegun}
 use Rattle.kept_works.specs.Kept.{IsSoundFor}
 use Rattle.kept_works.proofs.beginning.begin.Goals as goal
 

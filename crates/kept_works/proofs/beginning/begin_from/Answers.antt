@@ -4,7 +4,7 @@ use Rattle.kept_state.specs.Stored.{stored}
 use Rattle.read_index.specs.Readers.{asks}
 use Rattle.rebuild.specs.Sound.{IsSound}
 use Rattle.engine_rows.specs.Restoring.{IsUnfit}
-use Rattle.compiler.specs.Standing.{AreNumbers, IsIn}
+use Rattle.engine_session.specs.Standing.{AreNumbers, IsIn}
 use Rattle.kept_works.specs.Kept.{is_under, begun_with}
 use Rattle.kept_works.proofs.Begun.{kept_numbers, kept_short, it_fits, not_fit, anew, resumes}
 use Rattle.kept_works.proofs.beginning.begin_from.Goals as goal

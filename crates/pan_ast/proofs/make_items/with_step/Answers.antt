@@ -6,4 +6,9 @@ use Rattle.pan_ast.proofs.make_items.with_step.Goals as goal
 pub returns-in_ok-push-in-Spine-clause-pointers : goal.returns-in_ok-push-in-Spine-clause-pointers
 returns-in_ok-push-in-Spine-clause-pointers c =
     let spine = c.in-Spine in
-    grown_left c.args.left (record { place = c.args.left.place; form = form.Spine spine.first spine.second c.push.new.self }) spine.first spine.second spine.rest c.push.new.self c.args.step spine.is refl c.in_ok-push-in-Spine.ensures.items
+    grown_left c.args.left (record {
+      place = c.args.left.place;
+      form =
+          form.Spine spine.first spine.second c.push.new.self;
+    }) spine.first spine.second spine.rest
+    c.push.new.self c.args.step spine.is refl c.in_ok-push-in-Spine.ensures.items

@@ -53,7 +53,8 @@ returns-in_err-rest-in-OpenBrace-clause-read c = λ q h ss.
     (Out (StatementItem h ss (λ i. stated q (plain.Include i)))))
     (λ t. Statements h (ss ++ stated q (plain.Include b) ∷ [])) (refl, λ t. refl, λ t. refl)))
 
-pub returns-in_ok-make_block-in-OpenBrace-clause-read : goal.returns-in_ok-make_block-in-OpenBrace-clause-read
+pub returns-in_ok-make_block-in-OpenBrace-clause-read :
+    goal.returns-in_ok-make_block-in-OpenBrace-clause-read
 returns-in_ok-make_block-in-OpenBrace-clause-read c = λ q h ss.
     let first = c.in-Some.first.now in
     let x : sort first ≡ sorts.OpenBrace = sym c.sort.ensures ∙ c.in-OpenBrace.is in

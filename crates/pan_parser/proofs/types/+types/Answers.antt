@@ -81,7 +81,8 @@ full_type-returns-clause-read t c = λ s h.
     ∙ ap (λ v. on_front (has_form v s) b.rest.now) (sym c.make_type.ensures.seen))
     (c.whole_type.ensures.read s h)
 
-pub head-returns-in_err-rest-in-Extensible-clause-read : goal.head-returns-in_err-rest-in-Extensible-clause-read
+pub head-returns-in_err-rest-in-Extensible-clause-read :
+    goal.head-returns-in_err-rest-in-Extensible-clause-read
 head-returns-in_err-rest-in-Extensible-clause-read t c = λ s h.
     let p = err_from_is_err_and c.from_residual-in_err-rest-in-Extensible.result
     c.from_residual-in_err-rest-in-Extensible.ensures.1 in
@@ -93,7 +94,8 @@ head-returns-in_err-rest-in-Extensible-clause-read t c = λ s h.
     (c.in_err-rest-in-Extensible.ensures.read (extensible_read s) (λ o. FieldsOpen true [] s)
     (refl, λ t. refl, λ t. refl)))
 
-pub head-returns-in_err-fields-in-Extensible-clause-read : goal.head-returns-in_err-fields-in-Extensible-clause-read
+pub head-returns-in_err-fields-in-Extensible-clause-read :
+    goal.head-returns-in_err-fields-in-Extensible-clause-read
 head-returns-in_err-fields-in-Extensible-clause-read t c = λ s h.
     let p = err_from_is_err_and c.from_residual-in_err-fields-in-Extensible.result
     c.from_residual-in_err-fields-in-Extensible.ensures.1 in
@@ -106,7 +108,8 @@ head-returns-in_err-fields-in-Extensible-clause-read t c = λ s h.
     (refl, λ t. refl, λ t. refl)) (c.in_err-fields-in-Extensible.ensures.read true s
     (two_more (full_holders s) c.args.depth h)))
 
-pub head-returns-in_ok-fields-in-Extensible-clause-read : goal.head-returns-in_ok-fields-in-Extensible-clause-read
+pub head-returns-in_ok-fields-in-Extensible-clause-read :
+    goal.head-returns-in_ok-fields-in-Extensible-clause-read
 head-returns-in_ok-fields-in-Extensible-clause-read t c = λ s h.
     let first = c.in-Some.first.now in
     let x : sort first ≡ sorts.Extensible = sym c.sort.ensures ∙ c.in-Extensible.is in

@@ -23,6 +23,7 @@ loop-after-preserved c =
     let e : c.push.new.self.items ≡ xs ++ c.in_ok-text.text.now.value ∷ [] = search rules in (
       λ s. l.invariant.0 s ∙ texts_go_on l.rest.now c.in-Some.after.now xs s c.in-Some.ensures
           ∙ c.in_ok-text.ensures.read (text_wanted xs s) (λ x. TextsOpen (xs ++ x.value ∷ []) s)
-          (refl, λ t. refl, λ t. refl) ∙ ap (λ v. run c.in_ok-text.more.now (TextsOpen v s)) (sym e),
+          (refl, λ t. refl, λ t. refl) ∙ ap (λ v. run c.in_ok-text.more.now (TextsOpen v s))
+          (sym e),
       omega (arith, ap length c.in-Some.ensures.1, c.in_ok-text.ensures.shorter, l.invariant.1),
     )

@@ -1,5 +1,5 @@
 use Rattle.std.proofs.Common.{◌≡◌, inl, inr, refl, sym, ◌∙◌}
-use Rattle.compiler.specs.Standing.{counts}
+use Rattle.engine_session.specs.Standing.{counts}
 use Rattle.session.specs.declared.Ended.TheVariants as ended
 use Rattle.demo.specs.Demo.{Breaks, Ends}
 use Rattle.demo.specs.declared.ends.End.TheVariants as ends

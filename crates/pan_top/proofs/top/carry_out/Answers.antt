@@ -1,7 +1,7 @@
 use Rattle.std.proofs.Common.{Some, None, refl, sym, ap, ◌∙◌}
 use Rattle.command_words.specs.Commands.{command_of}
 use Rattle.command_words.specs.declared.commands.Command.TheVariants.{Build, Demo, Format, Watch}
-use Rattle.compiler.specs.Standing.{counts}
+use Rattle.engine_session.specs.Standing.{counts}
 use Rattle.kept_build.specs.Stores.{store_of}
 use Rattle.site_build.specs.Scenes.{scene}
 use Rattle.pan_top.proofs.Calling.{called, nothing_called}

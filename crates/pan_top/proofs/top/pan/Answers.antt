@@ -1,6 +1,6 @@
 use Rattle.blamed_works.proofs.Profiled.{tells_profile}
-use Rattle.compiler.proofs.RoundsOf.{has_rounds}
-use Rattle.compiler.proofs.Untouched.{leaves_rest}
+use Rattle.engine_session.proofs.RoundsOf.{has_rounds}
+use Rattle.engine_session.proofs.Untouched.{leaves_rest}
 use Rattle.format_laws.proofs.Formatting.{formatting_kept, settled_again}
 use Rattle.kept_works.proofs.Nothing.{nothing_sound}
 use Rattle.pan_top.proofs.Profiles.{are_kept}

@@ -1,5 +1,5 @@
 use Rattle.std.proofs.Common.{Some, subst}
-use Rattle.compiler.specs.Standing.{IsBegun, IsIn}
+use Rattle.engine_session.specs.Standing.{IsBegun, IsIn}
 use Rattle.kept_state.specs.Stored.{stored}
 use Rattle.kept_works.specs.Kept.{IsSoundFor, begun_with}
 use Rattle.pan_top.proofs.watching.go_on.Goals as goal

@@ -1,4 +1,4 @@
-use Rattle.compiler.specs.Standing.{IsBegun}
+use Rattle.engine_session.specs.Standing.{IsBegun}
 use Rattle.watch.proofs.Ready.{failed_ready}
 use Rattle.pan_top.proofs.Watched.{played_where}
 use Rattle.pan_top.proofs.watching.play_all.Goals as goal

@@ -1,5 +1,5 @@
-use Rattle.std.proofs.Common.{◌≡◌, ℕ, List, Some, ap, inl, inr, refl, subst, sym, ◌∙◌}
-use Rattle.compiler.specs.Standing.{IsBegun, counts}
+use Rattle.std.proofs.Common.{◌≡◌, ℕ, List, Some, ap, inl, inr, is_some, refl, subst, sym, ◌∙◌}
+use Rattle.engine_session.specs.Standing.{IsBegun, counts}
 use Rattle.kept_build.specs.Builds.{Opens}
 use Rattle.kept_build.specs.Kept.{IsSoundStart, begun_for}
 use Rattle.kept_build.specs.declared.ends.End.TheVariants as K
@@ -115,6 +115,14 @@ returns g c =
           (ap (λ s. s.source_opened) opens.scene) (ap (λ s. s.shelf_opened) opens.scene)
           c.play_all.ensures;
     })
+
+pub play_all-requires-clause-source_open : goal.play_all-requires-clause-source_open
+play_all-requires-clause-source_open g c =
+    ap (λ s. is_some s.source_opened) (c.in-Ok.ensures.ok (counts 0 0)).scene
+
+pub play_all-requires-clause-shelf_open : goal.play_all-requires-clause-shelf_open
+play_all-requires-clause-shelf_open g c =
+    ap (λ s. is_some s.shelf_opened) (c.in-Ok.ensures.ok (counts 0 0)).scene
 
 pub play_all-requires-clause-knows : goal.play_all-requires-clause-knows
 play_all-requires-clause-knows g c =

@@ -1,7 +1,7 @@
 use Rattle.std.proofs.Common.{◌≡◌, [], None, ap, inl, inr, refl, subst, sym, ◌∙◌}
-use Rattle.compiler.specs.Compiler.{nothing}
-use Rattle.compiler.specs.Standing.{IsBegun, counts, IsIn}
-use Rattle.compiler.proofs.Fits.{begins}
+use Rattle.engine_session.specs.Compiler.{nothing}
+use Rattle.engine_session.specs.Standing.{IsBegun, counts, IsIn}
+use Rattle.engine_session.proofs.Fits.{begins}
 use Rattle.row_changes.specs.Stores.{store_of}
 use Rattle.site_build.specs.Ends.{IsFailureOf}
 use Rattle.site_build.specs.Scenes.{scene}

@@ -7,6 +7,7 @@ use Rattle.path_tree.proofs.path.number_of.Given as goal
 
 abbrev pub invariant-loop-digit : goal.invariant-loop-digit
 invariant-loop-digit l = record {
-  read : fold (λ n c. 10 * n + (c - digit_0)) l.number (drop l.digit-index l.digits) ≡ number_of l.digits;
+  read : fold (λ n c. 10 * n + (c - digit_0)) l.number (drop l.digit-index l.digits)
+      ≡ number_of l.digits;
   small : l.number < limit l.digit-index;
 }

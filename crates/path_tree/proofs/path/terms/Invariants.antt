@@ -7,7 +7,8 @@ use Rattle.path_tree.proofs.path.terms.Given as goal
 
 abbrev pub invariant-loop-rest : goal.invariant-loop-rest
 invariant-loop-rest l = record {
-  read : behind l.terms.items (terms_at l.position (optional_pieces (option_copied l.rest))) ≡ terms_at l.fn.position (pieces l.fn.text);
+  read : behind l.terms.items (terms_at l.position (optional_pieces (option_copied l.rest)))
+      ≡ terms_at l.fn.position (pieces l.fn.text);
   part : IfSome (option_copied l.rest) (λ text. StandsAt l.position text l.whole);
   short : l.position + text_length (option_copied l.rest) ≤ MAX_PATH_BYTES + 1;
 }

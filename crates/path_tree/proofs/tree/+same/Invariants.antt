@@ -17,13 +17,15 @@ decreases-comparing::same_items l = 4 * items_size (items_of l.first.now) + 3
 
 abbrev pub invariant-comparing::same_entries-loop-i : goal.invariant-comparing::same_entries-loop-i
 invariant-comparing::same_entries-loop-i l = record {
-  rest : (fields_of (drop l.i l.first) ≡ fields_of (drop l.i l.second)) ↔ (fields_of l.first ≡ fields_of l.second);
+  rest : (fields_of (drop l.i l.first) ≡ fields_of (drop l.i l.second))
+      ↔ (fields_of l.first ≡ fields_of l.second);
   lengths : length l.first ≡ length l.second;
 }
 
 abbrev pub invariant-comparing::same_items-loop-i : goal.invariant-comparing::same_items-loop-i
 invariant-comparing::same_items-loop-i l = record {
-  rest : (items_of (drop l.i l.first) ≡ items_of (drop l.i l.second)) ↔ (items_of l.first ≡ items_of l.second);
+  rest : (items_of (drop l.i l.first) ≡ items_of (drop l.i l.second))
+      ↔ (items_of l.first ≡ items_of l.second);
   lengths : length l.first ≡ length l.second;
 }
 

@@ -37,10 +37,10 @@ loop-name-preserved g c =
           (take c.loop-name.name-index c.args.listed.now))
           (removal c.args.wants.now c.name-item.result) _ _ _ _ _ _ c.loop-name.invariant.made
           (made_sweep c.args.wants.now c.name-item.result _ _ _ _
-          (c.in_ok-sweep.ensures.ok c.args.wants.now c.requires)
-          (c.in_ok-sweep.ensures.done c.args.wants.now c.requires)));
+          (c.in_ok-sweep.ensures.ok c.args.wants.now c.requires.names)
+          (c.in_ok-sweep.ensures.done c.args.wants.now c.requires.names)));
       cells = clear_step c.name-item.result _ _ _ _ _ _ (rw e at c.loop-name.invariant.cells)
-          (c.in_ok-sweep.ensures.ok c.args.wants.now c.requires);
+          (c.in_ok-sweep.ensures.ok c.args.wants.now c.requires.names);
     }
 
 pub returns-in_err-sweep-clause-begun : goal.returns-in_err-sweep-clause-begun
@@ -55,7 +55,7 @@ returns-in_err-sweep-clause-begun g c =
     on_err c.from_residual.result (begun_sweep c.args.wants.now c.args.listed.now
     (take c.loop-name.name-index c.args.listed.now)
     (drop (c.loop-name.name-index + 1) c.args.listed.now) c.name-item.result _ _ _ _ _ _ whole
-    (c.in_err-sweep.ensures.going c.args.wants.now c.requires) c.loop-name.invariant.made
+    (c.in_err-sweep.ensures.going c.args.wants.now c.requires.names) c.loop-name.invariant.made
     c.in_err-sweep.ensures.err c.in_err-sweep.ensures.undone)
 
 pub returns-clause-made : goal.returns-clause-made

@@ -20,7 +20,7 @@ returns-in_err-bring-clause-err g c =
     grind (arith, common_steps, c.want-item.is, c.loop-want-test.true) in
     let at : IfErr c.from_residual.result (IsEndAt c.as_str.result.now) = search rules in
     IfErr-weaker _ _ _ (λ e' here. left_early e' _ (placed c.args.wants.now) _ _ _ _
-    (placed_keeps c.args.wants.now c.requires) (ap is_own c.as_str.ensures.text
+    (placed_keeps c.args.wants.now c.requires.proper) (ap is_own c.as_str.ensures.text
     ∙ proper_own c.want-item.result (drop (c.loop-want.want-index + 1) c.args.wants.now)
     (rw e at c.loop-want.invariant.proper)) c.loop-want.invariant.cells
     c.in_err-bring.ensures.err here) at

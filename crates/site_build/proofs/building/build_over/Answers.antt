@@ -1,8 +1,8 @@
 use Rattle.std.proofs.Common.{IfErr, IfSome, rules, sym, subst}
 use Rattle.std.proofs.lemmas.Result.{IfOk-weaker, err_from_is_err_and}
-use Rattle.compiler.proofs.Fits.{begins}
-use Rattle.compiler.specs.Compiler.{nothing}
-use Rattle.compiler.specs.Standing.{counts, HasSpentAtMost, IsIn}
+use Rattle.engine_session.proofs.Fits.{begins}
+use Rattle.engine_session.specs.Compiler.{nothing}
+use Rattle.engine_session.specs.Standing.{counts, HasSpentAtMost, IsIn}
 use Rattle.outside.specs.Causes.{Caused}
 use Rattle.site_build.specs.Ends.{IsEndOf, IsFailureOf, OfSource}
 use Rattle.site_build.specs.declared.ends.Device.TheVariants as D

@@ -3,7 +3,7 @@ use Rattle.rebuild.specs.Engines.{turns_left_of}
 use Rattle.publication.proofs.Planning.{on_err}
 use Rattle.publication.specs.declared.answer.Publication.TheVariants as publication
 use Rattle.session.specs.Sessions.{NotSaved, built}
-use Rattle.compiler.specs.Standing.{counts, HasSpentAtMost, MakesTurns, TakesNext}
+use Rattle.engine_session.specs.Standing.{counts, HasSpentAtMost, MakesTurns, TakesNext}
 use Rattle.site_build.specs.Rounds.{Reaches}
 use Rattle.site_build.specs.Session.{limits_of, state_from}
 use Rattle.site_build.specs.declared.building.Reached.TheVariants as reached

@@ -1,7 +1,7 @@
 use Rattle.std.proofs.Common.{◌≡◌, [], codes, refl, rules, subst, true}
-use Rattle.compiler.specs.Compiler.{compiler}
-use Rattle.compiler.specs.Standing.{counts, MakesTurns, TakesNext}
-use Rattle.compiler.proofs.Moves.{forgotten_in, forgotten_kept}
+use Rattle.engine_session.specs.Compiler.{compiler}
+use Rattle.engine_session.specs.Standing.{counts, MakesTurns, TakesNext}
+use Rattle.engine_session.proofs.Moves.{forgotten_in, forgotten_kept}
 use Rattle.rebuild.specs.Engines.{turns_left_of}
 use Rattle.publication.proofs.Planning.{on_err}
 use Rattle.publication.specs.declared.answer.Publication.TheVariants as publication

@@ -1,5 +1,5 @@
 use Rattle.std.proofs.Common.{◌++◌, ap, inl, inr, ◌∙◌}
-use Rattle.compiler.specs.Standing.{compiled_in, machine_in}
+use Rattle.engine_session.specs.Standing.{compiled_in, machine_in}
 use Rattle.publication.proofs.Planning.{on_err}
 use Rattle.session.specs.Sessions.{NotSaved, saved_text}
 use Rattle.session.specs.Texts.{publication_text}

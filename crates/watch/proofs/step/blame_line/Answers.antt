@@ -1,6 +1,6 @@
 use Rattle.std.proofs.Common.{◌≡◌, false, rules, subst, sym, true, codes, ◌∙◌}
-use Rattle.compiler.specs.Compiler.{compiler}
-use Rattle.compiler.specs.Standing.{counts}
+use Rattle.engine_session.specs.Compiler.{compiler}
+use Rattle.engine_session.specs.Standing.{counts}
 use Rattle.publication.proofs.Planning.{on_err}
 use Rattle.session.specs.Orders.{Blame}
 use Rattle.watch.proofs.Blaming.{blame_cut, blame_none, blame_told}

@@ -1,6 +1,6 @@
 use Rattle.std.proofs.Common.{◌≡◌, ◌++◌, ap₂, codes, length, refl, rules, subst, ◌∙◌}
-use Rattle.compiler.specs.Compiler.{compiler}
-use Rattle.compiler.specs.Standing.{counts, TakesNext}
+use Rattle.engine_session.specs.Compiler.{compiler}
+use Rattle.engine_session.specs.Standing.{counts, TakesNext}
 use Rattle.engine_turns.specs.Places.{names}
 use Rattle.engine_turns.specs.States.{pictured}
 use Rattle.publication.proofs.Planning.{on_err}

@@ -1,7 +1,7 @@
 use Rattle.std.proofs.Common.{◌≡◌, ◌++◌, rules, codes, refl, sym, ap, subst, if◌then◌else◌, ◌∙◌}
-use Rattle.compiler.specs.Compiler.{compiler, cause_text}
-use Rattle.compiler.specs.Standing.{compiled_in}
-use Rattle.compiler.proofs.Moves.{along}
+use Rattle.engine_session.specs.Compiler.{compiler, cause_text}
+use Rattle.engine_session.specs.Standing.{compiled_in}
+use Rattle.engine_session.proofs.Moves.{along}
 use Rattle.publication.proofs.Planning.{on_err}
 use Rattle.rebuild.specs.Answers.{why_at}
 use Rattle.session.specs.Orders.{order_of, Show, Why, Deps, Impact, Unused, BadLine}

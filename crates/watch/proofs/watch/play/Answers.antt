@@ -1,5 +1,5 @@
 use Rattle.std.proofs.Common.{◌≡◌, ◌<◌, ◌∙◌, true, false, inl, inr, refl, arith}
-use Rattle.compiler.specs.Compiler.{compiler}
+use Rattle.engine_session.specs.Compiler.{compiler}
 use Rattle.outside.specs.Contents.{Appends}
 use Rattle.outside.specs.Lines.{NextLine}
 use Rattle.watch.proofs.Playing.{one_more, none_yet}

@@ -8,5 +8,6 @@ use Rattle.path_tree.proofs.tree.dicts.searched.Goals as goal
 pub returns : goal.returns
 returns c =
     let facts = c.binary_search_by.ensures in
-    let by_key = facts.position (λ e. slice_cmp nat_cmp e.key c.args.key.now) (always_returns_same _ _ _ (λ a r g called. search rules)) in
+    let by_key = facts.position (λ e. slice_cmp nat_cmp e.key c.args.key.now)
+    (always_returns_same _ _ _ (λ a r g called. search rules)) in
     position_ok c.args.key.now c.args.entries.now c.requires _ facts.bound by_key

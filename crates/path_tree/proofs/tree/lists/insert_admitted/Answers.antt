@@ -5,8 +5,15 @@ use Rattle.path_tree.proofs.tree.lists.insert_admitted.Goals as goal
 
 pub returns-clause-ok : goal.returns-clause-ok
 returns-clause-ok c =
-    let new : Items = record { items = c.insert.new.self; size = c.args.after.size; height = c.args.after.height } in
-    inserted_is c.args.list.now c.args.value c.requires.kept new c.args.index c.args.after c.requires.admitted c.in_ok-insert.ensures.items
+    let new : Items = record {
+      items = c.insert.new.self;
+      size = c.args.after.size;
+      height =
+          c.args.after.height;
+    } in
+    inserted_is c.args.list.now c.args.value c.requires.kept new c.args.index c.args.after
+    c.requires.admitted c.in_ok-insert.ensures.items
 
 pub returns-clause-kept : goal.returns-clause-kept
-returns-clause-kept c = inserted_kept c.args.list.now c.args.value c.requires.kept _ c.args.index c.args.after c.requires.admitted c.in_ok-insert.ensures.items refl refl
+returns-clause-kept c = inserted_kept c.args.list.now c.args.value c.requires.kept _ c.args.index
+    c.args.after c.requires.admitted c.in_ok-insert.ensures.items refl refl

@@ -51,7 +51,8 @@ invariant_of-self-in-Break-branch-3 c =
     record {
       same = h.1.same;
       low =
-          h.1.low (m + 1) (next_less m) (low_more m c.args.self.now.nodes.items c.args.self.now.low);
+          h.1.low (m + 1) (next_less m) (low_more m c.args.self.now.nodes.items
+          c.args.self.now.low);
       readers = readers_more _ _ _ _ e h c.args.self.now.readers;
     }
 
@@ -92,7 +93,8 @@ invariant_of-self-in-Break-branch-4 c =
     record {
       same = h.1.same;
       low =
-          h.1.low (m + 1) (next_less m) (low_more m c.args.self.now.nodes.items c.args.self.now.low);
+          h.1.low (m + 1) (next_less m) (low_more m c.args.self.now.nodes.items
+          c.args.self.now.low);
       readers = readers_more _ _ _ _ e h c.args.self.now.readers;
     }
 

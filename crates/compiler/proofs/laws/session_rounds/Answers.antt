@@ -1,6 +1,0 @@
-use Rattle.compiler.proofs.RoundsOf.{has_rounds}
-use Rattle.compiler.proofs.laws.session_rounds.Goals as goal
-
-pub returns : goal.returns
-returns g c = λ dirs limits. has_rounds (g.R.Runner.meaning dirs limits)
-    (g.met.R.Runner.laws dirs limits) dirs

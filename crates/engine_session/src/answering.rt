@@ -1,0 +1,138 @@
+ghost use Rattle.std.specs.Prelude.{◌≡◌, ◌++◌, List, ℕ, IfOk, OnOk, Ok, Err, codes, cond};
+ghost use Rattle.json_profile.specs.Dependencies.{dep_text_of};
+ghost use Rattle.read_sets.specs.Items.{pairs_of};
+ghost use Rattle.rebuild.specs.Answers.{seen_why, why_at};
+ghost use Rattle.rebuild.specs.Engines.{situation_of, objects_of};
+ghost use Rattle.engine_laws.specs.Engine.{is_among};
+ghost use Rattle.session.specs.Sessions.{shown_of, deps_of};
+ghost use Rattle.engine_session.specs.Compiler.{outcome_by, cause_text, key_text};
+ghost use Rattle.engine_session.specs.Standing.{IsFaithful, compiled_in, machine_in};
+
+use crate::works::Works;
+use base::Bytes;
+use json_profile::{dep_text, profile_text};
+use pan_ast::{Fault, fault_line};
+use path_tree::Tree;
+use questions::Key;
+use rebuild::{Answer, Engine, Reads, Why};
+use runner::Runner;
+use session::{Outcome, Shown};
+use std::alloc::{AllocError, Global};
+
+/// The text of what an object looked at.
+fn dep_of(alloc: Global, reads: Reads<'_>) -> Result<Bytes, AllocError>
+    ensures { IfOk result (λ text. text ≡ dep_text_of (pairs_of reads.entry.build.now)
+        (pairs_of reads.entry.check.now)) }
+{
+    Bytes::from_vec(dep_text(alloc, reads.build, reads.check)?)
+}
+
+/// What is said of a name that has nothing settled.
+fn unsettled<R: Runner>(engine: &Engine<R>, name: &str) -> Shown<Bytes>
+    ensures { result ≡ cond (is_among name.now (objects_of engine.now.core)) Shown.Pending
+        Shown.NoObject }
+{
+    match engine.answer(name) {
+        Answer::NoObject => Shown::NoObject,
+        Answer::Pending | Answer::Profile(_) | Answer::Fault(_) => Shown::Pending,
+    }
+}
+
+/// What is said of a name, and of the text of what compiling it looks at.
+pub fn deps<R: Runner>(
+    alloc: Global,
+    works: &Works<R>,
+    name: &str,
+) -> Result<Shown<Bytes>, AllocError>
+    ensures { IsFaithful R.meaning works.now → IfOk result (λ said. said ≡ deps_of
+        (machine_in R.meaning works.now.engine.core) name.now
+        (compiled_in works.now.engine.core)) }
+{
+    match works.engine.reads(name) {
+        Some(reads) => Ok(Shown::Settled(dep_of(alloc, reads)?)),
+        None => Ok(unsettled(&works.engine, name)),
+    }
+}
+
+/// The outcome of a tree.
+fn profile_outcome(alloc: Global, tree: &Tree, reads: Reads<'_>) -> Result<Outcome, AllocError>
+    ensures { IfOk result (λ o. o ≡ outcome_by (Ok tree.now) (dep_text_of
+        (pairs_of reads.entry.build.now) (pairs_of reads.entry.check.now))) }
+{
+    Ok(Outcome::Profile {
+        json: Bytes::from_vec(profile_text(alloc, tree)?)?,
+        dep: dep_of(alloc, reads)?,
+    })
+}
+
+/// The outcome of a fault.
+fn fault_outcome(alloc: Global, fault: &Fault) -> Result<Outcome, AllocError>
+    ensures { IfOk result (λ o. (dep : List ℕ) → o ≡ outcome_by (Err fault.now) dep) }
+{
+    Ok(Outcome::Fault(Bytes::from_vec(fault_line(alloc, fault)?)?))
+}
+
+/// What is said of a name, and what compiling it gives.
+pub fn shown<R: Runner>(
+    alloc: Global,
+    works: &Works<R>,
+    name: &str,
+) -> Result<Shown<Outcome>, AllocError>
+    ensures { IsFaithful R.meaning works.now → IfOk result (λ said. said ≡ shown_of
+        (machine_in R.meaning works.now.engine.core) name.now
+        (compiled_in works.now.engine.core)) }
+{
+    match works.engine.answer(name) {
+        Answer::Profile(tree) => {
+            // An engine that is not faithful may have a profile that nothing was read for.
+            let Some(reads) = works.engine.reads(name) else {
+                return Ok(Shown::Pending);
+            };
+            Ok(Shown::Settled(profile_outcome(alloc, tree, reads)?))
+        }
+        Answer::Fault(fault) => Ok(Shown::Settled(fault_outcome(alloc, fault)?)),
+        Answer::Pending => Ok(Shown::Pending),
+        Answer::NoObject => Ok(Shown::NoObject),
+    }
+}
+
+fn push_key(text: &mut Vec<u8>, key: &Key) -> Result<(), AllocError>
+    ensures { OnOk result (text.new.items ≡ text.old.items ++ key_text key.now) }
+{
+    match key {
+        Key::File(name) => {
+            text.extend_from_slice(b"file ")?;
+            text.extend_from_slice(name.as_str().as_bytes())
+        }
+        Key::Under { object, .. } => {
+            text.extend_from_slice(b"object ")?;
+            text.extend_from_slice(object.as_str().as_bytes())
+        }
+    }
+}
+
+fn push_changed(text: &mut Vec<u8>, key: &Key) -> Result<(), AllocError>
+    ensures { OnOk result (text.new.items ≡ text.old.items ++ (codes "changed " ++ key_text key.now
+        ++ codes "\n")) }
+{
+    text.extend_from_slice(b"changed ")?;
+    push_key(text, key)?;
+    text.extend_from_slice(b"\n")
+}
+
+/// Writes why a name was run last.
+pub fn push_cause<R: Runner>(
+    text: &mut Vec<u8>,
+    works: &Works<R>,
+    name: &str,
+) -> Result<(), AllocError>
+    ensures { OnOk result (text.new.items ≡ text.old.items ++ cause_text (why_at (situation_of
+        works.now.engine.core) name.now)) }
+{
+    match works.engine.why(name) {
+        Why::NotRun => text.extend_from_slice(b"not run\n"),
+        Why::NoRecord => text.extend_from_slice(b"no record\n"),
+        Why::Changed(key) => push_changed(text, key),
+        Why::NoObject => text.extend_from_slice(b"no object\n"),
+    }
+}

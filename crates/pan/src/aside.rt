@@ -1,0 +1,34 @@
+use crate::notes::wants_notes;
+use std::io;
+use std::io::{Stderr, Write};
+
+/// Standard error, where notes are wanted; else nothing is written.
+#[derive(Clone, Copy)]
+pub struct Aside {
+    to: Option<Stderr>,
+}
+
+impl Aside {
+    /// Standard error, but where the variable PAN_NOTES is `off`.
+    pub fn new(rt: &HostRuntime) -> Aside {
+        if !wants_notes(rt) {
+            return Aside { to: None };
+        }
+        Aside {
+            to: Some(rt.stderr()),
+        }
+    }
+}
+
+impl Write for Aside {
+    fn write(&mut self, bytes: &[u8]) -> io::Result<usize> {
+        match &mut self.to {
+            Some(stderr) => stderr.write(bytes),
+            None => Ok(bytes.len()),
+        }
+    }
+
+    fn flush(&mut self) -> io::Result<()> {
+        Ok(())
+    }
+}
