@@ -119,6 +119,13 @@ impl Text {
         unsafe { from_utf8_unchecked(&bytes[self.start as usize..self.end as usize]) }
     }
 
+    /// Whether it is this text; where the lengths differ, no byte is looked at.
+    pub fn spells(&self, text: &str) -> bool
+        ensures { result ≡ pointwise ◌==◌ self.now text.now }
+    {
+        (self.end - self.start) as usize == text.len() && self.as_str() == text
+    }
+
     /// The same text, shared.
     pub fn share(&self) -> Result<Text, AllocError>
         ensures { IfOk result (λ t. t ≡ self.now) }
@@ -186,7 +193,7 @@ impl PartialEq for Text {
     ghost laws = { Prim.search (comparing, rules) };
 
     fn eq(&self, other: &Text) -> bool {
-        self.as_str() == other.as_str()
+        self.end - self.start == other.end - other.start && self.as_str() == other.as_str()
     }
 }
 

@@ -1,4 +1,6 @@
-use anyhow::Result;
+ghost use Rattle.std.specs.Prelude.{◌≡◌, IsSome, None};
+
+use anyhow::{Result, anyhow};
 use base::{Bytes, Text};
 use keepers::Keeper;
 use outside::StoreError;
@@ -30,7 +32,10 @@ pub(crate) fn replace<K: Keeper>(
     keeper: &mut K,
     gone: &str,
     set: &str,
-) -> Result<Result<(), StoreError>> {
+) -> Result<Result<(), StoreError>>
+    requires open { IsSome (K.opened keeper.old) }
+    ensures opened { K.opened keeper.new ≡ K.opened keeper.old }
+{
     let mut names = Vec::new(alloc);
     for row in &rows(alloc, gone)? {
         names.push(row.name.share()?)?;
@@ -39,7 +44,10 @@ pub(crate) fn replace<K: Keeper>(
 }
 
 /// The letters that a keeper holds, or why it tells none.
-pub(crate) fn letters<K: Keeper>(alloc: Global, keeper: &mut K) -> Result<String> {
+pub(crate) fn letters<K: Keeper>(alloc: Global, keeper: &mut K) -> Result<String>
+    requires open { IsSome (K.opened keeper.old) }
+    ensures opened { K.opened keeper.new ≡ K.opened keeper.old }
+{
     let mut text = String::new(alloc);
     let mut held = Vec::new(alloc);
     if keeper.load(&mut held).is_err() {
@@ -68,10 +76,15 @@ pub(crate) fn word(done: Result<(), StoreError>) -> &'static str {
 }
 
 /// Opens a keeper, changes its rows twice and tells what it holds, and its count of faults.
-pub(crate) fn print_calls<K: Keeper>(rt: &HostRuntime, what: &str, keeper: &mut K) -> Result<()> {
+pub(crate) fn print_calls<K: Keeper>(rt: &HostRuntime, what: &str, keeper: &mut K) -> Result<()>
+    requires closed { K.opened keeper.old ≡ None }
+{
     let alloc = rt.alloc();
     println!(rt; "{what}")?;
-    println!(rt; "  open {}", word(keeper.open_store("rows.db")))?;
+    if keeper.open_store("rows.db").is_err() {
+        return Err(anyhow!("not opened"));
+    }
+    println!(rt; "  open done")?;
     let done = replace(alloc, keeper, "", "ab")?;
     println!(rt;
         "  set a, b {}: {}",

@@ -41,23 +41,18 @@ fn trouble_in(alloc: Global, keeper: &HostKeeper) -> Result<String> {
     }
 }
 
-/// Opens a file that is no store, and calls on: each call is refused and counted, and the file stays.
+/// Opens a file that is no store: the call is refused and counted, and the file stays.
 fn print_bad(rt: &HostRuntime, what: &str, file: &str) -> Result<()> {
     let before = content(rt, file);
     let mut keeper = HostKeeper::new(rt.clone()?);
     let opened = word(keeper.open_store(file));
     let told = trouble_in(rt.alloc(), &keeper)?;
-    let loaded = word(keeper.load(&mut Vec::new(rt.alloc())));
-    let replaced = word(replace(rt.alloc(), &mut keeper, "a", "b")?);
     let same = if before.as_slice() == content(rt, file).as_slice() {
         "as it was"
     } else {
         "changed"
     };
-    println!(rt;
-        "{what}: open {opened}, load {loaded}, replace {replaced}, {} faults, {same}",
-        keeper.faults()
-    )?;
+    println!(rt; "{what}: open {opened}, {} faults, {same}", keeper.faults())?;
     println!(rt; "  {}", told.as_str())?;
     Ok(())
 }

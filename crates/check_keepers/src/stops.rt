@@ -1,3 +1,5 @@
+ghost use Rattle.std.specs.Prelude.{◌≡◌, None};
+
 use crate::calls::{letters, replace};
 use anyhow::{Result, anyhow};
 use keepers::Keeper;
@@ -20,7 +22,9 @@ enum Answered {
 }
 
 /// Sets the rows a and b, and then takes a out and sets c.
-fn change<K: Keeper>(alloc: Global, keeper: &mut K) -> Result<Answered> {
+fn change<K: Keeper>(alloc: Global, keeper: &mut K) -> Result<Answered>
+    requires closed { K.opened keeper.old ≡ None }
+{
     if keeper.open_store("rows.db").is_err() || replace(alloc, keeper, "", "ab")?.is_err() {
         return Ok(Answered::Nothing);
     }

@@ -13,7 +13,7 @@
 //! is the word `object` and lines of three bytes, as `written_runner` says. The expected output is written by hand.
 #![tactic(auto)]
 
-ghost use Rattle.std.specs.Prelude.{◌≡◌, ◌<◌, None, true};
+ghost use Rattle.std.specs.Prelude.{◌≡◌, ◌<◌, IfOk, None, true};
 ghost use Rattle.outside.specs.Pictures.{are_pictures};
 
 use anyhow::{Result, anyhow};
@@ -202,7 +202,9 @@ fn devices_of(
 }
 
 /// The keeper of a case.
-fn keeper_of(alloc: Global, rows: Vec<StoredRow>, fails: Vec<u64>) -> Result<MemKeeper> {
+fn keeper_of(alloc: Global, rows: Vec<StoredRow>, fails: Vec<u64>) -> Result<MemKeeper>
+    ensures { IfOk result (λ keeper. keeper.keeper.opened ≡ None) }
+{
     if !are_rising(&rows) {
         return Err(anyhow!("rows that do not rise"));
     }
@@ -228,6 +230,21 @@ fn print_ended(rt: &HostRuntime, ended: &Ended) -> Result<()> {
     print_rows(rt, ended.keeper.rows())
 }
 
+/// Calls the compiler. What it promises is of no use behind this call, so no clause hands it on.
+fn ended<L: Ledger>(
+    alloc: Global,
+    words: &[Text],
+    devices: Devices<MemSource, MemShelf, MemLines, MemSink>,
+    keeper: MemKeeper,
+    steps: &mut Steps<L>,
+) -> Ended
+    requires source { devices.source.source.root ≡ None }
+    requires shelf { devices.shelf.shelf.root ≡ None }
+    requires keeper { keeper.keeper.opened ≡ None }
+{
+    pan(alloc, words, Written::new(alloc), devices, keeper, steps)
+}
+
 /// Calls the compiler, and gives the rows that are kept then.
 fn run<L: Ledger>(
     rt: &HostRuntime,
@@ -249,7 +266,7 @@ fn run<L: Ledger>(
     let (devices, keeper_fails) = devices_of(alloc, pictures, held, lines, fails);
     let keeper = keeper_of(alloc, rows, keeper_fails)?;
     let words = words_of(alloc, words)?;
-    let ended = pan(alloc, &words, Written::new(alloc), devices, keeper, steps);
+    let ended = ended(alloc, &words, devices, keeper, steps);
     print_ended(rt, &ended)?;
     copies(alloc, ended.keeper.rows())
 }

@@ -3,3 +3,4 @@ pub mod Filled
 -- How contracts say that code gives it.
 pub mod Fills
 pub mod Steps
+pub mod Bare

@@ -10,6 +10,7 @@ ghost use Rattle.defaults.specs.Filled.{fields_filled, filled, filled_inside, it
 ghost use Rattle.defaults.specs.Fills.{Fills, target_store};
 ghost use Rattle.defaults.specs.Steps.{IsKnown, entry_filled};
 
+use crate::bare::{bare_visits, visit_bare, visit_each, visits_of};
 use crate::putting::{is_missing, put_missing};
 use crate::target::{Target, copied, take_step};
 use base::Steps;
@@ -139,6 +140,9 @@ fn fill_items<L: Ledger>(
     ensures counted { steps.new + target.new.work.left ≡ steps.old + target.old.work.left }
 {
     let count = item_total(value);
+    if let Some(visits) = bare_visits(inner) {
+        return visit_each(alloc, place, visits, count, target, steps);
+    }
     let mut whole = Some(value.copy()?);
     for i in 0..count {
         let term = index_term(i)?;
@@ -324,6 +328,9 @@ fn fill_entry<L: Ledger>(
     let Some(key) = value.key_handle(i) else {
         return Ok(());
     };
+    if let Some(visits) = visits_of(key.as_str(), inner, whole) {
+        return visit_bare(alloc, place, visits, target, steps);
+    }
     let term = Term::Key(key.share()?);
     fill_below(alloc, place, inner, term, whole, target, steps)
 }
@@ -394,6 +401,9 @@ fn fill_field<L: Ledger>(
         (target.old.path.items ++ term.Key (field_seen field.now).key ∷ [])) }
     ensures counted { steps.new + target.new.work.left ≡ steps.old + target.old.work.left }
 {
+    if let Some(visits) = visits_of(field.key.as_str(), &field.resolved, whole) {
+        return visit_bare(alloc, place, visits, target, steps);
+    }
     let term = Term::Key(field.key.share()?);
     fill_below(alloc, place, &field.resolved, term, whole, target, steps)
 }

@@ -5,7 +5,7 @@ use Rattle.path_tree.specs.Plain.{Plain, dict, list, text, long, boolean, undef,
 use Rattle.path_tree.specs.Find.{child_count, item_count, field_count, item_at}
 use Rattle.pan_ast.specs.declared.place.Place.{Place}
 use Rattle.pan_ast.specs.declared.syntax.Item.{Item as RItem}
-use Rattle.pan_ast.specs.Syntax.{Item}
+use Rattle.pan_ast.specs.Syntax.{Item, none}
 use Rattle.pan_ast.specs.Seen.{item_seen, items_seen}
 use Rattle.questions.specs.Contents.{Answers}
 use Rattle.questions.specs.Run.{Meter, Done, then}
@@ -35,6 +35,12 @@ values_more go a is i x done o e m h is_x =
     (drop_more is i x h ∙ ap (λ y. y ∷ drop (i + 1) is) (sym is_x))
 
 pub ruleset items = (block_more, values_more)
+
+-- no items
+pub no_values : (go : Means) (a : Around) (done : List Plain) (o : Answers) (e : Env) (m : Meter)
+    → values_from go a none done o e m ≡ Done done e m
+unfolding values_from
+no_values go a done o e m = refl
 
 -- a turn, and those after it
 pub while_more : (n : ℕ) (go : Means) (a : Around) (p : Place) (c b : Item) (last : Plain)

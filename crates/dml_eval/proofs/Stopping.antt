@@ -41,7 +41,7 @@ use Rattle.dml_world.specs.Exits.{Ends}
 use Rattle.dml_world.proofs.Ends.{ends_then}
 use Rattle.dml_leaves.specs.References.{indexes_back}
 use Rattle.dml_eval.specs.Waits.{with_steps}
-use Rattle.dml_eval.proofs.Lists.{block_more, values_more}
+use Rattle.dml_eval.proofs.Lists.{block_more, no_values, values_more}
 use Rattle.dml_eval.proofs.Owns.{exists_other, one_include, statements_more}
 use Rattle.dml_eval.proofs.Reaching.{reach_more}
 
@@ -164,6 +164,12 @@ module _ (a : Around) (w : IsReading a.reading) where
     right_stops x p y is i ks o e s c m k l keys end =
         rw keys (ends_then x c k ((eval n).opens a i o s l) (λ v. set_value p y ks v o)
         (λ v. leaves (set_value p y ks v) (set_value_lawful (MayAsk a.object) p y ks v) o) end)
+
+    pub whole_stops : (x : Exit) (p : Place) (y : List ℕ) (i : Item) (o : Answers) (e s : Env)
+        (m k : Meter) → Ends x s k ((eval n).opens a i o e m)
+        → Ends x s k (set_run (eval n) a p y none i o e m)
+    whole_stops x p y i o e s m k end =
+        right_stops x p y none i [] o e e s m k m (no_values (eval n) a [] o e m) end
 
     -- chains
 

@@ -4,6 +4,7 @@ ghost use Rattle.dml_world.specs.Seen.{around_of};
 ghost use Rattle.dml_meaning.specs.Meaning.{assign_run, block_from, choose, condition_run, eval, item_run, set_run, values_from};
 ghost use Rattle.questions.specs.Run.{give};
 ghost use Rattle.pan_ast.specs.Seen.{item_seen, items_seen, reference_seen};
+ghost use Rattle.pan_ast.specs.Syntax.{none};
 ghost use Rattle.path_tree.specs.Plain.{undef};
 
 use crate::loops::{run_for, run_foreach, run_while};
@@ -309,7 +310,34 @@ fn run_set<W: World, L: Ledger>(
         name.now (items_seen indexes.now) (item_seen right.now)) }
     ensures counted { steps.new + live.new.work.left ≡ steps.old + live.old.work.left }
 {
+    if let [] = indexes {
+        return run_whole(alloc, place, name, right, room, around, live, world, steps);
+    }
     let keys = open_values(alloc, indexes, room, around, live, world, steps)?;
     let value = open_item(alloc, right, room, around, live, world, steps)?;
     set_value(alloc, place, name, &keys, value, live, world, steps)
+}
+
+/// The right side of an assignment without indexes, and then the change.
+#[inline(always)]
+#[cycle(eval)]
+#[tactic(auto, using(crate::proofs::Lists::no_values), unfolding(dml_meaning::specs::Meaning::set_run))]
+fn run_whole<W: World, L: Ledger>(
+    alloc: Global,
+    place: &Place,
+    name: &Text,
+    right: &Item,
+    room: u64,
+    around: &Around<'_>,
+    live: &mut Live,
+    world: &mut W,
+    steps: &mut Steps<L>,
+) -> Result<Tree, Exit>
+    ensures gives { Follows (λ t. t) result W.answers live.old (W.asked world.old) live.new
+        (W.asked world.new) (set_run (eval room) (around_of around.now W.reading W.calls) place.now
+        name.now none (item_seen right.now)) }
+    ensures counted { steps.new + live.new.work.left ≡ steps.old + live.old.work.left }
+{
+    let value = open_item(alloc, right, room, around, live, world, steps)?;
+    set_value(alloc, place, name, &[], value, live, world, steps)
 }

@@ -3,3 +3,4 @@ pub mod Indexed
 pub mod Weights
 pub mod KeyValues
 pub mod Stopping
+pub mod Whole

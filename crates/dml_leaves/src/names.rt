@@ -1,13 +1,14 @@
-ghost use Rattle.std.specs.Prelude.{◌≡◌, IfOk, is_some, option_copied, unwrap_or, Some, None, option_and_then, pos, OnOk, not, ◌&&◌, ◌+◌};
+ghost use Rattle.std.specs.Prelude.{◌≡◌, [], IfOk, is_some, option_copied, unwrap_or, Some, None, option_and_then, pos, OnOk, not, ◌&&◌, ◌+◌};
 ghost use Rattle.dml_world.specs.Exits.{Follows, IsFault};
 ghost use Rattle.dml_leaves.specs.Changes.{IsLocalChange, IsRootChange};
 ghost use Rattle.dml_meaning.specs.Indexes.{changed};
 ghost use Rattle.path_tree.specs.Plain as plain;
+ghost use Rattle.path_tree.specs.Plain.{IsTree};
 ghost use Rattle.path_tree.specs.Find.{child_count};
 ghost use Rattle.dml_meaning.specs.Words.{automatic_of};
 ghost use Rattle.dml_meaning.specs.Around.{found};
 ghost use Rattle.dml_world.specs.Seen.{around_of, env};
-ghost use Rattle.dml_meaning.specs.Meaning.{assign_name, automatic_value, change, in_function, may_change, may_change_by, name_run, no_indexes, read, root_of, set_value, value_of};
+ghost use Rattle.dml_meaning.specs.Meaning.{assign_name, automatic_value, change, in_function, may_change, may_change_by, name_run, no_indexes, read, root_of, set_value, value_of, with_root};
 ghost use Rattle.pan_ast.specs.Seen.{items_seen};
 
 use crate::indexes::{Unchanged, change_tree};
@@ -163,11 +164,12 @@ pub fn is_whole(indexes: &[Item]) -> bool
 
 /// Whether a name is that of a global and of no local.
 #[inline(always)]
+#[tactic(auto, using(crate::proofs::Whole::turned))]
 fn is_only_global(name: &Text, around: &Around<'_>, live: &Live) -> bool
     ensures { result ≡ (is_some (found around.now.frame.now.globals.now.variables name.now)
         && not (is_some (found live.now.locals name.now))) }
 {
-    around.frame.globals.value(name.as_str()).is_some() && live.locals.find(name.as_str()).is_none()
+    live.locals.find(name.as_str()).is_none() && around.frame.globals.value(name.as_str()).is_some()
 }
 
 /// Whether a name may be changed, at an index or as a whole.
@@ -262,6 +264,41 @@ pub fn change<W: World>(
     }
 }
 
+/// Sets SELF or a local as a whole, with one look for the name.
+#[inline(always)]
+fn set_root(name: &Text, value: &Tree, live: &mut Live) -> Result<(), AllocError>
+    ensures root { OnOk result (env live.new ≡ with_root name.now value.now (env live.old)) }
+    ensures tree { IsTree value.now }
+    ensures left { live.new.work.left ≡ live.old.work.left }
+{
+    let _kind = value.kind();
+    match automatic_name(name.as_str()) {
+        Some(Automatic::OwnValue) => {
+            live.self_value = value.copy()?;
+            Ok(())
+        }
+        Some(_) | None => live.locals.set(name, value.copy()?),
+    }
+}
+
+/// Sets SELF or a local as a whole: what `change` without indexes does, with less work.
+#[inline(always)]
+#[tactic(auto, using(crate::proofs::Whole::change_whole, dml_meaning::proofs::Leaving::change_leaves))]
+pub fn set_whole<W: World>(
+    place: &Place,
+    name: &Text,
+    value: &Tree,
+    live: &mut Live,
+    world: &W,
+) -> Result<(), Exit>
+    ensures gives { Follows (λ t. t) result W.answers live.old (W.asked world.now) live.new
+        (W.asked world.now) (change place.now name.now [] value.now) }
+    ensures left { live.new.work.left ≡ live.old.work.left }
+{
+    set_root(name, value, live)?;
+    Ok(())
+}
+
 /// A step for each index, and the change.
 #[inline(always)]
 pub fn set_value<W: World, L: Ledger>(
@@ -278,6 +315,10 @@ pub fn set_value<W: World, L: Ledger>(
         (W.asked world.now) (set_value place.now name.now keys.now value) }
     ensures counted { steps.new + live.new.work.left ≡ steps.old + live.old.work.left }
 {
+    if let [] = keys {
+        set_whole(place, name, &value, live, world)?;
+        return Ok(value);
+    }
     take_steps(alloc, keys.len(), place, live, world, steps)?;
     change(alloc, place, name, keys, &value, live, world)?;
     Ok(value)
@@ -299,5 +340,5 @@ pub fn assign_name<W: World>(
     ensures left { live.new.work.left ≡ live.old.work.left }
 {
     may_change(alloc, place, name, true, around, live, world)?;
-    change(alloc, place, name, &[], value, live, world)
+    set_whole(place, name, value, live, world)
 }

@@ -4,6 +4,7 @@ ghost use Rattle.path_tree.specs.Refusals.{refusal};
 ghost use Rattle.dml_ops.specs.Operators.{of_texts};
 ghost use Rattle.path_tree.specs.declared.operators.BinaryOp.TheVariants as binary;
 
+use base::Text;
 use base::limits::MAX_TEXT_BYTES;
 use path_tree::{BinaryOp, Refused, Tree};
 use std::alloc::Global;
@@ -24,24 +25,21 @@ fn joined(alloc: Global, x: &str, y: &str) -> Result<Tree, Refused>
     if x.len() > MAX_TEXT_BYTES || y.len() > MAX_TEXT_BYTES - x.len() {
         return Err(Refused::TooLarge);
     }
-    let mut text = String::with_capacity(alloc, x.len() + y.len())?;
-    text.push_str(x)?;
-    text.push_str(y)?;
-    Tree::text(alloc, text.as_str())
+    let text = Text::joined(alloc, x, y)?;
+    Tree::shared_text(&text)
 }
 
 fn compared(op: BinaryOp, x: &str, y: &str) -> Result<Tree, Refused>
     requires { op ≢ binary.Add }
     ensures { result ≡ of_texts op x.now y.now }
 {
-    let order = x.cmp(y);
     let value = match op {
         BinaryOp::Equal => x == y,
         BinaryOp::NotEqual => x != y,
-        BinaryOp::Less => order.is_lt(),
-        BinaryOp::LessEqual => order.is_le(),
-        BinaryOp::More => order.is_gt(),
-        BinaryOp::MoreEqual => order.is_ge(),
+        BinaryOp::Less => x.cmp(y).is_lt(),
+        BinaryOp::LessEqual => x.cmp(y).is_le(),
+        BinaryOp::More => x.cmp(y).is_gt(),
+        BinaryOp::MoreEqual => x.cmp(y).is_ge(),
         _ => return Err(Refused::TypeClash),
     };
     Ok(Tree::boolean(value))

@@ -60,7 +60,7 @@ pub fn fault(alloc: Global, code: Code, place: &Place) -> Exit
 }
 
 /// The end of a call or an include at a place; an early one is noted for a reader.
-pub fn passed<W: World>(place: &Place, end: Result<Tree, Exit>, world: &W) -> Result<Tree, Exit>
+pub fn passed<W: World, X, E>(place: &Place, end: Result<X, E>, world: &W) -> Result<X, E>
     ensures { result ≡ end }
 {
     if end.is_err() {

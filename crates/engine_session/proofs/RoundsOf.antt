@@ -1,20 +1,19 @@
 -- The rounds of a session are rounds of the machine.
-use Rattle.std.proofs.Common.{◌≡◌, ◌+◌, ◌≤◌, ◌<◌, ◌⊎◌, ◌==◌, if◌then◌else◌, ℕ, zero, suc, List, [], ◌∷◌, Bool, true, false, cond, map, bytes_eq, refl, sym, ap, ◌∙◌, subst, inl, inr, ⊎_elim, arith}
+use Rattle.std.proofs.Common.{◌≡◌, ◌+◌, ◌≤◌, ◌<◌, ◌⊎◌, ◌==◌, if◌then◌else◌, ℕ, zero, suc, List, [], ◌∷◌, Bool, true, false, cond, bytes_eq, refl, sym, ap, ◌∙◌, subst, inl, inr, ⊎_elim, arith}
 use Rattle.std.proofs.lemmas.Bool.Decides.{nat_tests}
 use Rattle.asking.specs.declared.limits.TheConstants.{MAX_WORK}
 use Rattle.load_path.specs.declared.picture.PictureFile.{PictureFile}
 use Rattle.questions.specs.declared.key.Key.{Key}
 use Rattle.questions.specs.declared.key.Key.TheVariants.{File, Under}
-use Rattle.questions.specs.Contents.{Content}
 use Rattle.runner.specs.Meaning.{Meaning, IsLawful}
 use Rattle.object_names.proofs.Places.{bytes_same}
 use Rattle.engine_laws.specs.Names.{Name}
 use Rattle.engine_laws.specs.Runner.{IsIn}
-use Rattle.engine_laws.specs.Engine.{AreNumbered, Event, Take, Turn, Forget, IsAllowed, AreAllowed, happens}
+use Rattle.engine_laws.specs.Engine.{AreNumbered, Turn, Forget, IsAllowed, AreAllowed, happens}
 use Rattle.engine_laws.specs.Reached.{IsReached}
 use Rattle.engine_laws.specs.Rounds.{turns, IsRound}
 use Rattle.engine_laws.specs.Rows.{IsOnce, EndsSoon}
-use Rattle.engine_laws.specs.Steps.{AreCostsOf, events_steps, events_bound, round_bound}
+use Rattle.engine_laws.specs.Steps.{AreCostsOf, events_steps, events_bound}
 use Rattle.engine_laws.proofs.Bounds.{bounded}
 use Rattle.engine_laws.proofs.FileNumbers.{same_numbers}
 use Rattle.engine_laws.proofs.Idle.{counted}
@@ -36,7 +35,7 @@ use Rattle.rebuild.proofs.New.{new_reached}
 use Rattle.rebuild.proofs.Takings.{are_numbered}
 use Rattle.engine_session.specs.Compiler.{Compiled, nothing, rows_by, rows_of, compiler, taken, turned, forgotten, work_of}
 use Rattle.engine_session.specs.Names.{objects_in}
-use Rattle.engine_session.specs.Rounds.{HasSoundRows, Comes, at_first, at_rows, with_picture, with_turn, with_report, with_turns, turns_steps, turn_events, IsRoundOf, Round, reported, behind, rounds_steps, rounds_bound, HasRounds}
+use Rattle.engine_session.specs.Rounds.{Comes, at_first, at_rows, with_picture, with_turn, with_report, with_turns, turns_steps, turn_events, IsRoundOf, Round, reported, behind, rounds_steps, rounds_bound, HasRounds}
 use Rattle.engine_session.proofs.Lists.{are_objects}
 
 -- the files are those with their numbers

@@ -11,4 +11,5 @@ pub mod Rounds
 -- What inner contracts use: what a register tells, and where a session, its engine and its counts
 -- stand.
 pub mod Registers
+pub mod KeptTexts
 pub mod Standing

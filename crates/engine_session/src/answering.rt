@@ -1,6 +1,4 @@
-ghost use Rattle.std.specs.Prelude.{◌≡◌, ◌++◌, List, ℕ, IfOk, OnOk, Ok, Err, codes, cond};
-ghost use Rattle.json_profile.specs.Dependencies.{dep_text_of};
-ghost use Rattle.read_sets.specs.Items.{pairs_of};
+ghost use Rattle.std.specs.Prelude.{◌≡◌, ◌++◌, List, ℕ, IfOk, OnOk, Err, codes, cond};
 ghost use Rattle.rebuild.specs.Answers.{seen_why, why_at};
 ghost use Rattle.rebuild.specs.Engines.{situation_of, objects_of};
 ghost use Rattle.engine_laws.specs.Engine.{is_among};
@@ -8,24 +6,15 @@ ghost use Rattle.session.specs.Sessions.{shown_of, deps_of};
 ghost use Rattle.engine_session.specs.Compiler.{outcome_by, cause_text, key_text};
 ghost use Rattle.engine_session.specs.Standing.{IsFaithful, compiled_in, machine_in};
 
+use crate::kept_texts::{KeptTexts, dep_of};
 use crate::works::Works;
 use base::Bytes;
-use json_profile::{dep_text, profile_text};
 use pan_ast::{Fault, fault_line};
-use path_tree::Tree;
 use questions::Key;
-use rebuild::{Answer, Engine, Reads, Why};
+use rebuild::{Answer, Engine, Why};
 use runner::Runner;
 use session::{Outcome, Shown};
 use std::alloc::{AllocError, Global};
-
-/// The text of what an object looked at.
-fn dep_of(alloc: Global, reads: Reads<'_>) -> Result<Bytes, AllocError>
-    ensures { IfOk result (λ text. text ≡ dep_text_of (pairs_of reads.entry.build.now)
-        (pairs_of reads.entry.check.now)) }
-{
-    Bytes::from_vec(dep_text(alloc, reads.build, reads.check)?)
-}
 
 /// What is said of a name that has nothing settled.
 fn unsettled<R: Runner>(engine: &Engine<R>, name: &str) -> Shown<Bytes>
@@ -54,22 +43,37 @@ pub fn deps<R: Runner>(
     }
 }
 
-/// The outcome of a tree.
-fn profile_outcome(alloc: Global, tree: &Tree, reads: Reads<'_>) -> Result<Outcome, AllocError>
-    ensures { IfOk result (λ o. o ≡ outcome_by (Ok tree.now) (dep_text_of
-        (pairs_of reads.entry.build.now) (pairs_of reads.entry.check.now))) }
-{
-    Ok(Outcome::Profile {
-        json: Bytes::from_vec(profile_text(alloc, tree)?)?,
-        dep: dep_of(alloc, reads)?,
-    })
-}
-
 /// The outcome of a fault.
 fn fault_outcome(alloc: Global, fault: &Fault) -> Result<Outcome, AllocError>
     ensures { IfOk result (λ o. (dep : List ℕ) → o ≡ outcome_by (Err fault.now) dep) }
 {
     Ok(Outcome::Fault(Bytes::from_vec(fault_line(alloc, fault)?)?))
+}
+
+/// What is said of a name, and what compiling it gives. A profile's texts are those that are kept, where they are made
+/// of the same.
+pub(crate) fn shown_by<R: Runner>(
+    alloc: Global,
+    works: &Works<R>,
+    name: &str,
+    texts: &mut KeptTexts,
+) -> Result<Shown<Outcome>, AllocError>
+    ensures { IsFaithful R.meaning works.now → IfOk result (λ said. said ≡ shown_of
+        (machine_in R.meaning works.now.engine.core) name.now
+        (compiled_in works.now.engine.core)) }
+{
+    match works.engine.answer(name) {
+        Answer::Profile(tree) => {
+            // An engine that is not faithful may have a profile that nothing was read for.
+            let Some(reads) = works.engine.reads(name) else {
+                return Ok(Shown::Pending);
+            };
+            Ok(Shown::Settled(texts.outcome(alloc, name, tree, reads)?))
+        }
+        Answer::Fault(fault) => Ok(Shown::Settled(fault_outcome(alloc, fault)?)),
+        Answer::Pending => Ok(Shown::Pending),
+        Answer::NoObject => Ok(Shown::NoObject),
+    }
 }
 
 /// What is said of a name, and what compiling it gives.
@@ -82,18 +86,8 @@ pub fn shown<R: Runner>(
         (machine_in R.meaning works.now.engine.core) name.now
         (compiled_in works.now.engine.core)) }
 {
-    match works.engine.answer(name) {
-        Answer::Profile(tree) => {
-            // An engine that is not faithful may have a profile that nothing was read for.
-            let Some(reads) = works.engine.reads(name) else {
-                return Ok(Shown::Pending);
-            };
-            Ok(Shown::Settled(profile_outcome(alloc, tree, reads)?))
-        }
-        Answer::Fault(fault) => Ok(Shown::Settled(fault_outcome(alloc, fault)?)),
-        Answer::Pending => Ok(Shown::Pending),
-        Answer::NoObject => Ok(Shown::NoObject),
-    }
+    let mut texts = KeptTexts::unkept(alloc);
+    shown_by(alloc, works, name, &mut texts)
 }
 
 fn push_key(text: &mut Vec<u8>, key: &Key) -> Result<(), AllocError>

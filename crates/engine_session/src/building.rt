@@ -7,7 +7,8 @@ ghost use Rattle.engine_laws.specs.Engine.{is_among};
 ghost use Rattle.engine_session.specs.Compiler.{answer_name, answer_of, answers_of};
 ghost use Rattle.engine_session.specs.Standing.{IsFaithful, Gives, compiled_in, machine_in};
 
-use crate::answering::shown;
+use crate::answering::shown_by;
+use crate::kept_texts::KeptTexts;
 use crate::works::Works;
 use base::Text;
 use path_tree::Name;
@@ -26,7 +27,12 @@ pub struct Built {
 }
 
 /// The answer of an object.
-fn answer<R: Runner>(alloc: Global, works: &Works<R>, name: &Name) -> Result<Answer, AllocError>
+fn answer<R: Runner>(
+    alloc: Global,
+    works: &Works<R>,
+    name: &Name,
+    texts: &mut KeptTexts,
+) -> Result<Answer, AllocError>
     requires settled { turns_left_of works.now.engine.core ≡ 0 }
     requires object { is_among name.now (objects_of works.now.engine.core) ≡ true }
     ensures answer { IsFaithful R.meaning works.now → IfOk result (λ answer. answer ≡ answer_of
@@ -35,7 +41,7 @@ fn answer<R: Runner>(alloc: Global, works: &Works<R>, name: &Name) -> Result<Ans
         (objects_of works.now.engine.core) name.now) }
     ensures name { IfOk result (λ answer. answer.name ≡ name.now) }
 {
-    match shown(alloc, works, name.as_str())? {
+    match shown_by(alloc, works, name.as_str(), texts)? {
         Shown::Settled(outcome) => Ok(Answer {
             name: Text::new(alloc, name.as_str())?,
             outcome,
@@ -46,7 +52,11 @@ fn answer<R: Runner>(alloc: Global, works: &Works<R>, name: &Name) -> Result<Ans
 }
 
 /// The answers of all objects, in byte order of names.
-fn answers<R: Runner>(alloc: Global, works: &Works<R>) -> Result<Vec<Answer>, AllocError>
+fn answers<R: Runner>(
+    alloc: Global,
+    works: &Works<R>,
+    texts: &mut KeptTexts,
+) -> Result<Vec<Answer>, AllocError>
     requires settled { turns_left_of works.now.engine.core ≡ 0 }
     ensures answers { IsFaithful R.meaning works.now → IfOk result (λ made. made.items ≡ answers_of
         (R.meaning works.now.engine.core.dirs works.now.engine.core.limits)
@@ -57,9 +67,11 @@ fn answers<R: Runner>(alloc: Global, works: &Works<R>) -> Result<Vec<Answer>, Al
 {
     let names = works.engine.objects(alloc)?;
     let mut made = Vec::with_capacity(alloc, names.len())?;
+    texts.begin(alloc);
     for name in &names {
-        made.push(answer(alloc, works, name)?)?;
+        made.push(answer(alloc, works, name, texts)?)?;
     }
+    texts.end(alloc);
     Ok(made)
 }
 
@@ -87,14 +99,19 @@ fn profiles(alloc: Global, answers: Vec<Answer>) -> Result<Vec<Profile>, AllocEr
     Ok(made)
 }
 
-/// The profiles of the objects, and the report, of an engine in which all is settled.
-pub fn build<R: Runner>(alloc: Global, works: &Works<R>) -> Result<Built, AllocError>
+/// The profiles of the objects, and the report, of an engine in which all is settled. Texts that are kept serve again
+/// where they are made of the same, and those of this report are kept for the next one.
+pub fn build_again<R: Runner>(
+    alloc: Global,
+    works: &Works<R>,
+    texts: &mut KeptTexts,
+) -> Result<Built, AllocError>
     requires settled { turns_left_of works.now.engine.core ≡ 0 }
     ensures gives { IsFaithful R.meaning works.now → IfOk result (λ b. Gives
         (machine_in R.meaning works.now.engine.core) (compiled_in works.now.engine.core) b) }
     ensures proper { IfOk result (λ b. proper (wants_of b.profiles.items) ≡ true) }
 {
-    let answers = answers(alloc, works)?;
+    let answers = answers(alloc, works, texts)?;
     let runs = works.engine.runs(alloc)?;
     let report = report(alloc, &answers, &runs)?;
     let has_faults = count_faults(&answers) > 0;
@@ -103,4 +120,15 @@ pub fn build<R: Runner>(alloc: Global, works: &Works<R>) -> Result<Built, AllocE
         report,
         has_faults,
     })
+}
+
+/// The profiles of the objects, and the report, of an engine in which all is settled.
+pub fn build<R: Runner>(alloc: Global, works: &Works<R>) -> Result<Built, AllocError>
+    requires settled { turns_left_of works.now.engine.core ≡ 0 }
+    ensures gives { IsFaithful R.meaning works.now → IfOk result (λ b. Gives
+        (machine_in R.meaning works.now.engine.core) (compiled_in works.now.engine.core) b) }
+    ensures proper { IfOk result (λ b. proper (wants_of b.profiles.items) ≡ true) }
+{
+    let mut texts = KeptTexts::unkept(alloc);
+    build_again(alloc, works, &mut texts)
 }

@@ -1,4 +1,4 @@
-ghost use Rattle.std.specs.Prelude.{◌≡◌, None, option_copied};
+ghost use Rattle.std.specs.Prelude.{◌≡◌, IfOk, IsSome, None, option_copied};
 
 use crate::troubles::Troubles;
 use base::Text;
@@ -16,33 +16,31 @@ use stored_rows::StoredRow;
 #[derive(Drop)]
 pub struct HostKeeper {
     rt: HostRuntime,
-    keeper: Option<SqliteKeeper<FileStore<File>>>,
-    opened: Option<Text>,
+    opened: Option<OpenFile>,
     troubles: Troubles,
 }
 
+/// A file that is open, by its name, and the keeper over it.
+#[derive(Drop)]
+struct OpenFile {
+    name: Text,
+    keeper: SqliteKeeper<FileStore<File>>,
+    ghost ready: { IsSome keeper.opened },
+}
+
 /// Opens the file, and makes the keeper over it ready.
-fn open(
-    rt: &HostRuntime,
-    file: &str,
-) -> Result<SqliteKeeper<FileStore<File>>, (StoreError, Refusal)> {
-    match Connection::open(rt, file) {
+fn open(rt: &HostRuntime, name: Text) -> Result<OpenFile, (StoreError, Refusal)>
+    ensures { IfOk result (λ file. file.name ≡ name) }
+{
+    match Connection::open(rt, name.as_str()) {
         Ok(connection) => {
             let mut keeper = SqliteKeeper::adopt(rt.alloc(), connection);
-            match keeper.open_store(file) {
-                Ok(()) => Ok(keeper),
+            match keeper.open_store(name.as_str()) {
+                Ok(()) => Ok(OpenFile { name, keeper }),
                 Err(error) => Err((error, keeper.refusal())),
             }
         }
         Err(error) => Err((store_error(&error), Refusal::Database(error))),
-    }
-}
-
-/// The file that was opened; nothing before.
-fn name_of(opened: &Option<Text>) -> &str {
-    match opened {
-        Some(name) => name.as_str(),
-        None => "",
     }
 }
 
@@ -54,7 +52,6 @@ impl HostKeeper {
     {
         HostKeeper {
             rt,
-            keeper: None,
             opened: None,
             troubles: Troubles::new(),
         }
@@ -72,11 +69,10 @@ impl HostKeeper {
     pub fn close(self) -> Result<(), StoreError> {
         let HostKeeper {
             rt: _,
-            keeper,
-            opened: _,
+            opened,
             troubles: _,
         } = self;
-        let Some(keeper) = keeper else {
+        let Some(OpenFile { name: _, keeper }) = opened else {
             return Ok(());
         };
         match keeper.into_connection().close() {
@@ -87,9 +83,10 @@ impl HostKeeper {
 }
 
 impl Keeper for HostKeeper {
-    ghost use Rattle.std.specs.Prelude.{None};
+    ghost use Rattle.std.specs.Prelude.{None, option_map};
+    ghost use Rattle.host_keeper.specs.declared.keeper.OpenFile.{OpenFile};
 
-    ghost opened = { λ k. k.opened };
+    ghost opened = { λ k. option_map (λ (file : OpenFile). file.name) k.opened };
 
     ghost cell = { λ _ _. None };
 
@@ -101,10 +98,9 @@ impl Keeper for HostKeeper {
 
     fn open_store(&mut self, file: &str) -> Result<(), StoreError> {
         let name = Text::new(self.rt.alloc(), file)?;
-        match open(&self.rt, file) {
-            Ok(keeper) => {
-                self.keeper = Some(keeper);
-                self.opened = Some(name);
+        match open(&self.rt, name) {
+            Ok(file) => {
+                self.opened = Some(file);
                 Ok(())
             }
             Err((error, why)) => {
@@ -115,20 +111,26 @@ impl Keeper for HostKeeper {
     }
 
     fn load(&mut self, into: &mut Vec<StoredRow>) -> Result<(), StoreError> {
-        let (done, why) = match &mut self.keeper {
-            Some(keeper) => (keeper.load(into), keeper.refusal()),
-            None => (Err(StoreError::Failed), Refusal::NotOpened),
+        let Some(mut file) = self.opened.take() else {
+            unreachable!();
         };
+        let done = file.keeper.load(into);
+        let why = file.keeper.refusal();
         let alloc = self.rt.alloc();
-        self.troubles.judge(alloc, name_of(&self.opened), done, why)
+        let judged = self.troubles.judge(alloc, file.name.as_str(), done, why);
+        self.opened = Some(file);
+        judged
     }
 
     fn replace(&mut self, gone: &[Text], rows: &[StoredRow]) -> Result<(), StoreError> {
-        let (done, why) = match &mut self.keeper {
-            Some(keeper) => (keeper.replace(gone, rows), keeper.refusal()),
-            None => (Err(StoreError::Failed), Refusal::NotOpened),
+        let Some(mut file) = self.opened.take() else {
+            unreachable!();
         };
+        let done = file.keeper.replace(gone, rows);
+        let why = file.keeper.refusal();
         let alloc = self.rt.alloc();
-        self.troubles.judge(alloc, name_of(&self.opened), done, why)
+        let judged = self.troubles.judge(alloc, file.name.as_str(), done, why);
+        self.opened = Some(file);
+        judged
     }
 }

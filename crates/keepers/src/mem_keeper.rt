@@ -1,4 +1,4 @@
-ghost use Rattle.std.specs.Prelude.{◌≡◌, ◌↔◌, OnOk, OnErr, IsErrOf, Some, None, map, true};
+ghost use Rattle.std.specs.Prelude.{◌≡◌, ◌↔◌, OnOk, OnErr, IsErrOf, IsSome, Some, None, map, true};
 ghost use Rattle.outside.specs.Causes.{HasCause};
 ghost use Rattle.keepers.specs.Keeping.{Follows, Lists, unchanged, replaced};
 ghost use Rattle.stored_rows.specs.Rows.{row_name, are_rising};
@@ -58,6 +58,7 @@ impl Keeper for MemKeeper {
 
     #[tactic(auto, using(crate::proofs::Rising::stays))]
     fn open_store(&mut self, file: &str) -> Result<(), StoreError>
+        requires closed { self.old.keeper.opened ≡ None }
         ensures opened { OnOk result (self.new.keeper.opened ≡ Some file.now) }
         ensures refused { OnErr result (self.new.keeper.opened ≡ self.old.keeper.opened) }
         ensures same { Follows unchanged (cell_of self.old.keeper.rows) (cell_of
@@ -74,6 +75,7 @@ impl Keeper for MemKeeper {
 
     #[tactic(auto, using(crate::proofs::Rising::stays))]
     fn load(&mut self, into: &mut Vec<StoredRow>) -> Result<(), StoreError>
+        requires open { IsSome self.old.keeper.opened }
         ensures ok { OnOk result (Lists (cell_of self.new.keeper.rows) into.new.items) }
         ensures opened { self.new.keeper.opened ≡ self.old.keeper.opened }
         ensures same { Follows unchanged (cell_of self.old.keeper.rows) (cell_of
@@ -90,6 +92,7 @@ impl Keeper for MemKeeper {
 
     #[tactic(auto, using(crate::proofs::Rising::stays))]
     fn replace(&mut self, gone: &[Text], rows: &[StoredRow]) -> Result<(), StoreError>
+        requires open { IsSome self.old.keeper.opened }
         ensures ok { OnOk result (Follows (replaced gone.now rows.now) (cell_of
             self.old.keeper.rows) (cell_of self.new.keeper.rows)) }
         ensures refused { OnErr result (Follows unchanged (cell_of self.old.keeper.rows) (cell_of

@@ -3,7 +3,7 @@ use Rattle.std.proofs.Common.{◌≡◌, ℕ, Some, inl, inr, refl, sym, subst, 
 use Rattle.std.specs.Prelude.{Result, Ok, Err, IfErr}
 use Rattle.outside.specs.Causes.{Caused, Counted}
 use Rattle.session.specs.declared.Ended.{Ended}
-use Rattle.site_build.specs.Ends.{IsEndOf, IsFailureOf, OfSource}
+use Rattle.site_build.specs.Ends.{IsEndOf, IsFailureOf, OfName, OfSource}
 use Rattle.site_build.specs.declared.ends.Device.{Device}
 use Rattle.site_build.specs.declared.ends.Device.TheVariants as D
 use Rattle.site_build.specs.declared.ends.End as build
@@ -19,6 +19,26 @@ pub failure_on : {T : Type 0} (device : Device) (before now : ℕ) (r : Result E
 failure_on device before now r e is c =
     subst (Caused (IsFailure device) before now) (sym is)
     (record { later = c.later; rose = c.rose; once = c.once; kept = c.kept; done = tt })
+
+not_out : (e : build.End) → IsEndOf OfName e → IsFailure D.Out (K.Build e) → ⊥
+not_out E.Source kind is = cc
+not_out E.Shelf kind is = cc
+not_out (E.Publishing m) kind is = cc
+not_out E.Out kind is = cc
+not_out E.Memory kind is = cc
+
+-- what ends a publication is no failure of the text
+pub uncaused_out : (r : Result Ended End) (n : ℕ) (e : build.End) → r ≡ Err (K.Build e)
+    → IsEndOf OfName e → Caused (IsFailure D.Out) n n r
+uncaused_out r n e is kind =
+    subst (Caused (IsFailure D.Out) n n) (sym is)
+    (record {
+      later = omega arith;
+      rose = λ failure. absurd (not_out e kind failure);
+      once = omega arith;
+      kept = λ other. refl;
+      done = tt;
+    })
 
 -- the calls ended by this failure
 pub counted_of : {T E : Type 0} {is_failure : E → Type 0} (e : E) (before now : ℕ)

@@ -56,6 +56,7 @@ fn keep<R: Runner, K: Keeper>(
     last: Vec<StoredRow>,
     keeper: &mut K,
 ) -> Result<(), End>
+    requires open { IsSome (K.opened keeper.old) }
     requires rising { are_rising (map row_name last.items) ≡ true }
     ensures ok { OnOk result ((dirs : List (List ℕ)) (limits : Limits) (e : Compiled R.Rest)
         → IsIn dirs limits works.now.engine.core e → Keeps last.items (option_map rows_of
@@ -90,6 +91,7 @@ fn publish_built<R: Runner, S: Source, H: Shelf, K: Keeper, N: Lines, O: Sink>(
     devices: &mut KeptDevices<S, H, K, N, O>,
 ) -> Result<Ended, End>
     requires shelf_open { IsSome (H.opened devices.old.devices.shelf) }
+    requires store_open { IsSome (K.opened devices.old.keeper) }
     requires proper { proper (wants_of built.now.profiles.items) ≡ true }
     requires listed { Lists over.listed.items (H.cell devices.old.devices.shelf) }
     requires rising { are_rising (map row_name over.rows.items) ≡ true }
@@ -129,6 +131,7 @@ fn finish<R: Runner, S: Source, H: Shelf, K: Keeper, N: Lines, O: Sink>(
     devices: &mut KeptDevices<S, H, K, N, O>,
 ) -> Result<Ended, End>
     requires shelf_open { IsSome (H.opened devices.old.devices.shelf) }
+    requires store_open { IsSome (K.opened devices.old.keeper) }
     requires settled { reached ≡ Reached.All → turns_left_of works.now.engine.core ≡ 0 }
     requires listed { Lists over.listed.items (H.cell devices.old.devices.shelf) }
     requires rising { are_rising (map row_name over.rows.items) ≡ true }
@@ -173,6 +176,7 @@ pub(crate) fn build_found<R: Runner, S: Source, H: Shelf, K: Keeper, N: Lines, O
 ) -> Result<Ended, End>
     requires source_open { IsSome (S.opened devices.old.devices.source) }
     requires shelf_open { IsSome (H.opened devices.old.devices.shelf) }
+    requires store_open { IsSome (K.opened devices.old.keeper) }
     requires listed { Lists found.listed.items (H.cell devices.old.devices.shelf) }
     requires rising { are_rising (map row_name found.rows.items) ≡ true }
     ensures ok { IfOk result (λ how. Ends R.meaning work.now found.listed.items found.rows.items

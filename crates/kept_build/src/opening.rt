@@ -34,6 +34,7 @@ pub struct Found {
 
 /// Opens the keeper at a file, and reads what an engine kept.
 fn load_rows<K: Keeper>(alloc: Global, keeper: &mut K, file: &str) -> Result<Loaded, End>
+    requires closed { K.opened keeper.old ≡ None }
     ensures rows { IfOk result (λ l. Loads l.rows.items (stored l.kept) (K.cell keeper.new)) }
     ensures bad { IfErr result (λ e. e ≡ BadRows → HoldsBadRows (K.cell keeper.new)) }
     ensures opened { OnOk result (K.opened keeper.new ≡ Some file.now) }
@@ -59,6 +60,7 @@ pub fn open<S: Source, H: Shelf, K: Keeper, N: Lines, O: Sink>(
 ) -> Result<Found, End>
     requires source_closed { S.opened devices.old.devices.source ≡ None }
     requires shelf_closed { H.opened devices.old.devices.shelf ≡ None }
+    requires store_closed { K.opened devices.old.keeper ≡ None }
     ensures listed { IfOk result
         (λ found. Lists found.listed.items (H.cell devices.new.devices.shelf)) }
     ensures ok { IfOk result (λ found. (spent : Counts) → Opens request.now.work.now

@@ -33,6 +33,7 @@ pub fn build_kept<R: Runner, S: Source, H: Shelf, K: Keeper, N: Lines, O: Sink, 
 ) -> Result<Ended, End>
     requires source_closed { S.opened devices.old.devices.source ≡ None }
     requires shelf_closed { H.opened devices.old.devices.shelf ≡ None }
+    requires store_closed { K.opened devices.old.keeper ≡ None }
     ensures ok { IfOk result (λ how. Finishes R.meaning request.now.work.now
         request.now.file.now how
         (scene R.Runner S.Source H.Shelf N.Lines O.Sink works.old.runner devices.old.devices

@@ -256,30 +256,54 @@ fn cause_by_code<L: Ledger>(
     Ok(Cause::unknown(alloc))
 }
 
-/// Places as a reader is told them.
-fn texts_of(alloc: Global, places: &[Place]) -> Result<Seq<Bytes>, AllocError> {
+/// Whether a place is that of the fault itself, which its line tells.
+fn is_told(own: &Option<Place>, place: &Place) -> bool {
+    match own {
+        Some(own) => own == place,
+        None => false,
+    }
+}
+
+/// Places as a reader is told them, but for that of the fault itself.
+fn texts_of(
+    alloc: Global,
+    places: &[Place],
+    own: &Option<Place>,
+) -> Result<Seq<Bytes>, AllocError> {
     let mut texts = Vec::new(alloc);
     for place in places {
-        let mut text = Vec::new(alloc);
-        push_place(&mut text, place)?;
-        texts.push(Bytes::from_vec(text)?)?;
+        if !is_told(own, place) {
+            let mut text = Vec::new(alloc);
+            push_place(&mut text, place)?;
+            texts.push(Bytes::from_vec(text)?)?;
+        }
     }
     Ok(Seq::from_vec(texts))
 }
 
 /// The calls and includes inside which an object has its fault. Where no run here had it, its build is run again.
+fn trail_of<L: Ledger>(
+    works: &mut Works<Library>,
+    object: &str,
+    steps: &mut Steps<L>,
+) -> Result<Option<Vec<Place>>, AllocError> {
+    if let Some(places) = works.runner.take_trail(object) {
+        return Ok(Some(places));
+    }
+    let _end = build_end_again(works, object, steps)?;
+    Ok(works.runner.take_trail(object))
+}
+
+/// The same, as a reader is told them.
 fn trace_of<L: Ledger>(
     alloc: Global,
     works: &mut Works<Library>,
     object: &str,
+    fault: &[u8],
     steps: &mut Steps<L>,
 ) -> Result<Seq<Bytes>, AllocError> {
-    if let Some(places) = works.runner.take_trail(object) {
-        return texts_of(alloc, &places);
-    }
-    let _end = build_end_again(works, object, steps)?;
-    match works.runner.take_trail(object) {
-        Some(places) => texts_of(alloc, &places),
+    match trail_of(works, object, steps)? {
+        Some(places) => texts_of(alloc, &places, &place_in(alloc, fault)?),
         None => Ok(Seq::new(alloc)),
     }
 }
@@ -296,7 +320,7 @@ fn looked_up<L: Ledger>(
         return Ok(Cause::unknown(alloc));
     };
     let mut cause = cause_by_code(alloc, works, object, fault, steps)?;
-    if let Ok(trace) = trace_of(alloc, works, object, steps) {
+    if let Ok(trace) = trace_of(alloc, works, object, fault, steps) {
         cause.trace = trace;
     }
     Ok(cause)

@@ -1,5 +1,5 @@
 -- A build with a keeper that ended early.
-use Rattle.std.proofs.Common.{◌≡◌, ◌⊎◌, ℕ, List, Some, inl, inr, ap}
+use Rattle.std.proofs.Common.{◌⊎◌, ℕ, List, inl, inr, ap}
 use Rattle.command_words.specs.declared.commands.Work.{Work}
 use Rattle.kept_build.specs.Builds.{Breaks, Unbegun}
 use Rattle.kept_build.specs.Ends.{IsFailure, IsOpening}

@@ -1,5 +1,5 @@
 -- Each profile is the text of a tree that keeps what a check promises.
-use Rattle.std.proofs.Common.{◌≡◌, ◌∙◌, ℕ, List, Bool, true, false, cond, Option, Some, None, Ok, Err, refl, sym, ap}
+use Rattle.std.proofs.Common.{◌≡◌, ◌∙◌, ℕ, List, Bool, true, false, cond, Some, None, Ok, Err, refl, sym, ap}
 use Rattle.std.specs.Prelude.{option_map}
 use Rattle.asking.specs.Asked.{Ends}
 use Rattle.json_profile.specs.Json.{profile_of}
@@ -10,13 +10,11 @@ use Rattle.questions.specs.Contents.{Content}
 use Rattle.runner.specs.declared.ends.Built.{Built}
 use Rattle.runner.specs.Meaning.{IsLawful, BuildsByName}
 use Rattle.engine_laws.specs.Engine.{is_among}
-use Rattle.engine_laws.specs.Names.{Name}
 use Rattle.engine_machine.specs.Machine.{Kept}
 use Rattle.engine_machine.specs.Compiled.{compiled}
 use Rattle.rebuild.specs.Engines.{Meanings}
 use Rattle.session.specs.Sessions.{outcome_of}
 use Rattle.session.specs.declared.Answer.{Answer}
-use Rattle.session.specs.declared.Outcome.{Outcome}
 use Rattle.session.specs.declared.Outcome.TheVariants.{Profile}
 use Rattle.promised_profiles.proofs.Promised.{keeps_promise}
 use Rattle.engine_session.specs.Compiler.{answer_of, outcome_by}

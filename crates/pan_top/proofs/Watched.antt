@@ -1,11 +1,10 @@
 -- A watcher's call, from what its session did.
-use Rattle.std.proofs.Common.{◌≡◌, ℕ, Bool, false, List, [], Option, Some, None, inl, inr, refl, sym, ap, subst, ◌∙◌}
+use Rattle.std.proofs.Common.{◌≡◌, ℕ, false, List, [], Option, Some, None, inl, inr, refl, sym, ap, subst, ◌∙◌}
 use Rattle.std.specs.Prelude.{Result, Ok, Err, IfErr, IfSome}
 use std.Path.{fun_ext}
 use Rattle.command_words.specs.declared.commands.Work.{Work}
 use Rattle.engine_session.specs.Compiler.{Compiled}
 use Rattle.engine_session.specs.Standing.{Counts, IsIn}
-use Rattle.engine_turns.specs.declared.core_data.Core.{Core}
 use Rattle.outside.specs.Causes.{Counted}
 use Rattle.outside.specs.Cells.{Cell, AreSame}
 use Rattle.outside.specs.declared.shelf.Change.{Change}

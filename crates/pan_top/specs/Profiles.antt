@@ -8,7 +8,6 @@ use Rattle.questions.specs.declared.key.Key.{Key}
 use Rattle.questions.specs.Contents.{Content}
 use Rattle.runner.specs.declared.ends.Built.{Built}
 use Rattle.rebuild.specs.Engines.{Meanings}
-use Rattle.session.specs.Machines.{Machine}
 use Rattle.session.specs.Sessions.{outcome_of}
 use Rattle.session.specs.Texts.{answer_in}
 use Rattle.session.specs.declared.Outcome.TheVariants.{Profile}

@@ -73,7 +73,7 @@ held_by site = record {
   core = site.works.engine.core;
   has_taken = site.has_taken;
   publisher = site.publisher;
-  rows = option_map vec_items site.rows;
+  rows = option_map vec_items site.carried.rows;
   has_faults = site.has_faults;
 }
 

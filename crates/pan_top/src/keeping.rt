@@ -24,6 +24,7 @@ pub fn build_with_rows<R: Runner, S: Source, H: Shelf, K: Keeper, N: Lines, O: S
 ) -> Status
     requires source_closed { S.opened devices.old.devices.source ≡ None }
     requires shelf_closed { H.opened devices.old.devices.shelf ≡ None }
+    requires store_closed { K.opened devices.old.keeper ≡ None }
     ensures { KeptCall R.meaning request.now.work.now request.now.file.now result
         (scene R.Runner S.Source H.Shelf N.Lines O.Sink works.old.runner devices.old.devices
         steps.old)

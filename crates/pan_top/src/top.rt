@@ -51,6 +51,7 @@ fn carry_out_build<R: Runner, S: Source, H: Shelf, K: Keeper, N: Lines, O: Sink,
 ) -> HandedBack<R, S, H, K, N, O>
     requires source_closed { S.opened devices.source ≡ None }
     requires shelf_closed { H.opened devices.shelf ≡ None }
+    requires store_closed { K.opened keeper ≡ None }
     ensures { CallOf R.meaning (Some (Build work.now)) result.status
         (scene R.Runner S.Source H.Shelf N.Lines O.Sink works.runner devices steps.old)
         (scene R.Runner S.Source H.Shelf N.Lines O.Sink result.works.runner result.devices steps.new)
@@ -82,6 +83,7 @@ fn carry_out<R: Runner, S: Source, H: Shelf, K: Keeper, N: Lines, O: Sink, L: Le
 ) -> HandedBack<R, S, H, K, N, O>
     requires source_closed { S.opened devices.source ≡ None }
     requires shelf_closed { H.opened devices.shelf ≡ None }
+    requires store_closed { K.opened keeper ≡ None }
     ensures { CallOf R.meaning (command_of words.now) result.status
         (scene R.Runner S.Source H.Shelf N.Lines O.Sink runner devices steps.old)
         (scene R.Runner S.Source H.Shelf N.Lines O.Sink result.works.runner result.devices steps.new)
@@ -140,6 +142,7 @@ pub fn pan<R: Runner, S: Source, H: Shelf, K: Keeper, N: Lines, O: Sink, L: Ledg
 ) -> HandedBack<R, S, H, K, N, O>
     requires source_closed { S.opened devices.source ≡ None }
     requires shelf_closed { H.opened devices.shelf ≡ None }
+    requires store_closed { K.opened keeper ≡ None }
     ensures call { CallOf R.meaning (command_of words.now) result.status
         (scene R.Runner S.Source H.Shelf N.Lines O.Sink runner devices steps.old)
         (scene R.Runner S.Source H.Shelf N.Lines O.Sink result.works.runner result.devices steps.new)

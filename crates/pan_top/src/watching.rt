@@ -1,4 +1,4 @@
-ghost use Rattle.std.specs.Prelude.{◌≡◌, ◌≤◌, ◌⊎◌, ℕ, List, None, Option, Some, false, IfOk, IfErr, OnOk, option_map, true, vec_items, IsSome};
+ghost use Rattle.std.specs.Prelude.{◌≡◌, ◌≤◌, ◌⊎◌, ℕ, List, None, Option, Some, false, IfOk, IfErr, IfSome, OnOk, option_map, true, vec_items, IsSome};
 ghost use Rattle.command_words.specs.declared.commands.Command.TheVariants.{Watch};
 ghost use Rattle.engine_session.specs.Compiler.{Compiled};
 ghost use Rattle.engine_session.specs.Standing.{IsBegun, IsIn};
@@ -16,7 +16,7 @@ ghost use Rattle.site_build.specs.Session.{IsPerhapsOpened, limits_of};
 ghost use Rattle.site_build.specs.declared.ends.Device.{Device};
 ghost use Rattle.watch.specs.Played.{HasNames};
 ghost use Rattle.watch.specs.Shelves.{is_rising};
-ghost use Rattle.watch.specs.Sites.{IsReady};
+ghost use Rattle.watch.specs.Sites.{IsReady, MayKeep};
 ghost use Rattle.watch.specs.declared.ends.End.TheVariants as ends;
 ghost use Rattle.site_build.specs.Scenes.{scene};
 ghost use Rattle.pan_top.specs.Watches.{EndsWith, HasListed, IsOpening, PlaysAll, SourceAt, WatchCall, held_by, line_at, status_at};
@@ -27,7 +27,7 @@ use crate::handed_back::{HandedBack, beside, hand_back, hand_back_kept};
 use crate::status::Status;
 use base::{Steps, Text};
 use command_words::Work;
-use engine_session::{Works, start};
+use engine_session::{KeptTexts, Works, start};
 use keepers::Keeper;
 use kept_build::{Found, KeptDevices, KeptWork, open as open_kept};
 use kept_state::Kept;
@@ -40,7 +40,7 @@ use site_build::{Devices, End, limits, list_shelf, open_shelf, open_source};
 use std::alloc::{AllocError, Global};
 use std::sync::ledger::Ledger;
 use stored_rows::StoredRow;
-use watch::{End as Stop, Site, play};
+use watch::{Carried, End as Stop, Site, play};
 
 /// Opens SOURCE and OUT, and knows the names on the shelf.
 fn open<S: Source, H: Shelf>(
@@ -106,6 +106,7 @@ fn play_site<R: Runner, S: Source, H: Shelf, K: Keeper, N: Lines, O: Sink, L: Le
 ) -> Status
     requires source_open { IsSome (S.opened site.old.source) }
     requires shelf_open { IsSome (H.opened site.old.shelf) }
+    requires store_open { MayKeep K.Keeper site.old.carried }
     requires knows { Knows site.old.publisher (H.cell site.old.shelf) }
     ensures { PlaysAll R.meaning (IsReady R.meaning site.old) (held_by site.old) result
         (scene R.Runner S.Source H.Shelf N.Lines O.Sink site.old.works.runner (record {
@@ -122,7 +123,7 @@ fn play_site<R: Runner, S: Source, H: Shelf, K: Keeper, N: Lines, O: Sink, L: Le
           out = out.new;
         })
         steps.new)
-        (store_of K.Keeper site.old.keeper) (store_of K.Keeper site.new.keeper) }
+        (store_of K.Keeper site.old.carried.keeper) (store_of K.Keeper site.new.carried.keeper) }
 {
     match play(alloc, site, lines, out, steps) {
         Ok(()) => Status::after(ended_by(site.has_faults)),
@@ -141,6 +142,8 @@ fn play_all<R: Runner, S: Source, H: Shelf, K: Keeper, N: Lines, O: Sink, L: Led
 ) -> HandedBack<R, S, H, K, N, O>
     requires source_open { IsSome (S.opened devices.devices.source) }
     requires shelf_open { IsSome (H.opened devices.devices.shelf) }
+    requires store_open { IfSome (option_map vec_items rows)
+        (λ _. IsSome (K.opened devices.keeper)) }
     requires knows { Knows publisher (H.cell devices.devices.shelf) }
     requires rising { is_rising (option_map vec_items rows) ≡ true }
     ensures { PlaysAll R.meaning (IsBegun R.meaning works) (record {
@@ -170,8 +173,11 @@ fn play_all<R: Runner, S: Source, H: Shelf, K: Keeper, N: Lines, O: Sink, L: Led
         source,
         shelf,
         publisher,
-        keeper,
-        rows,
+        carried: Carried {
+            keeper,
+            rows,
+            texts: KeptTexts::new(alloc),
+        },
         has_faults: false,
     };
     let status = play_site(alloc, &mut site, &mut lines, &mut out, steps);
@@ -193,7 +199,7 @@ fn leave<R: Runner, S: Source, H: Shelf, K: Keeper, N: Lines, O: Sink>(
       lines = lines;
       out = out;
     } }
-    ensures keeper { result.keeper ≡ site.keeper }
+    ensures keeper { result.keeper ≡ site.carried.keeper }
 {
     let Site {
         works,
@@ -201,8 +207,7 @@ fn leave<R: Runner, S: Source, H: Shelf, K: Keeper, N: Lines, O: Sink>(
         source,
         shelf,
         publisher: _publisher,
-        keeper,
-        rows: _rows,
+        carried,
         has_faults: _has_faults,
     } = site;
     let devices = Devices {
@@ -211,6 +216,11 @@ fn leave<R: Runner, S: Source, H: Shelf, K: Keeper, N: Lines, O: Sink>(
         lines,
         out,
     };
+    let Carried {
+        keeper,
+        rows: _rows,
+        texts: _texts,
+    } = carried;
     beside(hand_back(status, works, devices), keeper)
 }
 
@@ -286,6 +296,7 @@ fn watch_kept<R: Runner, S: Source, H: Shelf, K: Keeper, N: Lines, O: Sink, L: L
 ) -> HandedBack<R, S, H, K, N, O>
     requires source_closed { S.opened devices.devices.source ≡ None }
     requires shelf_closed { H.opened devices.devices.shelf ≡ None }
+    requires store_closed { K.opened devices.keeper ≡ None }
     ensures { KeptWatchCall R.meaning request.now.work.now request.now.file.now result.status
         (scene R.Runner S.Source H.Shelf N.Lines O.Sink works.runner devices.devices steps.old)
         (scene R.Runner S.Source H.Shelf N.Lines O.Sink result.works.runner result.devices steps.new)
@@ -320,6 +331,7 @@ pub fn watch<R: Runner, S: Source, H: Shelf, K: Keeper, N: Lines, O: Sink, L: Le
 ) -> HandedBack<R, S, H, K, N, O>
     requires source_closed { S.opened devices.source ≡ None }
     requires shelf_closed { H.opened devices.shelf ≡ None }
+    requires store_closed { K.opened keeper ≡ None }
     ensures { CallOf R.meaning (Some (Watch work.now)) result.status
         (scene R.Runner S.Source H.Shelf N.Lines O.Sink works.runner devices steps.old)
         (scene R.Runner S.Source H.Shelf N.Lines O.Sink result.works.runner result.devices steps.new)

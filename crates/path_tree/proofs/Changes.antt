@@ -10,10 +10,10 @@ use Rattle.path_tree.specs.declared.path.Term.TheVariants as term
 use Rattle.path_tree.specs.declared.path.PutError.{PutError}
 use Rattle.path_tree.proofs.Sizes.{IsChange, IsAddition, changes_field, changes_item, adds_field}
 
-abbrev the_ok : Plain → Result Plain PutError
+abbrev pub the_ok : Plain → Result Plain PutError
 the_ok t = Ok t
 
-ok_is : {a b : Plain} → the_ok a ≡ the_ok b → a ≡ b
+pub ok_is : {a b : Plain} → the_ok a ≡ the_ok b → a ≡ b
 ok_is h = cc
 
 -- what a walk leaves keeps the limits

@@ -12,6 +12,7 @@ pub mod Pieces
 pub mod Numbers
 pub mod TermTexts
 pub mod Positions
+pub mod Scans
 pub mod Sizes
 pub mod Plans
 pub mod Externals
@@ -23,6 +24,7 @@ pub mod Kept
 pub mod Steps
 pub mod Escapes
 pub mod Removals
+pub mod Taking
 pub mod Sames
 pub mod Entries
 pub mod Smaller

@@ -1,4 +1,5 @@
-ghost use Rattle.std.specs.Prelude.{◌≡◌, ◌≤◌, ◌+◌, ◌↔◌, true, false, IfOk, OnOk, IsErrOf, length};
+ghost use Rattle.std.specs.Cmp.Lexicographic.{pointwise};
+ghost use Rattle.std.specs.Prelude.{◌≡◌, ◌==◌, ◌≤◌, ◌+◌, ◌↔◌, true, false, IfOk, OnOk, IsErrOf, length};
 ghost use Rattle.std.specs.List.{list_all};
 ghost use Rattle.std.specs.Str.{IsUtf8};
 ghost use Rattle.base.specs.declared.limits.TheConstants.{MAX_PATH_BYTES};
@@ -130,6 +131,13 @@ impl Key {
         ensures utf8 { IsUtf8 self.now }
     {
         self.text.as_str()
+    }
+
+    /// Whether it is this text.
+    pub(crate) fn spells(&self, text: &str) -> bool
+        ensures { result ≡ pointwise ◌==◌ self.now text.now }
+    {
+        self.text.spells(text)
     }
 
     /// The same text as one that can be shared.

@@ -476,10 +476,9 @@ impl Tree {
             return Ok(None);
         };
         let found = found.copy()?;
-        match self.put(alloc, terms, Tree::undef()) {
-            Ok(()) => Ok(Some(found)),
-            Err(_) => Err(AllocError),
-        }
+        let _measure = self.measure();
+        putting::put_in(alloc, self, terms, Tree::undef())?;
+        Ok(Some(found))
     }
 
     /// Adds an item behind the last of a list, in place. `BadArgument` where the tree is no list or

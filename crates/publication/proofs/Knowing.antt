@@ -1,7 +1,8 @@
 -- What is known of the shelf.
-use Rattle.std.proofs.Common.{◌≡◌, ℕ, Bool, true, false, List, Option, Some, None, IfSome, if◌then◌else◌, refl, sym, ap, ◌∙◌, subst}
+use Rattle.std.proofs.Common.{◌≡◌, ℕ, Bool, true, false, List, Option, Some, None, IfSome, is_some, if◌then◌else◌, refl, sym, ap, ◌∙◌, subst}
 use Rattle.std.specs.Prelude.{bytes_eq}
 use Rattle.std.specs.HashMap.{get}
+use Rattle.std.proofs.lemmas.Bool.{true≢false}
 use Rattle.std.proofs.lemmas.Slice.Eq.{bytes_eq-Decides}
 use Rattle.outside.specs.Cells.{Cell, with_content, Sets}
 use Rattle.publication.specs.declared.publisher.Known.{Known}
@@ -33,3 +34,16 @@ pub known_holds : (p : Publisher) (cell : List ℕ → Cell) (name bytes : List 
     → Knows p cell → Holding bytes (get bytes_eq p.own name) → Sets cell name (Some bytes) cell
 known_holds p cell name bytes own knows holding n =
     known_by p cell name bytes n (bytes_eq name n) own knows holding refl
+
+absent_by : (k : Option Known) (c : Cell) → is_some k ≡ false
+    → IfSome c (Allows k) → IfSome c (λ content. content ≡ None)
+absent_by None None none allows = tt
+absent_by None (Some content) none allows = allows
+absent_by (Some k) c none allows = absurd (true≢false none)
+
+-- a name of which nothing is known is absent
+pub known_absent : (p : Publisher) (cell : List ℕ → Cell) (name : List ℕ) → is_own name ≡ true
+    → Knows p cell → is_some (get bytes_eq p.own name) ≡ false
+    → IfSome (cell name) (λ content. content ≡ None)
+known_absent p cell name own knows none =
+    absent_by (get bytes_eq p.own name) (cell name) none (knows name own)

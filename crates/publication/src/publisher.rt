@@ -11,7 +11,7 @@ ghost use Rattle.std.specs.Ordering.{nat_cmp};
 ghost use Rattle.std.specs.List.{IsDistinct};
 ghost use Rattle.std.specs.Prelude.{◌+◌, ◌||◌, length};
 ghost use Rattle.publication.specs.Bounds.{Bounded, RemovesWithin, is_within, may_stand_after, removals_in, stays};
-ghost use Rattle.publication.specs.Changing.{done, Tells};
+ghost use Rattle.publication.specs.Changing.{done, holds, Tells};
 ghost use Rattle.publication.specs.Logs.{LoggedBy, Logged, LogsPut, Removes, Writes, put_of, removed};
 ghost use Rattle.publication.specs.OwnNames.{is_own, json_name, dep_name};
 ghost use Rattle.publication.specs.Wants.{wants_of, proper, goes, wanted};
@@ -48,6 +48,27 @@ pub struct Publisher {
     most: Option<u64>,
 }
 
+/// The name, which does not hold the bytes, gets them, or gives the call that failed.
+fn put_other<H: Shelf>(shelf: &mut H, name: &str, bytes: &[u8]) -> Result<Option<Call>, AllocError>
+    requires open { IsSome (H.opened shelf.old) }
+    requires other { IfSome (H.cell shelf.old name.now)
+        (λ content. false ≡ holds bytes.now (Some content)) }
+    ensures ok { IfOk result (λ failed. Brings name.now bytes.now failed (H.fault_count shelf.old)
+        (H.fault_count shelf.new) (H.cell shelf.old) (H.cell shelf.new)) }
+    ensures unsettles { OnErr result (AllBut (H.cell shelf.old) name.now (H.cell shelf.new)) }
+    ensures later { H.fault_count shelf.old ≤ H.fault_count shelf.new }
+    ensures opened { H.opened shelf.new ≡ H.opened shelf.old }
+    ensures removals { removals_in (H.changes shelf.new) ≡ removals_in (H.changes shelf.old) }
+    ensures log { IfOk result (λ failed. IfSome (H.cell shelf.old name.now)
+        (LogsPut name.now bytes.now failed (H.changes shelf.old) (H.changes shelf.new))) }
+{
+    match shelf.put(name, bytes) {
+        Ok(()) => Ok(None),
+        Err(StoreError::Failed) => Ok(Some(Call::Put)),
+        Err(StoreError::Memory) => Err(AllocError),
+    }
+}
+
 /// The name gets the bytes, or gives the call that failed.
 fn bring_unread<H: Shelf>(
     shelf: &mut H,
@@ -71,11 +92,33 @@ fn bring_unread<H: Shelf>(
         Err(StoreError::Failed) => return Ok(Some(Call::Read)),
         Err(StoreError::Memory) => return Err(AllocError),
     }
-    match shelf.put(name, bytes) {
-        Ok(()) => Ok(None),
-        Err(StoreError::Failed) => Ok(Some(Call::Put)),
-        Err(StoreError::Memory) => Err(AllocError),
+    put_other(shelf, name, bytes)
+}
+
+/// The same; where the name is known to be absent it is not read.
+fn bring_name<H: Shelf>(
+    shelf: &mut H,
+    name: &str,
+    bytes: &[u8],
+    held: &mut Vec<u8>,
+    may_stand: bool,
+) -> Result<Option<Call>, AllocError>
+    requires open { IsSome (H.opened shelf.old) }
+    requires absent { may_stand ≡ false → IfSome (H.cell shelf.old name.now)
+        (λ content. content ≡ None) }
+    ensures ok { IfOk result (λ failed. Brings name.now bytes.now failed (H.fault_count shelf.old)
+        (H.fault_count shelf.new) (H.cell shelf.old) (H.cell shelf.new)) }
+    ensures unsettles { OnErr result (AllBut (H.cell shelf.old) name.now (H.cell shelf.new)) }
+    ensures later { H.fault_count shelf.old ≤ H.fault_count shelf.new }
+    ensures opened { H.opened shelf.new ≡ H.opened shelf.old }
+    ensures removals { removals_in (H.changes shelf.new) ≡ removals_in (H.changes shelf.old) }
+    ensures log { IfOk result (λ failed. IfSome (H.cell shelf.old name.now)
+        (LogsPut name.now bytes.now failed (H.changes shelf.old) (H.changes shelf.new))) }
+{
+    if may_stand {
+        return bring_unread(shelf, name, bytes, held);
     }
+    put_other(shelf, name, bytes)
 }
 
 /// An own name is taken away from the shelf, or the call failed.
@@ -155,11 +198,11 @@ fn keep(troubles: &mut Vec<Trouble>, trouble: Option<Trouble>) -> Result<(), All
 
 impl Publisher {
     /// Whether the name is known to hold these bytes.
-    fn is_known(&self, name: &Text, bytes: &[u8]) -> bool
+    fn is_known(&self, name: &Text, bytes: &Bytes) -> bool
         ensures { result ≡ true → Holding bytes.now (get bytes_eq self.now.own name.now) }
     {
         match self.own.get(name) {
-            Some(Known::Holds(known)) => known.as_slice() == bytes,
+            Some(Known::Holds(known)) => known.as_slice() == bytes.as_slice(),
             _ => false,
         }
     }
@@ -175,14 +218,14 @@ impl Publisher {
     }
 
     /// The name is known to hold these bytes.
-    fn note(&mut self, alloc: Global, name: &Text, bytes: &[u8]) -> Result<(), AllocError>
+    fn note(&mut self, name: &Text, bytes: &Bytes) -> Result<(), AllocError>
         ensures own { OnOk result ((n : List ℕ) → get bytes_eq self.new.own n
             ≡ cond (bytes_eq name.now n) (Some (Known.Holds bytes.now))
             (get bytes_eq self.old.own n)) }
         ensures most { self.new.most ≡ self.old.most }
     {
-        let bytes = Bytes::from_slice(alloc, bytes)?;
-        self.own.insert(name.share()?, Known::Holds(bytes))?;
+        self.own
+            .insert(name.share()?, Known::Holds(bytes.share()?))?;
         Ok(())
     }
 
@@ -221,13 +264,13 @@ impl Publisher {
         Ok(done)
     }
 
-    /// The name gets the bytes, or gives the call that failed. What is known to hold them is not read.
+    /// The name gets the bytes, or gives the call that failed. What is known to hold them is not read, nor what is known to
+    /// be absent.
     fn bring<H: Shelf>(
         &mut self,
-        alloc: Global,
         shelf: &mut H,
         name: &Text,
-        bytes: &[u8],
+        bytes: &Bytes,
         held: &mut Vec<u8>,
     ) -> Result<Option<Call>, AllocError>
         requires open { IsSome (H.opened shelf.old) }
@@ -250,10 +293,11 @@ impl Publisher {
         if self.is_known(name, bytes) {
             return Ok(None);
         }
+        let may_stand = self.own.contains_key(name);
         self.forget(name)?;
-        let failed = bring_unread(shelf, name.as_str(), bytes, held)?;
+        let failed = bring_name(shelf, name.as_str(), bytes.as_slice(), held, may_stand)?;
         if failed.is_none() {
-            self.note(alloc, name, bytes)?;
+            self.note(name, bytes)?;
         }
         Ok(failed)
     }
@@ -265,7 +309,7 @@ impl Publisher {
         shelf: &mut H,
         object: &Text,
         which: Which,
-        bytes: &[u8],
+        bytes: &Bytes,
         held: &mut Vec<u8>,
     ) -> Result<Option<Trouble>, AllocError>
         requires open { IsSome (H.opened shelf.old) }
@@ -288,7 +332,7 @@ impl Publisher {
             (H.changes shelf.old) (H.changes shelf.new))) }
     {
         let name = file_name(alloc, object.as_str(), which)?;
-        match self.bring(alloc, shelf, &name, bytes, held)? {
+        match self.bring(shelf, &name, bytes, held)? {
             Some(call) => Ok(Some(Trouble {
                 object: object.share()?,
                 which,
@@ -323,7 +367,7 @@ impl Publisher {
         ensures log { IfOk result (λ trouble. Tells (H.cell shelf.old) → H.changes shelf.new
             ≡ done (H.changes shelf.old) (put_of (H.cell shelf.old) profile.now trouble)) }
     {
-        let json = profile.json.as_slice();
+        let json = &profile.json;
         if let Some(trouble) = self.bring_file(
             alloc,
             shelf,
@@ -334,7 +378,7 @@ impl Publisher {
         )? {
             return Ok(Some(trouble));
         }
-        let dep = profile.dep.as_slice();
+        let dep = &profile.dep;
         self.bring_file(alloc, shelf, &profile.name, Which::Dep, dep, held)
     }
 
@@ -513,9 +557,9 @@ impl Publisher {
     }
 
     /// Publishes profiles: first each own name that no profile wants is removed, in byte order, and then each file
-    /// of theirs is read, and put where its bytes differ. It goes on behind calls that fail, and gives them in the
-    /// order in which they were made. Where more names were to go than it may remove, no call is made, and it gives
-    /// how many.
+    /// of theirs is read, where nothing is known of it but that it may be there, and put where its bytes differ. It goes
+    /// on behind calls that fail, and gives them in the order in which they were made. Where more names were to go than it
+    /// may remove, no call is made, and it gives how many.
     pub fn publish<H: Shelf>(
         &mut self,
         alloc: Global,

@@ -130,6 +130,14 @@ abbrev pub run_names : {T : Type 0} → List (Row T) → List Name
 run_names [] = []
 run_names (r ∷ rows) = if_run r (run_names rows)
 
+-- the objects that the last take may have reached
+abbrev pub if_touched : {T : Type 0} → Row T → List Name → List Name
+if_touched r ns = cond r.touched (r.name ∷ ns) ns
+
+abbrev pub touched_names : {T : Type 0} → List (Row T) → List Name
+touched_names [] = []
+touched_names (r ∷ rows) = if_touched r (touched_names rows)
+
 abbrev pub one_of : Bool → ℕ
 one_of true = 1
 one_of false = 0

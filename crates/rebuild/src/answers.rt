@@ -1,7 +1,7 @@
 //! What the engine answers.
 
 ghost use Rattle.std.specs.Prelude.{◌≡◌, ◌≤◌, ◌*◌, ◌++◌, [], IfOk, length, map, true};
-ghost use Rattle.rebuild.specs.Answers.{seen_answer, answer_of_row, answer_found, seen_why, why_found, seen_reads, reads_of_row, reads_found, run_names, open_parts};
+ghost use Rattle.rebuild.specs.Answers.{seen_answer, answer_of_row, answer_found, seen_why, why_found, seen_reads, reads_of_row, reads_found, run_names, touched_names, open_parts};
 ghost use Rattle.base.specs.declared.limits.TheConstants.{MAX_OBJECTS};
 ghost use Rattle.object_names.specs.Objects.{are_rising};
 ghost use Rattle.engine_turns.specs.Changes.{forgotten_row};
@@ -133,6 +133,19 @@ pub(crate) fn runs_in<T>(alloc: Global, rows: &[Row<T>]) -> Result<Vec<Name>, Al
     let mut made = Vec::new(alloc);
     for row in rows {
         if row.run {
+            made.push(row.name.share()?)?;
+        }
+    }
+    Ok(made)
+}
+
+/// The names of the rows that the last take may have reached.
+pub(crate) fn touched_in<T>(alloc: Global, rows: &[Row<T>]) -> Result<Vec<Name>, AllocError>
+    ensures { IfOk result (λ made. made.items ≡ touched_names rows.now) }
+{
+    let mut made = Vec::new(alloc);
+    for row in rows {
+        if row.touched {
             made.push(row.name.share()?)?;
         }
     }

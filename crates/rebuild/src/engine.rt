@@ -6,8 +6,10 @@ ghost use Rattle.base.specs.declared.limits.TheConstants.{MAX_OBJECTS};
 ghost use Rattle.rebuild.specs.Engines.{is_ready};
 
 use crate::answers::{
-    Answer, Reads, Why, answer_in, forget_rows, names_in, reads_in, runs_in, turns_left, why_in,
+    Answer, Reads, Why, answer_in, forget_rows, names_in, reads_in, runs_in, touched_in,
+    turns_left, why_in,
 };
+use crate::found_objects::FoundObjects;
 use crate::renewing::take_picture;
 use crate::taking::TakeError;
 use base::{Seq, Steps, Text};
@@ -30,6 +32,8 @@ pub struct Engine<R: Runner> {
     core: Core<R::Rest>,
     /// Who asks for what, of the objects that are not touched.
     index: Index,
+    /// The objects of the last picture.
+    found: Option<FoundObjects>,
     ghost ready: { is_ready core ≡ true },
     ghost low: { core.counter ≤ END_OF_NUMBERS },
     ghost few: { length core.rows.items ≤ MAX_OBJECTS },
@@ -50,7 +54,7 @@ impl<R: Runner> Engine<R> {
     ghost use Rattle.object_names.specs.Objects.{AreObjects};
     ghost use Rattle.questions.specs.declared.key.Key.{Key};
     ghost use Rattle.read_index.specs.Readers.{asks};
-    ghost use Rattle.rebuild.specs.Answers.{seen_answer, answer_at, answer_of, seen_why, why_at, seen_reads, reads_at, runs_at};
+    ghost use Rattle.rebuild.specs.Answers.{seen_answer, answer_at, answer_of, seen_why, why_at, seen_reads, reads_at, runs_at, touched_names};
     ghost use Rattle.rebuild.specs.Sound.{IsSound};
     ghost use Rattle.rebuild.specs.Engines.{situation_of, value_of, new_situation, after_take, after_turn, after_forget, turn_work_of, IsTakeAllowed, IsForgetAllowed, IsTrue, AreKept, AreSpared, objects_of, parts_of, turns_left_of};
     ghost use Rattle.engine_turns.specs.Opening.{turned_by};
@@ -79,6 +83,7 @@ impl<R: Runner> Engine<R> {
                 first_check: 0,
             },
             index: Index::new(alloc),
+            found: None,
         }
     }
 
@@ -93,6 +98,7 @@ impl<R: Runner> Engine<R> {
         Engine {
             core,
             index: Index::new(alloc),
+            found: None,
         }
     }
 
@@ -146,7 +152,14 @@ impl<R: Runner> Engine<R> {
             → ∥ AreSpared R.meaning (value_of self.new.core) ∥₁ }
     {
         let dirs = shared(alloc, self.core.dirs.as_slice())?;
-        take_picture(alloc, &mut self.core, &mut self.index, &picture, steps)?;
+        take_picture(
+            alloc,
+            &mut self.core,
+            &mut self.index,
+            &mut self.found,
+            &picture,
+            steps,
+        )?;
         runner.set_picture(picture, dirs);
         Ok(())
     }
@@ -265,5 +278,12 @@ impl<R: Runner> Engine<R> {
         ensures { IfOk result (λ made. made.items ≡ runs_at (situation_of self.now.core)) }
     {
         runs_in(alloc, &self.core.rows)
+    }
+
+    /// The objects that the last take may have reached, in byte order. The runs of all others stand.
+    pub fn touched(&self, alloc: Global) -> Result<Vec<Name>, AllocError>
+        ensures { IfOk result (λ made. made.items ≡ touched_names self.now.core.rows.items) }
+    {
+        touched_in(alloc, &self.core.rows)
     }
 }

@@ -15,6 +15,7 @@ ghost use Rattle.rebuild.specs.Reaching.{AreIndexed};
 ghost use Rattle.base.specs.declared.limits.TheConstants.{MAX_OBJECTS};
 
 use crate::answers::turns_left;
+use crate::found_objects::{FoundObjects, objects_again};
 use crate::keeping::kept_entries;
 use crate::reaching::{add_missing, add_moved, bring_up, clear_all, is_touched_first, touch};
 use crate::taking::{TakeError, number_files};
@@ -23,7 +24,6 @@ use base::limits::MAX_OBJECTS;
 use engine_turns::{Cause, Core, Row, enter_all, row_near};
 use foreign_values::Chain;
 use load_path::{Picture, PictureFile};
-use object_names::objects;
 use path_numbers::PathTable;
 use path_tree::Name;
 use read_index::Index;
@@ -157,6 +157,7 @@ pub(crate) fn take_picture<T: Drop, L: Ledger>(
     alloc: Global,
     core: &mut Core<T>,
     index: &mut Index,
+    last: &mut Option<FoundObjects>,
     picture: &Picture,
     steps: &mut Steps<L>,
 ) -> Result<(), TakeError>
@@ -171,7 +172,7 @@ pub(crate) fn take_picture<T: Drop, L: Ledger>(
         core.old.dirs e) }
     ensures refused_steps { OnErr result (steps.new ≤ steps.old + length picture.now) }
 {
-    let found = objects(alloc, picture, core.dirs.as_slice())?;
+    let found = objects_again(alloc, last, picture, core.dirs.as_slice())?;
     if found.len() > MAX_OBJECTS {
         return Err(TakeError::TooManyObjects);
     }

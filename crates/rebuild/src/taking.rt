@@ -40,7 +40,7 @@ impl<T: Drop> From<AllocFailed<T>> for TakeError {
 }
 
 /// Whether two contents are the same.
-fn same_content(a: &Content, b: &Content) -> bool
+pub(crate) fn same_content(a: &Content, b: &Content) -> bool
     ensures { result ≡ same_content a.now b.now }
 {
     match (a, b) {
@@ -51,7 +51,7 @@ fn same_content(a: &Content, b: &Content) -> bool
 }
 
 /// The same content.
-fn copy_content(content: &Content) -> Result<Content, AllocError>
+pub(crate) fn copy_content(content: &Content) -> Result<Content, AllocError>
     ensures { IfOk result (λ c. c ≡ content.now) }
 {
     match content {

@@ -1,4 +1,4 @@
-ghost use Rattle.std.specs.Prelude.{◌≡◌, IfErr, OnOk, OnErr, map, true};
+ghost use Rattle.std.specs.Prelude.{◌≡◌, IfErr, IsSome, OnOk, OnErr, map, true};
 ghost use Rattle.outside.specs.Causes.{HasCause};
 ghost use Rattle.outside.specs.declared.error.StoreError.TheVariants.{Failed};
 ghost use Rattle.stored_rows.specs.Rows.{row_name, are_rising};
@@ -32,6 +32,7 @@ pub fn save<K: Keeper>(
     last: Vec<StoredRow>,
     wanted: Vec<StoredRow>,
 ) -> Saved
+    requires open { IsSome (K.opened keeper.old) }
     requires last_rises { are_rising (map row_name last.items) ≡ true }
     requires wanted_rises { are_rising (map row_name wanted.items) ≡ true }
     ensures ok { OnOk result.result (result.rows.items ≡ wanted.items) }
@@ -66,6 +67,7 @@ fn tell_changes<K: Keeper>(
     last: &[StoredRow],
     wanted: &[StoredRow],
 ) -> Result<(), StoreError>
+    requires open { IsSome (K.opened keeper.old) }
     requires last_rises { are_rising (map row_name last.now) ≡ true }
     requires wanted_rises { are_rising (map row_name wanted.now) ≡ true }
     ensures told { OnOk result (Follows (replaced (gone_from last.now wanted.now)

@@ -1,4 +1,4 @@
-ghost use Rattle.std.specs.Prelude.{◌≡◌, Ok, Err, true, OnOk, OnErr, Some, None};
+ghost use Rattle.std.specs.Prelude.{◌≡◌, Ok, Err, true, OnOk, OnErr, IsSome, Some, None};
 ghost use Rattle.sqlite.specs.Held.{state};
 ghost use Rattle.sqlite.specs.State.{Survives};
 ghost use Rattle.outside.specs.Causes.{HasCause};
@@ -20,8 +20,8 @@ use stored_rows::StoredRow;
 /// A keeper over a connection, whose database has its table and nothing else.
 ///
 /// Its rows are those that the last commit left, as long as the connection is open and its disk
-/// returned what was written. A connection with another schema, or within a transaction, is a fault,
-/// and so is a `load` or a `replace` before the first `open_store` that was done. Why the last call failed is kept.
+/// returned what was written. A connection with another schema, or within a transaction, is a fault. Why the last call
+/// failed is kept.
 #[derive(Drop)]
 pub struct SqliteKeeper<S: Alter + Drop> {
     alloc: Global,
@@ -129,6 +129,7 @@ impl<S: Alter + Drop> Keeper for SqliteKeeper<S> {
 
     #[tactic(auto, using(crate::proofs::Following::follows_itself, crate::proofs::Following::follows))]
     fn open_store(&mut self, file: &str) -> Result<(), StoreError>
+        requires closed { self.old.opened ≡ None }
         ensures opened { OnOk result (self.new.opened ≡ Some file.now) }
         ensures refused { OnErr result (self.new.opened ≡ self.old.opened) }
         ensures same { Follows unchanged (cells (state S.Store self.old.connection))
@@ -150,6 +151,7 @@ impl<S: Alter + Drop> Keeper for SqliteKeeper<S> {
 
     #[tactic(auto, using(crate::proofs::Following::follows_itself, crate::proofs::Following::follows))]
     fn load(&mut self, into: &mut Vec<StoredRow>) -> Result<(), StoreError>
+        requires open { IsSome self.old.opened }
         ensures ok { OnOk result (Lists (cells (state S.Store self.new.connection)) into.new.items) }
         ensures opened { self.new.opened ≡ self.old.opened }
         ensures same { Follows unchanged (cells (state S.Store self.old.connection))
@@ -159,9 +161,6 @@ impl<S: Alter + Drop> Keeper for SqliteKeeper<S> {
         ensures survives { Survives (state S.Store self.old.connection)
             (state S.Store self.new.connection) (λ _. ⊥) }
     {
-        if self.opened.is_none() {
-            return refuse(&mut self.faults, &mut self.last, Refusal::NotOpened);
-        }
         judge(
             &mut self.faults,
             &mut self.last,
@@ -171,6 +170,7 @@ impl<S: Alter + Drop> Keeper for SqliteKeeper<S> {
 
     #[tactic(auto, using(crate::proofs::Following::follows_itself, crate::proofs::Following::follows_done, crate::proofs::Following::follows_refused))]
     fn replace(&mut self, gone: &[Text], rows: &[StoredRow]) -> Result<(), StoreError>
+        requires open { IsSome self.old.opened }
         ensures ok { OnOk result (Follows (replaced gone.now rows.now)
             (cells (state S.Store self.old.connection)) (cells (state S.Store self.new.connection))) }
         ensures refused { OnErr result (Follows unchanged (cells (state S.Store self.old.connection))
@@ -181,9 +181,6 @@ impl<S: Alter + Drop> Keeper for SqliteKeeper<S> {
         ensures survives { Survives (state S.Store self.old.connection) (state S.Store self.new.connection)
             (Holds (replaced gone.now rows.now) (state S.Store self.old.connection)) }
     {
-        if self.opened.is_none() {
-            return refuse(&mut self.faults, &mut self.last, Refusal::NotOpened);
-        }
         judge(
             &mut self.faults,
             &mut self.last,

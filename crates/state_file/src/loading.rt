@@ -1,4 +1,4 @@
-ghost use Rattle.std.specs.Prelude.{◌≡◌, ◌⊎◌, IfOk, IfErr, OnOk, Err, Some};
+ghost use Rattle.std.specs.Prelude.{◌≡◌, ◌⊎◌, IfOk, IfErr, OnOk, Err, None, Some};
 ghost use Rattle.outside.specs.Causes.{HasCause, Counted};
 ghost use Rattle.kept_state.specs.Stored.{stored};
 ghost use Rattle.record_rows.specs.Rows.{Give};
@@ -39,6 +39,7 @@ fn rows_of<K: Keeper>(
     keeper: &mut K,
     file: &str,
 ) -> Result<Vec<StoredRow>, StoreError>
+    requires closed { K.opened keeper.old ≡ None }
     ensures rows { IfOk result (λ rows. Lists (K.cell keeper.new) rows.items) }
     ensures opened { OnOk result (K.opened keeper.new ≡ Some file.now) }
     ensures perhaps { (K.opened keeper.new ≡ K.opened keeper.old)
@@ -70,6 +71,7 @@ fn read(alloc: Global, rows: Vec<StoredRow>) -> Result<Loaded, LoadError>
 ///
 /// No row is changed. `BadRows` is an answer about the rows that the keeper lists: no state has them.
 pub fn load<K: Keeper>(alloc: Global, keeper: &mut K, file: &str) -> Result<Loaded, LoadError>
+    requires closed { K.opened keeper.old ≡ None }
     // The rows are all that the keeper tells.
     ensures rows { IfOk result (λ l. Lists (K.cell keeper.new) l.rows.items) }
     ensures gives { IfOk result (λ l. Give l.rows.items (stored l.kept)) }

@@ -17,7 +17,7 @@ use crate::site::{Inside, Site};
 use crate::variables::{Variable, run_variable};
 use base::Steps;
 use dml_meaning::Test;
-use dml_world::leaf::{passes, spend_step, stop_on};
+use dml_world::leaf::{passed, passes, spend_step, stop_on};
 use dml_world::templates::template_named;
 use dml_world::{Around, Frame, SelfUse, Stop, World};
 use pan_ast::{Code, Item, Place, Statement, StatementForm, Template, TemplateKind, Work};
@@ -322,16 +322,6 @@ fn include_value<W: World, L: Ledger>(
         return Err(stop_on(alloc, Code::BadArgument, place, ""));
     }
     Ok(())
-}
-
-/// The end of an include at a place; an early one is noted for a reader.
-fn passed<W: World>(place: &Place, end: Result<(), Stop>, world: &W) -> Result<(), Stop>
-    ensures { result ≡ end }
-{
-    if end.is_err() {
-        world.note_passed(place);
-    }
-    end
 }
 
 /// Includes the template of a name, where an include may still be opened.

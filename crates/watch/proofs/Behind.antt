@@ -7,6 +7,7 @@ use Rattle.outside.specs.declared.source.Source as source
 use Rattle.publication.specs.Published.{Knows}
 use Rattle.runner.specs.declared.runner.Runner as runner
 use Rattle.watch.specs.Sites.{IsBehind, IsLater}
+use Rattle.watch.specs.declared.site.Carried.{Carried}
 use Rattle.watch.specs.declared.site.Site.{Site}
 
 on_ok : {A E P : Type 0} (r : Result A E) → P → OnOk r P
@@ -17,11 +18,15 @@ module _ {R S H K T A E : Type 0} {M : runner.Ghosts R T} (D : source.Ghosts S)
     (P : shelf.Ghosts H) (Q : keeper.Ghosts K) (result : Result A E)
     (before after : Site R S H K T M) (knows : Knows before.publisher (P.cell before.shelf))
     (same_shelf : after.shelf ≡ before.shelf) (same_publisher : after.publisher ≡ before.publisher)
-    (same_keeper : after.keeper ≡ before.keeper) (same_rows : after.rows ≡ before.rows) where
+    (same_carried : after.carried ≡ before.carried) where
   pub behind_scan : IsLater D P Q before after → IsBehind D P Q result before after
   behind_scan later = record {
     later = later;
-    unkept = λ none. (same_keeper, ap (option_map vec_items) same_rows ∙ none);
+    unkept = λ none. (
+      ap (λ (k : Carried K). k.keeper) same_carried,
+      ap (λ (k : Carried K).
+          option_map vec_items k.rows) same_carried ∙ none,
+    );
     knows = on_ok result (subst (λ p. Knows p (P.cell after.shelf)) (sym same_publisher)
         (subst (λ h. Knows before.publisher (P.cell h)) (sym same_shelf) knows));
   }
@@ -30,8 +35,8 @@ module _ {R S H K T A E : Type 0} {M : runner.Ghosts R T} (D : source.Ghosts S)
   behind_still same_source = behind_scan (record {
     source_opened = ap D.opened same_source;
     shelf_opened = ap P.opened same_shelf;
-    store_opened = ap Q.opened same_keeper;
+    store_opened = ap (λ (k : Carried K). Q.opened k.keeper) same_carried;
     source_later = let same = ap D.fault_count same_source in omega (arith, same);
     shelf_later = let same = ap P.fault_count same_shelf in omega (arith, same);
-    store_later = let same = ap Q.fault_count same_keeper in omega (arith, same);
+    store_later = let same = ap (λ (k : Carried K). Q.fault_count k.keeper) same_carried in omega (arith, same);
   })

@@ -1,12 +1,13 @@
 -- What becomes of the rows that are kept.
 use Rattle.std.proofs.Common.{◌≡◌, ◌≤◌, ◌+◌, ◌⊎◌, ℕ, List, [], ◌∷◌, Option, Some, None, option_map, inl, inr, refl, sym, ap, ◌∙◌, subst, arith}
-use Rattle.std.specs.Prelude.{IfSome}
+use Rattle.std.specs.Prelude.{IfSome, IsSome, vec_items}
 use Rattle.engine_session.specs.Compiler.{Compiled, forgotten}
 use Rattle.engine_laws.specs.Names.{Name}
 use Rattle.engine_rows.specs.Restoring.{IsSoundKept}
 use Rattle.engine_rows.specs.Storing.{kept_object, kept_objects, with_some}
 use Rattle.engine_turns.specs.States.{EngineState}
 use Rattle.keepers.specs.Keeping.{Follows, Lists, replaced, unchanged}
+use Rattle.keepers.specs.declared.keeper.Keeper as keeper
 use Rattle.kept_works.specs.Kept.{kept_by, rows_by}
 use Rattle.outside.specs.Causes.{Rose}
 use Rattle.outside.specs.Cells.{Cell}
@@ -21,7 +22,9 @@ use Rattle.session.specs.Sessions.{Saved, NotSaved, IsSaved, SaveFailed, kept_af
 use Rattle.stored_rows.specs.Rows.{bytes_under}
 use Rattle.stored_rows.specs.declared.row.StoredRow.{StoredRow}
 use Rattle.watch.specs.Shelves.{Stock, HasFailed, HasSaved, IsUncalled, KeepsOver, SavesAs}
+use Rattle.watch.specs.Sites.{LeavesUnkept, MayKeep}
 use Rattle.watch.specs.Steps.{IsListed, IsUnsaved, KeptSoundly, rows_behind, save_failures}
+use Rattle.watch.specs.declared.site.Carried.{Carried}
 
 -- what is kept of an engine does not hang on the runs that it has still to tell
 same_objects : {T : Type 0} (s t : EngineState T) → t.last ≡ s.last → t.reads ≡ s.reads
@@ -211,3 +214,16 @@ pub sound_on : {T : Type 0} (means : Meanings T) (dirs : List (List ℕ)) (limit
 sound_on means dirs limits NotSaved e kept sound was = was
 sound_on means dirs limits IsSaved e kept sound was = sound
 sound_on means dirs limits SaveFailed e kept sound was = was
+
+-- where rows are kept behind a line they were kept before it, and the keeper is as open as it was
+pub may_keep_on : {K : Type 0} (Q : keeper.Ghosts K) (before after : Carried K) → MayKeep Q before
+    → LeavesUnkept before after → Q.opened after.keeper ≡ Q.opened before.keeper → MayKeep Q after
+may_keep_on {K} Q before after may_keep unkept same =
+    by (option_map vec_items before.rows) (option_map vec_items after.rows) refl refl may_keep
+  where
+    by : (was now : Option (List StoredRow)) → option_map vec_items before.rows ≡ was
+        → option_map vec_items after.rows ≡ now → IfSome was (λ rows. IsSome (Q.opened
+        before.keeper)) → IfSome now (λ rows. IsSome (Q.opened after.keeper))
+    by was None is is_now may = tt
+    by (Some rows) (Some later) is is_now may = subst IsSome (sym same) may
+    by None (Some later) is is_now may = let none = (unkept is).1 in cc

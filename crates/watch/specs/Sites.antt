@@ -1,6 +1,6 @@
 -- What a session works on, as clauses speak of it, and what a line makes of it.
 use Rattle.std.specs.declared.alloc.Global.{Global}
-use Rattle.std.specs.Prelude.{◌≡◌, ◌≤◌, ℕ, List, Option, Some, None, true, false, Result, OnOk, option_map, vec_items, Vec}
+use Rattle.std.specs.Prelude.{◌≡◌, ◌≤◌, ℕ, List, Option, Some, None, IfSome, IsSome, true, false, Result, OnOk, option_map, vec_items, Vec}
 use Rattle.engine_session.specs.Compiler.{Compiled, compiler}
 use Rattle.engine_session.specs.Standing.{Here, IsBegun, IsFaithful, IsIn, counts}
 use Rattle.keepers.specs.declared.keeper.Keeper as keeper
@@ -19,6 +19,7 @@ use Rattle.watch.specs.Shelves.{Shelved, Stock, Held}
 use Rattle.watch.specs.Steps.{Spot, Start, At, Went, Cut, IsListed}
 use Rattle.stored_rows.specs.declared.row.StoredRow.{StoredRow}
 use Rattle.watch.specs.declared.ends.End.{End}
+use Rattle.watch.specs.declared.site.Carried.{Carried}
 use Rattle.watch.specs.declared.site.Site.{Site}
 use Rattle.watch.specs.declared.step.Step.{Step}
 
@@ -51,14 +52,18 @@ spot_of M S H K site steps = record {
   source_count = S.fault_count site.source;
   shelf = shelved H site.shelf;
   publisher = site.publisher;
-  stock = stocked K site.keeper site.rows;
+  stock = stocked K site.carried.keeper site.carried.rows;
 }
 
+-- where rows are kept the keeper is open
+abbrev pub MayKeep : {K : Type 0} → keeper.Ghosts K → Carried K → Type 0
+MayKeep K carried = IfSome (option_map vec_items carried.rows) (λ rows. IsSome (K.opened
+    carried.keeper))
+
 -- where no rows are kept, none are kept then, and the keeper was not called
-abbrev pub LeavesUnkept : {K : Type 0} → K → K → Option (Vec StoredRow Global)
-    → Option (Vec StoredRow Global) → Type 0
-LeavesUnkept k k_now rows rows_now = option_map vec_items rows ≡ None
-    → (k_now ≡ k) × (option_map vec_items rows_now ≡ None)
+abbrev pub LeavesUnkept : {K : Type 0} → Carried K → Carried K → Type 0
+LeavesUnkept before after = option_map vec_items before.rows ≡ None
+    → (after.keeper ≡ before.keeper) × (option_map vec_items after.rows ≡ None)
 
 -- before the first line no report had a fault
 abbrev pub begun : {T : Type 0} → Spot T → Spot T
@@ -82,10 +87,10 @@ pub record IsLater {R S H K T : Type 0} {M : runner.Ghosts R T} (D : source.Ghos
     (P : shelf.Ghosts H) (Q : keeper.Ghosts K) (before after : Site R S H K T M) : Type 0 where
   pub source_opened : D.opened after.source ≡ D.opened before.source
   pub shelf_opened : P.opened after.shelf ≡ P.opened before.shelf
-  pub store_opened : Q.opened after.keeper ≡ Q.opened before.keeper
+  pub store_opened : Q.opened after.carried.keeper ≡ Q.opened before.carried.keeper
   pub source_later : D.fault_count before.source ≤ D.fault_count after.source
   pub shelf_later : P.fault_count before.shelf ≤ P.fault_count after.shelf
-  pub store_later : Q.fault_count before.keeper ≤ Q.fault_count after.keeper
+  pub store_later : Q.fault_count before.carried.keeper ≤ Q.fault_count after.carried.keeper
 
 -- what holds behind a line, however it ended: where it was worked on, the publisher knows the
 -- shelf,
@@ -94,7 +99,7 @@ pub record IsBehind {R S H K T A E : Type 0} {M : runner.Ghosts R T} (D : source
     (P : shelf.Ghosts H) (Q : keeper.Ghosts K) (result : Result A E)
     (before after : Site R S H K T M) : Type 0 where
   pub later : IsLater D P Q before after
-  pub unkept : LeavesUnkept before.keeper after.keeper before.rows after.rows
+  pub unkept : LeavesUnkept before.carried after.carried
   pub knows : OnOk result (Knows after.publisher (P.cell after.shelf))
 
 -- What a session begins with: an engine that has come to this and has taken no picture, the

@@ -6,24 +6,24 @@ ghost use Rattle.rebuild.specs.Engines.{turns_left_of};
 ghost use Rattle.session.specs.Orders as orders;
 ghost use Rattle.session.specs.Sessions.{saved_text};
 ghost use Rattle.session.specs.Texts.{publication_text};
-ghost use Rattle.watch.specs.Shelves.{is_rising};
 ghost use Rattle.watch.specs.Read.{as_saved};
-ghost use Rattle.watch.specs.Sites.{Goes, IsCut, IsLater, IsReady, LeavesUnkept, held_of, shelved, spot_of};
+ghost use Rattle.watch.specs.Sites.{Goes, IsCut, IsLater, IsReady, LeavesUnkept, MayKeep, held_of, shelved, spot_of};
 ghost use Rattle.watch.specs.Steps.{Announces, Publishes, StopsAnnouncing, StopsPublishing};
 
 use crate::keeping::{Saving, keep};
-use crate::site::Site;
+use crate::site::{Carried, Site};
 use crate::step::Step;
 use crate::texts::{push_publication, push_saving};
 use base::Steps;
-use engine_session::{Built, Took, Works, build, make_all_turns, take_next};
+use engine_session::{
+    Built, KeptTexts, Took, Works, build_again, forget_touched, make_all_turns, take_next,
+};
 use keepers::Keeper;
 use outside::{Shelf, Source};
 use publication::{Publication, Publisher};
 use runner::Runner;
 use std::alloc::{AllocError, Global};
 use std::sync::ledger::Ledger;
-use stored_rows::StoredRow;
 
 /// What a build gives, and how its publication ended.
 #[derive(Drop)]
@@ -36,6 +36,7 @@ struct Announced {
 fn announce<R: Runner, H: Shelf>(
     alloc: Global,
     works: &Works<R>,
+    texts: &mut KeptTexts,
     shelf: &mut H,
     publisher: &mut Publisher,
 ) -> Result<Announced, AllocError>
@@ -53,7 +54,7 @@ fn announce<R: Runner, H: Shelf>(
     ensures later { H.fault_count shelf.old ≤ H.fault_count shelf.new }
     ensures opened { H.opened shelf.new ≡ H.opened shelf.old }
 {
-    let built = build(alloc, works)?;
+    let built = build_again(alloc, works, texts)?;
     let publication = publisher.publish(alloc, shelf, &built.profiles)?;
     Ok(Announced { built, publication })
 }
@@ -74,46 +75,44 @@ fn report(
     text.extend_from_slice(&announced.built.report)
 }
 
-/// What a settled engine gives is published, its rows are kept, and then both are reported. Gives whether an object has a
-/// fault.
+/// What a settled engine gives is published, its rows are kept, and then both are reported. Gives whether an object
+/// has a fault.
 fn publish_built<R: Runner, H: Shelf, K: Keeper>(
     alloc: Global,
     works: &Works<R>,
     shelf: &mut H,
     publisher: &mut Publisher,
-    keeper: &mut K,
-    rows: &mut Option<Vec<StoredRow>>,
+    carried: &mut Carried<K>,
     text: &mut Vec<u8>,
 ) -> Result<bool, AllocError>
     requires open { IsSome (H.opened shelf.old) }
     requires text { text.old.items ≡ [] }
     requires settled { turns_left_of works.now.engine.core ≡ 0 }
     requires knows { Knows publisher.old (H.cell shelf.old) }
-    requires rising { is_rising (option_map vec_items rows.old) ≡ true }
+    requires store_open { MayKeep K.Keeper carried.old }
     ensures done { IsFaithful R.meaning works.now → IfOk result (λ has_faults. Publishes
         (machine_in R.meaning works.now.engine.core)
         (rows_by works.now.engine.core.dirs works.now.engine.core.limits
         (compiled_in works.now.engine.core))
         (compiled_in works.now.engine.core) has_faults text.new.items
-        (held_of H.Shelf K.Keeper shelf.old keeper.old rows.old)
-        (held_of H.Shelf K.Keeper shelf.new keeper.new rows.new) publisher.old publisher.new) }
+        (held_of H.Shelf K.Keeper shelf.old carried.old.keeper carried.old.rows)
+        (held_of H.Shelf K.Keeper shelf.new carried.new.keeper carried.new.rows) publisher.old publisher.new) }
     ensures knows { OnOk result (Knows publisher.new (H.cell shelf.new)) }
     ensures left { IsFaithful R.meaning works.now → OnErr result (StopsPublishing
         (machine_in R.meaning works.now.engine.core)
         (rows_by works.now.engine.core.dirs works.now.engine.core.limits
         (compiled_in works.now.engine.core))
         (compiled_in works.now.engine.core) publisher.old
-        (held_of H.Shelf K.Keeper shelf.old keeper.old rows.old)
-        (held_of H.Shelf K.Keeper shelf.new keeper.new rows.new)) }
-    ensures unkept { LeavesUnkept keeper.old keeper.new rows.old rows.new }
-    ensures rising { is_rising (option_map vec_items rows.new) ≡ true }
+        (held_of H.Shelf K.Keeper shelf.old carried.old.keeper carried.old.rows)
+        (held_of H.Shelf K.Keeper shelf.new carried.new.keeper carried.new.rows)) }
+    ensures unkept { LeavesUnkept carried.old carried.new }
     ensures later { H.fault_count shelf.old ≤ H.fault_count shelf.new }
     ensures opened { H.opened shelf.new ≡ H.opened shelf.old }
-    ensures store_later { K.fault_count keeper.old ≤ K.fault_count keeper.new }
-    ensures store_opened { K.opened keeper.new ≡ K.opened keeper.old }
+    ensures store_later { K.fault_count carried.old.keeper ≤ K.fault_count carried.new.keeper }
+    ensures store_opened { K.opened carried.new.keeper ≡ K.opened carried.old.keeper }
 {
-    let announced = announce(alloc, works, shelf, publisher)?;
-    let saving = keep(alloc, works, keeper, rows)?;
+    let announced = announce(alloc, works, &mut carried.texts, shelf, publisher)?;
+    let saving = keep(alloc, works, carried)?;
     report(alloc, &announced, saving, text)?;
     Ok(announced.built.has_faults)
 }
@@ -127,6 +126,7 @@ pub(crate) fn build_line<R: Runner, S: Source, H: Shelf, K: Keeper, L: Ledger>(
 ) -> Result<Step, AllocError>
     requires source_open { IsSome (S.opened site.old.source) }
     requires shelf_open { IsSome (H.opened site.old.shelf) }
+    requires store_open { MayKeep K.Keeper site.old.carried }
     requires text { text.old.items ≡ [] }
     requires knows { Knows site.old.publisher (H.cell site.old.shelf) }
     ensures went { IsReady R.meaning site.old → IfOk result (λ step. Goes R.meaning orders.Build
@@ -138,7 +138,7 @@ pub(crate) fn build_line<R: Runner, S: Source, H: Shelf, K: Keeper, L: Ledger>(
         (spot_of R.Runner S.Source H.Shelf K.Keeper site.new steps.new)) }
     ensures ready { IsReady R.meaning site.old → OnOk result (IsReady R.meaning site.new) }
     ensures knows { OnOk result (Knows site.new.publisher (H.cell site.new.shelf)) }
-    ensures unkept { LeavesUnkept site.old.keeper site.new.keeper site.old.rows site.new.rows }
+    ensures unkept { LeavesUnkept site.old.carried site.new.carried }
     ensures later { IsLater S.Source H.Shelf K.Keeper site.old site.new }
 {
     match take_next(alloc, &mut site.works, &mut site.source, steps)? {
@@ -151,6 +151,7 @@ pub(crate) fn build_line<R: Runner, S: Source, H: Shelf, K: Keeper, L: Ledger>(
         Took::IsTooMuch => return Ok(Step::IsTooMuch),
     }
     site.has_taken = true;
+    forget_touched(alloc, &site.works, &mut site.carried.texts);
     if !make_all_turns(alloc, &mut site.works, steps)? {
         return Ok(Step::SpendsNumbers);
     }
@@ -159,8 +160,7 @@ pub(crate) fn build_line<R: Runner, S: Source, H: Shelf, K: Keeper, L: Ledger>(
         &site.works,
         &mut site.shelf,
         &mut site.publisher,
-        &mut site.keeper,
-        &mut site.rows,
+        &mut site.carried,
         text,
     )?;
     site.has_faults = has_faults;

@@ -1,4 +1,4 @@
-ghost use Rattle.std.specs.Prelude.{◌≡◌, ◌≤◌, ℕ, IfOk, List, OnErr, Some, map, option_map, true, vec_items};
+ghost use Rattle.std.specs.Prelude.{◌≡◌, ◌≤◌, ℕ, IfOk, IsSome, List, OnErr, Some, map, option_map, true, vec_items};
 ghost use Rattle.engine_session.specs.Compiler.{Compiled};
 ghost use Rattle.engine_session.specs.Standing.{IsIn};
 ghost use Rattle.kept_works.specs.Kept.{rows_by};
@@ -6,10 +6,11 @@ ghost use Rattle.pan_ast.specs.declared.work.Limits.{Limits};
 ghost use Rattle.session.specs.Sessions.{NotSaved};
 ghost use Rattle.stored_rows.specs.Rows.{are_rising, row_name};
 ghost use Rattle.watch.specs.Read.{as_saved};
-ghost use Rattle.watch.specs.Shelves.{KeepsOver, SavesAs, is_rising};
-ghost use Rattle.watch.specs.Sites.{LeavesUnkept, stocked};
+ghost use Rattle.watch.specs.Shelves.{KeepsOver, SavesAs};
+ghost use Rattle.watch.specs.Sites.{LeavesUnkept, MayKeep, stocked};
 ghost use Rattle.watch.specs.Steps.{IsUnsaved};
 
+use crate::site::Carried;
 use engine_session::Works;
 use keepers::Keeper;
 use kept_works::rows;
@@ -36,6 +37,7 @@ fn save_rows<R: Runner, K: Keeper>(
     keeper: &mut K,
     last: &mut Vec<StoredRow>,
 ) -> Result<Saving, AllocError>
+    requires open { IsSome (K.opened keeper.old) }
     requires rising { are_rising (map row_name last.old.items) ≡ true }
     ensures saved { (dirs : List (List ℕ)) (limits : Limits) (e : Compiled R.Rest)
         → IsIn dirs limits works.now.engine.core e → IfOk result (λ k. SavesAs (as_saved k)
@@ -63,23 +65,23 @@ fn save_rows<R: Runner, K: Keeper>(
 pub(crate) fn keep<R: Runner, K: Keeper>(
     alloc: Global,
     works: &Works<R>,
-    keeper: &mut K,
-    rows: &mut Option<Vec<StoredRow>>,
+    carried: &mut Carried<K>,
 ) -> Result<Saving, AllocError>
-    requires rising { is_rising (option_map vec_items rows.old) ≡ true }
+    requires open { MayKeep K.Keeper carried.old }
     ensures saved { (dirs : List (List ℕ)) (limits : Limits) (e : Compiled R.Rest)
         → IsIn dirs limits works.now.engine.core e → IfOk result (λ k. KeepsOver
-        (option_map vec_items rows.old) (rows_by dirs limits e) (as_saved k)
-        (stocked K.Keeper keeper.old rows.old) (stocked K.Keeper keeper.new rows.new)) }
-    ensures unsaved { OnErr result (IsUnsaved NotSaved (stocked K.Keeper keeper.old rows.old)
-        (stocked K.Keeper keeper.new rows.new)) }
-    ensures unkept { LeavesUnkept keeper.old keeper.new rows.old rows.new }
-    ensures rising { is_rising (option_map vec_items rows.new) ≡ true }
-    ensures opened { K.opened keeper.new ≡ K.opened keeper.old }
-    ensures later { K.fault_count keeper.old ≤ K.fault_count keeper.new }
+        (option_map vec_items carried.old.rows) (rows_by dirs limits e) (as_saved k)
+        (stocked K.Keeper carried.old.keeper carried.old.rows)
+        (stocked K.Keeper carried.new.keeper carried.new.rows)) }
+    ensures unsaved { OnErr result (IsUnsaved NotSaved
+        (stocked K.Keeper carried.old.keeper carried.old.rows)
+        (stocked K.Keeper carried.new.keeper carried.new.rows)) }
+    ensures unkept { LeavesUnkept carried.old carried.new }
+    ensures opened { K.opened carried.new.keeper ≡ K.opened carried.old.keeper }
+    ensures later { K.fault_count carried.old.keeper ≤ K.fault_count carried.new.keeper }
 {
-    match rows {
+    match &mut carried.rows {
         None => Ok(Saving::NotSaved),
-        Some(last) => save_rows(alloc, works, keeper, last),
+        Some(last) => save_rows(alloc, works, &mut carried.keeper, last),
     }
 }

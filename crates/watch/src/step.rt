@@ -2,7 +2,7 @@ ghost use Rattle.std.specs.Prelude.{◌≡◌, IfOk, OnOk, OnErr, [], IsSome};
 ghost use Rattle.publication.specs.Published.{Knows};
 ghost use Rattle.session.specs.Orders as orders;
 ghost use Rattle.session.specs.Orders.{order_of};
-ghost use Rattle.watch.specs.Sites.{Goes, IsBehind, IsCut, IsLater, IsReady, spot_of};
+ghost use Rattle.watch.specs.Sites.{Goes, IsBehind, IsCut, IsLater, IsReady, MayKeep, spot_of};
 
 use crate::answering::{bad_line, deps_line, impact_line, show_line, unused_line, why_line};
 use crate::building::build_line;
@@ -47,8 +47,7 @@ fn scan_line<R: Runner, S: Source, H: Shelf, K: Keeper, L: Ledger>(
     ensures ready { IsReady R.meaning site.old → OnOk result (IsReady R.meaning site.new) }
     ensures shelf { site.new.shelf ≡ site.old.shelf }
     ensures publisher { site.new.publisher ≡ site.old.publisher }
-    ensures keeper { site.new.keeper ≡ site.old.keeper }
-    ensures rows { site.new.rows ≡ site.old.rows }
+    ensures carried { site.new.carried ≡ site.old.carried }
     ensures later { IsLater S.Source H.Shelf K.Keeper site.old site.new }
 {
     match take_next(alloc, &mut site.works, &mut site.source, steps)? {
@@ -90,8 +89,7 @@ fn turn_line<R: Runner, S: Source, H: Shelf, K: Keeper, L: Ledger>(
     ensures ready { IsReady R.meaning site.old → OnOk result (IsReady R.meaning site.new) }
     ensures shelf { site.new.shelf ≡ site.old.shelf }
     ensures publisher { site.new.publisher ≡ site.old.publisher }
-    ensures keeper { site.new.keeper ≡ site.old.keeper }
-    ensures rows { site.new.rows ≡ site.old.rows }
+    ensures carried { site.new.carried ≡ site.old.carried }
     ensures source { site.new.source ≡ site.old.source }
 {
     if !site.has_taken {
@@ -127,8 +125,7 @@ fn blame_line<R: Runner, S: Source, H: Shelf, K: Keeper, L: Ledger>(
     ensures ready { IsReady R.meaning site.old → OnOk result (IsReady R.meaning site.new) }
     ensures shelf { site.new.shelf ≡ site.old.shelf }
     ensures publisher { site.new.publisher ≡ site.old.publisher }
-    ensures keeper { site.new.keeper ≡ site.old.keeper }
-    ensures rows { site.new.rows ≡ site.old.rows }
+    ensures carried { site.new.carried ≡ site.old.carried }
     ensures source { site.new.source ≡ site.old.source }
 {
     if !site.has_taken {
@@ -156,6 +153,7 @@ pub fn work_on<R: Runner, S: Source, H: Shelf, K: Keeper, L: Ledger>(
 ) -> Result<Step, AllocError>
     requires source_open { IsSome (S.opened site.old.source) }
     requires shelf_open { IsSome (H.opened site.old.shelf) }
+    requires store_open { MayKeep K.Keeper site.old.carried }
     requires text { text.old.items ≡ [] }
     requires knows { Knows site.old.publisher (H.cell site.old.shelf) }
     ensures went { IsReady R.meaning site.old → IfOk result (λ step. Goes R.meaning

@@ -4,7 +4,7 @@ ghost use Rattle.outside.specs.Contents.{Appends, AppendsPart};
 ghost use Rattle.outside.specs.Lines.{NextLine};
 ghost use Rattle.publication.specs.Published.{Knows};
 ghost use Rattle.watch.specs.Played.{IsEndOf, reel};
-ghost use Rattle.watch.specs.Sites.{Finishes, IsReady, LeavesUnkept, Stops, begun, spot_of};
+ghost use Rattle.watch.specs.Sites.{Finishes, IsReady, LeavesUnkept, MayKeep, Stops, begun, spot_of};
 
 use crate::ends::End;
 use crate::noting::note;
@@ -63,6 +63,7 @@ pub fn play<R: Runner, S: Source, H: Shelf, K: Keeper, N: Lines, O: Sink, L: Led
 ) -> Result<(), End>
     requires source_open { IsSome (S.opened site.old.source) }
     requires shelf_open { IsSome (H.opened site.old.shelf) }
+    requires store_open { MayKeep K.Keeper site.old.carried }
     requires knows { Knows site.old.publisher (H.cell site.old.shelf) }
     ensures ok { IsReady R.meaning site.old → OnOk result (Finishes R.meaning
         (reel (N.left lines.old) (N.left lines.new) (O.held out.old) (O.held out.new))
@@ -74,8 +75,8 @@ pub fn play<R: Runner, S: Source, H: Shelf, K: Keeper, N: Lines, O: Sink, L: Led
         (spot_of R.Runner S.Source H.Shelf K.Keeper site.new steps.new)) }
     ensures source_opened { S.opened site.new.source ≡ S.opened site.old.source }
     ensures shelf_opened { H.opened site.new.shelf ≡ H.opened site.old.shelf }
-    ensures unkept { LeavesUnkept site.old.keeper site.new.keeper site.old.rows site.new.rows }
-    ensures store_opened { K.opened site.new.keeper ≡ K.opened site.old.keeper }
+    ensures unkept { LeavesUnkept site.old.carried site.new.carried }
+    ensures store_opened { K.opened site.new.carried.keeper ≡ K.opened site.old.carried.keeper }
     ensures lines_cause { Caused (λ e. e ≡ End.Lines) (N.fault_count lines.old)
         (N.fault_count lines.new) result }
     ensures out_cause { Caused (λ e. e ≡ End.Out) (O.fault_count out.old) (O.fault_count out.new)

@@ -13,7 +13,7 @@ use Rattle.questions.specs.Told.{only}
 use Rattle.dml_eval.specs.Waits.{chain_run, in_role, resume, turn_run}
 use Rattle.dml_eval.proofs.Owns.{extends, includes_on, statements, tests}
 use Rattle.dml_eval.proofs.Reaching.{reaches}
-use Rattle.dml_eval.proofs.Stopping.{applied_stops, assigned_leaves, block_stops, both_stop, chain_stops, condition_stops, copy_stops, delete_leaves, either_stops, exists_leaves, exists_stops, extended_stops, for_stops, include_stops, included_stops, index_stops, inner_leaves, keys_stop, made_leaves, operand_stops, pair_stops, reached_stops, reference_goes, reference_stops, right_stops, second_stops, sign_stops, spine_stops, start_stops, statements_stop, terms_stop, turn_stops, value_leaves, values_left, values_stop, while_stops}
+use Rattle.dml_eval.proofs.Stopping.{applied_stops, assigned_leaves, block_stops, both_stop, chain_stops, condition_stops, copy_stops, delete_leaves, either_stops, exists_leaves, exists_stops, extended_stops, for_stops, include_stops, included_stops, index_stops, inner_leaves, keys_stop, made_leaves, operand_stops, pair_stops, reached_stops, reference_goes, reference_stops, right_stops, second_stops, sign_stops, spine_stops, start_stops, statements_stop, terms_stop, turn_stops, value_leaves, values_left, values_stop, while_stops, whole_stops}
 use Rattle.dml_eval.proofs.Waits.{resumed_ends, resumed_more, resumed_none, steps_end, steps_more, turns_leave}
 use Rattle.dml_meaning.specs.Meaning.{eval, node_run, pair_at, reference_in, second_run, step_run, steps_run}
 use Rattle.dml_eval.proofs.+eval.Goals as goal
@@ -480,6 +480,16 @@ items::run_set-returns-in_err-value-clause-gives g t c = λ keys.
     (env c.open_item.new.live) (meter c.args.live.now.work (g.W.World.asked c.args.world.now))
     (meter c.open_item.new.live.work (g.W.World.asked c.open_item.new.world))
     (meter c.open_values.new.live.work (g.W.World.asked c.open_values.new.world)) in
+    grind (arith, stops)
+
+pub items::run_whole-returns-in_err-value-clause-gives :
+    goal.items::run_whole-returns-in_err-value-clause-gives
+items::run_whole-returns-in_err-value-clause-gives g t c = λ keys.
+    let stops = whole_stops (around_of c.args.around.now g.W.World.reading g.W.World.calls)
+    g.W.World.plain c.args.room c.in_err-value.field-0.0 c.args.place.now c.args.name.now
+    (item_seen c.args.right.now) (only keys g.W.World.answers) (env c.args.live.now)
+    (env c.open_item.new.live) (meter c.args.live.now.work (g.W.World.asked c.args.world.now))
+    (meter c.open_item.new.live.work (g.W.World.asked c.open_item.new.world)) in
     grind (arith, stops)
 
 pub loops::turn_for-returns-in_err-turned-clause-gives :

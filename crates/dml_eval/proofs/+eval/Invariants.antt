@@ -40,6 +40,9 @@ decreases-items::run_assign g l = l.room * 2 ^ 70 + 3
 abbrev pub decreases-items::run_set : goal.decreases-items::run_set
 decreases-items::run_set g l = l.room * 2 ^ 70 + 2
 
+abbrev pub decreases-items::run_whole : goal.decreases-items::run_whole
+decreases-items::run_whole g l = l.room * 2 ^ 70 + 1
+
 abbrev pub decreases-loops::turn_while : goal.decreases-loops::turn_while
 decreases-loops::turn_while g l = l.room * 2 ^ 70 + 2
 

@@ -91,26 +91,33 @@ pub(super) fn find_text<'a>(entries: &'a [Entry], key: &str) -> Option<&'a Tree>
     requires { AreFields (fields_of entries.now) }
     ensures { option_copied result ≡ find_field key.now (fields_of entries.now) }
 {
+    if entries.len() <= MAX_SCANNED {
+        return scanned(entries, key);
+    }
     match position_of(entries, key) {
         Ok(at) => Some(&entries[at].value),
         Err(_) => None,
     }
 }
 
-// Leaves the dict with this owner alone.
-pub(super) fn own(alloc: Global, dict: &mut Rc<Dict>) -> Result<(), AllocError>
-    ensures entries { dict.new.value.entries.items ≡ dict.old.value.entries.items }
-    ensures size { dict.new.value.size ≡ dict.old.value.size }
-    ensures height { dict.new.value.height ≡ dict.old.value.height }
+// How many entries are looked through one by one: most keys differ in their lengths.
+const MAX_SCANNED: usize = 8;
+
+// The same, one by one.
+fn scanned<'a>(entries: &'a [Entry], key: &str) -> Option<&'a Tree>
+    requires { AreFields (fields_of entries.now) }
+    ensures { option_copied result ≡ find_field key.now (fields_of entries.now) }
 {
-    if Rc::strong_count(dict) != 1 {
-        let copy = copy(alloc, dict)?;
-        *dict = Rc::new(alloc, copy)?;
+    'entries: for entry in entries {
+        if entry.key.spells(key) {
+            return Some(&entry.value);
+        }
     }
-    Ok(())
+    None
 }
 
-fn copy(alloc: Global, dict: &Dict) -> Result<Dict, AllocError>
+// The dict once more, with the same entries.
+pub(super) fn copy(alloc: Global, dict: &Dict) -> Result<Dict, AllocError>
     ensures { IfOk result (λ d. (d.entries.items ≡ dict.now.entries.items)
         × (d.size ≡ dict.now.size) × (d.height ≡ dict.now.height)) }
 {

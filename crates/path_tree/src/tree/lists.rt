@@ -34,20 +34,8 @@ pub(super) fn item_at(items: &[Tree], index: usize) -> Option<&Tree>
     }
 }
 
-// Leaves the list with this owner alone.
-pub(super) fn own(alloc: Global, list: &mut Rc<Items>) -> Result<(), AllocError>
-    ensures items { list.new.value.items.items ≡ list.old.value.items.items }
-    ensures size { list.new.value.size ≡ list.old.value.size }
-    ensures height { list.new.value.height ≡ list.old.value.height }
-{
-    if Rc::strong_count(list) != 1 {
-        let copy = copy(alloc, list)?;
-        *list = Rc::new(alloc, copy)?;
-    }
-    Ok(())
-}
-
-fn copy(alloc: Global, list: &Items) -> Result<Items, AllocError>
+// The list once more, with the same items.
+pub(super) fn copy(alloc: Global, list: &Items) -> Result<Items, AllocError>
     ensures { IfOk result (λ d. (d.items.items ≡ list.now.items.items) × (d.size ≡ list.now.size)
         × (d.height ≡ list.now.height)) }
 {
@@ -173,11 +161,13 @@ pub(super) fn insert(
     ensures kept { IsList list.new.value }
 {
     let after = admit(list, &value)?;
-    own(alloc, list)?;
-    let Some(list) = Rc::get_mut(list) else {
-        return Err(Refused::Memory);
-    };
-    insert_admitted(list, index, value, after)?;
+    if let Some(own) = Rc::get_mut(list) {
+        insert_admitted(own, index, value, after)?;
+        return Ok(());
+    }
+    let mut copy = copy(alloc, list)?;
+    insert_admitted(&mut copy, index, value, after)?;
+    *list = Rc::new(alloc, copy)?;
     Ok(())
 }
 

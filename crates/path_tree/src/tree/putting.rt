@@ -46,7 +46,7 @@ pub(super) fn put_in(
     }
 }
 
-// A dict of one's own, and then work on it alone.
+// Work on a dict that this owner has alone, else on a copy that takes its place.
 #[cycle(put)]
 fn put_key(
     alloc: Global,
@@ -64,11 +64,13 @@ fn put_key(
     ensures before { OnErr result (dict_seen dict.new.value ≡ dict_seen dict.old.value) }
     ensures kept { IsDict dict.new.value }
 {
-    dicts::own(alloc, dict)?;
-    let Some(dict) = Rc::get_mut(dict) else {
-        return Err(AllocError);
-    };
-    put_field(alloc, dict, key, terms, value)
+    if let Some(own) = Rc::get_mut(dict) {
+        return put_field(alloc, own, key, terms, value);
+    }
+    let mut copy = dicts::copy(alloc, dict)?;
+    put_field(alloc, &mut copy, key, terms, value)?;
+    *dict = Rc::new(alloc, copy)?;
+    Ok(())
 }
 
 #[cycle(put)]
@@ -164,11 +166,13 @@ fn put_index(
     ensures before { OnErr result (list_seen list.new.value ≡ list_seen list.old.value) }
     ensures kept { IsList list.new.value }
 {
-    lists::own(alloc, list)?;
-    let Some(list) = Rc::get_mut(list) else {
-        return Err(AllocError);
-    };
-    put_item(alloc, list, index, terms, value)
+    if let Some(own) = Rc::get_mut(list) {
+        return put_item(alloc, own, index, terms, value);
+    }
+    let mut copy = lists::copy(alloc, list)?;
+    put_item(alloc, &mut copy, index, terms, value)?;
+    *list = Rc::new(alloc, copy)?;
+    Ok(())
 }
 
 #[cycle(put)]

@@ -54,11 +54,13 @@ fn remove_key(
     ensures before { OnErr result (dict_seen dict.new.value ≡ dict_seen dict.old.value) }
     ensures kept { IsDict dict.new.value }
 {
-    dicts::own(alloc, dict)?;
-    let Some(dict) = Rc::get_mut(dict) else {
-        return Err(AllocError);
-    };
-    remove_field(alloc, dict, key, terms)
+    if let Some(own) = Rc::get_mut(dict) {
+        return remove_field(alloc, own, key, terms);
+    }
+    let mut copy = dicts::copy(alloc, dict)?;
+    remove_field(alloc, &mut copy, key, terms)?;
+    *dict = Rc::new(alloc, copy)?;
+    Ok(())
 }
 
 #[cycle(remove)]
@@ -134,11 +136,13 @@ fn remove_index(
     ensures before { OnErr result (list_seen list.new.value ≡ list_seen list.old.value) }
     ensures kept { IsList list.new.value }
 {
-    lists::own(alloc, list)?;
-    let Some(list) = Rc::get_mut(list) else {
-        return Err(AllocError);
-    };
-    remove_item(alloc, list, index, terms)
+    if let Some(own) = Rc::get_mut(list) {
+        return remove_item(alloc, own, index, terms);
+    }
+    let mut copy = lists::copy(alloc, list)?;
+    remove_item(alloc, &mut copy, index, terms)?;
+    *list = Rc::new(alloc, copy)?;
+    Ok(())
 }
 
 #[cycle(remove)]

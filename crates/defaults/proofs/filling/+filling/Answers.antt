@@ -1,8 +1,11 @@
-use Rattle.std.proofs.Common.{◌≡◌, ◌<◌, OnOk, length, subst, sym, ◌∙◌, rules, arith}
-use Rattle.path_tree.specs.Find.{child_count}
-use Rattle.type_defs.proofs.Shapes.{seen_record}
+use Rattle.std.proofs.Common.{◌≡◌, ◌<◌, OnOk, Some, length, subst, sym, ◌∙◌, rules, arith}
+use Rattle.path_tree.specs.Find.{child_count, key_at}
+use Rattle.type_defs.specs.ResolvedSeen.{field_seen, resolved_seen}
+use Rattle.type_defs.proofs.Shapes.{seen_field, seen_record}
+use Rattle.defaults.specs.Bare.{visits_at}
 use Rattle.defaults.specs.Fills.{meter, target_store}
 use Rattle.defaults.specs.Steps.{IsKnown}
+use Rattle.defaults.proofs.BareTypes.{entry_visited, items_visited, key_visited}
 use Rattle.defaults.proofs.Loops.{fields_stop, values_on}
 use Rattle.defaults.proofs.Replays.{fill_unlogged}
 use Rattle.defaults.proofs.filling.+filling.Goals as goal
@@ -55,3 +58,33 @@ fill_below-forget-requires g t c logged =
     ≡ c.args.target.now.tree)) c.in_ok-fill_term.was grown same in
     subst (λ ps. IsKnown c.args.whole.now ps c.fill_term.new.target.tree) (sym path)
     (subst (IsKnown c.args.whole.now c.args.target.now.path.items) (sym tree) c.requires.known)
+
+-- where a type has no default and no parts, a value is visited alone
+
+pub fill_items-returns-in-Some-clause-fills : goal.fill_items-returns-in-Some-clause-fills
+fill_items-returns-in-Some-clause-fills g t c answers asked =
+    rw (items_visited c.args.place.now (resolved_seen c.args.inner.now)
+    c.args.target.now.path.items c.in-Some.visits c.item_total-count.result c.args.value.now
+    answers (target_store c.args.target.now) (meter c.args.target.now.work asked)
+    c.item_total-count.ensures c.in-Some.ensures c.requires.standing)
+    (c.visit_each.ensures.fills answers asked)
+
+pub fill_entry-returns-in-Some-visits_of-clause-fills :
+    goal.fill_entry-returns-in-Some-visits_of-clause-fills
+fill_entry-returns-in-Some-visits_of-clause-fills g t c answers asked =
+    let at : key_at c.args.i c.args.value.now ≡ Some c.as_str.result.now = search rules in
+    rw (entry_visited c.args.place.now c.as_str.result.now (resolved_seen c.args.inner.now)
+    c.args.whole.now c.in-Some-visits_of.visits c.args.target.now.path.items
+    (key_at c.args.i c.args.value.now) answers (target_store c.args.target.now)
+    (meter c.args.target.now.work asked) at c.in-Some-visits_of.ensures c.requires.known)
+    (c.visit_bare.ensures.fills answers asked)
+
+pub fill_field-returns-in-Some-clause-fills : goal.fill_field-returns-in-Some-clause-fills
+fill_field-returns-in-Some-clause-fills g t c answers asked =
+    let field = field_seen c.args.field.now in
+    let bare : visits_at field.key field.resolved c.args.whole.now ≡ Some c.in-Some.visits =
+    search (rules, seen_field) in
+    rw (key_visited c.args.place.now field.key field.resolved c.args.whole.now c.in-Some.visits
+    c.args.target.now.path.items answers (target_store c.args.target.now)
+    (meter c.args.target.now.work asked) bare c.requires.known)
+    (c.visit_bare.ensures.fills answers asked)

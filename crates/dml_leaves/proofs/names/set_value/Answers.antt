@@ -2,7 +2,27 @@ use Rattle.std.proofs.Common.{arith}
 use Rattle.questions.specs.Told.{only}
 use Rattle.dml_world.specs.Seen.{env, meter}
 use Rattle.dml_leaves.proofs.Stopping.{change_stops, steps_stop}
+use Rattle.dml_leaves.proofs.Whole.{whole_set, whole_stops}
 use Rattle.dml_leaves.proofs.names.set_value.Goals as goal
+
+pub returns-in_err-set_whole-clause-gives : goal.returns-in_err-set_whole-clause-gives
+returns-in_err-set_whole-clause-gives g c = λ keys.
+    let asked = g.W.World.asked c.args.world.now in
+    let stops = whole_stops c.in_err-set_whole.field-0.0 c.args.place.now c.args.name.now
+    c.args.keys.now c.args.value (only keys g.W.World.answers) (env c.args.live.now)
+    (env c.set_whole.new.live) (meter c.args.live.now.work asked)
+    (meter c.set_whole.new.live.work asked) c.in-empty.len_below in
+    grind (arith, stops)
+
+pub returns-in-empty-clause-gives : goal.returns-in-empty-clause-gives
+returns-in-empty-clause-gives g c = λ keys.
+    let asked = g.W.World.asked c.args.world.now in
+    let here = c.in_ok-set_whole.ensures.gives keys in
+    let set = whole_set c.args.place.now c.args.name.now c.args.keys.now c.args.value
+    (only keys g.W.World.answers) (env c.args.live.now) (env c.set_whole.new.live)
+    (meter c.args.live.now.work asked) (meter c.set_whole.new.live.work asked)
+    c.in-empty.len_below in
+    (here.0, λ told. set (here.1 told))
 
 pub returns-in_err-take_steps-clause-gives : goal.returns-in_err-take_steps-clause-gives
 returns-in_err-take_steps-clause-gives g c = λ keys.

@@ -18,7 +18,7 @@ use Rattle.kept_build.specs.Stores.{Keeps}
 use Rattle.kept_build.specs.Rounds.{rows_in}
 use Rattle.kept_build.proofs.Ending.{all_done, unpublished, unsaved, untold}
 use Rattle.kept_build.proofs.Keeping.{here}
-use Rattle.kept_build.proofs.Counting.{failure_on}
+use Rattle.kept_build.proofs.Counting.{failure_on, uncaused_out}
 use Rattle.kept_build.proofs.building.publish_built.Goals as goal
 
 pub returns-in_err-publication-clause-follows : goal.returns-in_err-publication-clause-follows
@@ -54,6 +54,13 @@ returns-in_err-publication-clause-shelf_cause g c =
     failure_on D.Shelf (g.H.Shelf.fault_count c.args.devices.now.devices.shelf)
     (g.H.Shelf.fault_count c.publish.new.shelf) r c.in_err-publication.field-0.0
     (p.1 ∙ ap (λ x. Err x) p.2) c.in_err-publication.ensures.cause
+
+pub returns-in_err-publication-clause-out_cause : goal.returns-in_err-publication-clause-out_cause
+returns-in_err-publication-clause-out_cause g c =
+    let r = c.from_residual.result in
+    let p = err_from_is_err_and r c.from_residual.ensures.1 in
+    uncaused_out r (g.O.Sink.fault_count c.args.devices.now.devices.out)
+    c.in_err-publication.field-0.0 (p.1 ∙ ap (λ x. Err x) p.2) c.in_err-publication.ensures.kind
 
 pub returns-in_err-keep-clause-follows : goal.returns-in_err-keep-clause-follows
 returns-in_err-keep-clause-follows g c =

@@ -32,6 +32,10 @@ pub build_found-requires-clause-shelf_open : goal.build_found-requires-clause-sh
 build_found-requires-clause-shelf_open g c =
     ap (λ s. is_some s.shelf_opened) (c.in_ok-found.ensures.ok (counts 0 0)).scene
 
+pub build_found-requires-clause-store_open : goal.build_found-requires-clause-store_open
+build_found-requires-clause-store_open g c =
+    ap is_some (c.in_ok-found.ensures.ok (counts 0 0)).store_opened
+
 pub build_found-requires-clause-rising : goal.build_found-requires-clause-rising
 build_found-requires-clause-rising g c = (c.in_ok-found.ensures.ok (counts 0 0)).loaded.listed.rise
 

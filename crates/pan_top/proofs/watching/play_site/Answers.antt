@@ -19,7 +19,7 @@ returns-in-Ok g c =
       out = c.args.out.now;
     }) c.args.steps.now in
     all_ended g.R.Runner.meaning (IsReady g.R.Runner.meaning old) (held_by old) (held_by new)
-    c.after.result before _ (store_of g.K.Keeper old.keeper) (store_of g.K.Keeper new.keeper)
+    c.after.result before _ (store_of g.K.Keeper old.carried.keeper) (store_of g.K.Keeper new.carried.keeper)
     c.play.ensures.source_opened c.play.ensures.shelf_opened c.play.ensures.store_opened
     (λ none. ap (store_of g.K.Keeper) (c.play.ensures.unkept none).0) c.in-Ok.ensures.ok
     (c.after.ensures ∙ ap status_after c.ended_by.ensures) c.in-Ok.ensures.lines_cause.done
@@ -36,7 +36,7 @@ returns-in-Err g c =
       out = c.args.out.now;
     }) c.args.steps.now in
     all_halted g.R.Runner.meaning (IsReady g.R.Runner.meaning old) (held_by old) (held_by new)
-    c.close.result before _ (store_of g.K.Keeper old.keeper) (store_of g.K.Keeper new.keeper)
+    c.close.result before _ (store_of g.K.Keeper old.carried.keeper) (store_of g.K.Keeper new.carried.keeper)
     c.play.ensures.source_opened c.play.ensures.shelf_opened c.play.ensures.store_opened
     (λ none. ap (store_of g.K.Keeper) (c.play.ensures.unkept none).0) c.in-Err.end
     (g.O.Sink.held c.play.new.out) c.in-Err.ensures.err c.close.ensures.closes

@@ -1,4 +1,4 @@
-use Rattle.std.proofs.Common.{◌≡◌, ℕ, List, Some, ap, inl, inr, is_some, refl, subst, sym, ◌∙◌}
+use Rattle.std.proofs.Common.{◌≡◌, ℕ, List, ap, inl, inr, is_some, refl, subst, sym}
 use Rattle.engine_session.specs.Standing.{IsBegun, counts}
 use Rattle.kept_build.specs.Builds.{Opens}
 use Rattle.kept_build.specs.Kept.{IsSoundStart, begun_for}
@@ -123,6 +123,10 @@ play_all-requires-clause-source_open g c =
 pub play_all-requires-clause-shelf_open : goal.play_all-requires-clause-shelf_open
 play_all-requires-clause-shelf_open g c =
     ap (λ s. is_some s.shelf_opened) (c.in-Ok.ensures.ok (counts 0 0)).scene
+
+pub play_all-requires-clause-store_open : goal.play_all-requires-clause-store_open
+play_all-requires-clause-store_open g c =
+    ap is_some (c.in-Ok.ensures.ok (counts 0 0)).store_opened
 
 pub play_all-requires-clause-knows : goal.play_all-requires-clause-knows
 play_all-requires-clause-knows g c =

@@ -1,4 +1,4 @@
-use Rattle.std.proofs.Common.{◌≡◌, [], None, ap, inl, inr, refl, subst, sym, ◌∙◌}
+use Rattle.std.proofs.Common.{◌≡◌, [], None, ap, inl, inr, refl, subst}
 use Rattle.engine_session.specs.Compiler.{nothing}
 use Rattle.engine_session.specs.Standing.{IsBegun, counts, IsIn}
 use Rattle.engine_session.proofs.Fits.{begins}

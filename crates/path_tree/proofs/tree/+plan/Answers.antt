@@ -3,7 +3,8 @@ use Rattle.path_tree.proofs.Entries.{item_count_of}
 use Rattle.path_tree.proofs.Plans.{field_added, field_changed, item_added, item_changed, found_within, item_within, past_end}
 use Rattle.path_tree.proofs.tree.+plan.Goals as goal
 
-pub planning::plan_field-grown-requires-in-Some-clause-before : goal.planning::plan_field-grown-requires-in-Some-clause-before
+pub planning::plan_field-grown-requires-in-Some-clause-before
+    : goal.planning::plan_field-grown-requires-in-Some-clause-before
 planning::plan_field-grown-requires-in-Some-clause-before t c =
     omega (
       arith,
@@ -27,7 +28,8 @@ pub planning::plan_item-overflow_sub-filled : goal.planning::plan_item-overflow_
 planning::plan_item-overflow_sub-filled t c =
     past_end c.args.index c.args.items.now c.in-None.ensures
 
-pub planning::plan_item-grown-requires-in-Some-clause-before : goal.planning::plan_item-grown-requires-in-Some-clause-before
+pub planning::plan_item-grown-requires-in-Some-clause-before
+    : goal.planning::plan_item-grown-requires-in-Some-clause-before
 planning::plan_item-grown-requires-in-Some-clause-before t c =
     omega (
       arith,

@@ -97,7 +97,7 @@ returns-clause-went g c = λ ready dirs limits s start at.
     built_whole g.R.Runner.meaning dirs limits s (spot_of g.R.Runner g.S.Source g.H.Shelf g.K.Keeper
     c.args.site.now c.args.steps.now) c.take_next.new.works.engine.core settled _ _ _ _
     (turns_left_of c.take_next.new.works.engine.core) start _ _ (held_of g.H.Shelf g.K.Keeper
-    c.publish_built.new.shelf c.publish_built.new.keeper c.publish_built.new.rows) _
+    c.publish_built.new.shelf c.publish_built.new.carried.keeper c.publish_built.new.carried.rows) _
     c.publish_built.new.text.items at t c.take_next.ensures.count.later refl made
     (c.in_ok-has_faults.ensures.done (c.make_all_turns.ensures.faithful
     (c.in_ok-take_next.ensures.begun ready.begun c.in-Taken.is))) sound forgot

@@ -35,7 +35,7 @@ returns-in_err-announced-clause-left g c = λ faithful.
     on_err c.from_residual.result (stopped_announcing (machine_in g.R.Runner.meaning core) (rows_by
     core.dirs core.limits (compiled_in core)) (compiled_in core) c.args.publisher.now (shelved
     g.H.Shelf c.args.shelf.now) (shelved g.H.Shelf c.announce.new.shelf) (stocked g.K.Keeper
-    c.args.keeper.now c.args.rows.now) (c.in_err-announced.ensures.left faithful))
+    c.args.carried.now.keeper c.args.carried.now.rows) (c.in_err-announced.ensures.left faithful))
 
 pub returns-in_err-saving-clause-left : goal.returns-in_err-saving-clause-left
 returns-in_err-saving-clause-left g c = λ faithful.

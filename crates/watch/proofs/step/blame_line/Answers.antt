@@ -1,4 +1,4 @@
-use Rattle.std.proofs.Common.{◌≡◌, false, rules, subst, sym, true, codes, ◌∙◌}
+use Rattle.std.proofs.Common.{◌≡◌, rules, subst, true, codes, ◌∙◌}
 use Rattle.engine_session.specs.Compiler.{compiler}
 use Rattle.engine_session.specs.Standing.{counts}
 use Rattle.publication.proofs.Planning.{on_err}

@@ -241,16 +241,16 @@ pub returns-in-Scan-clause-behind : goal.returns-in-Scan-clause-behind
 returns-in-Scan-clause-behind g c =
     let e = c.scan_line.ensures in
     behind_scan g.S.Source g.H.Shelf g.K.Keeper c.scan_line.result c.args.site.now
-    c.scan_line.new.site c.requires.knows e.shelf e.publisher e.keeper e.rows e.later
+    c.scan_line.new.site c.requires.knows e.shelf e.publisher e.carried e.later
 
 pub returns-in-Turns-clause-behind : goal.returns-in-Turns-clause-behind
 returns-in-Turns-clause-behind g c =
     let e = c.turn_line.ensures in
     behind_still g.S.Source g.H.Shelf g.K.Keeper c.turn_line.result c.args.site.now
-    c.turn_line.new.site c.requires.knows e.shelf e.publisher e.keeper e.rows e.source
+    c.turn_line.new.site c.requires.knows e.shelf e.publisher e.carried e.source
 
 pub returns-in-Blame-clause-behind : goal.returns-in-Blame-clause-behind
 returns-in-Blame-clause-behind g c =
     let e = c.blame_line.ensures in
     behind_still g.S.Source g.H.Shelf g.K.Keeper c.blame_line.result c.args.site.now
-    c.blame_line.new.site c.requires.knows e.shelf e.publisher e.keeper e.rows e.source
+    c.blame_line.new.site c.requires.knows e.shelf e.publisher e.carried e.source

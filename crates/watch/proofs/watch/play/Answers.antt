@@ -3,6 +3,7 @@ use Rattle.engine_session.specs.Compiler.{compiler}
 use Rattle.outside.specs.Contents.{Appends}
 use Rattle.outside.specs.Lines.{NextLine}
 use Rattle.watch.proofs.Playing.{one_more, none_yet}
+use Rattle.watch.proofs.Rows.{may_keep_on}
 use Rattle.watch.proofs.Stopping.{broken, caused_behind, ends_in, stopped_lines, stopped_out}
 use Rattle.watch.specs.declared.ends.End.TheVariants as ends
 use Rattle.watch.specs.declared.step.Step.TheVariants as step
@@ -23,6 +24,11 @@ loop-i-init g c = record {
       limits) dirs) g.R.Runner.meaning dirs limits e ps names (g.N.Lines.left c.args.lines.now)
       (g.O.Sink.held c.args.out.now) _ refl begins;
 }
+
+pub work_on-requires-clause-store_open : goal.work_on-requires-clause-store_open
+work_on-requires-clause-store_open g c =
+    may_keep_on g.K.Keeper c.args.site.now.carried c.loop-i.site.carried c.requires.store_open
+    c.loop-i.invariant.unkept c.loop-i.invariant.store_opened
 
 pub returns-in-Ok-false-clause-ok : goal.returns-in-Ok-false-clause-ok
 returns-in-Ok-false-clause-ok g c =

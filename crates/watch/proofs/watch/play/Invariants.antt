@@ -11,8 +11,8 @@ invariant-loop-i g l = record {
   out : g.O.Sink.fault_count l.out ≡ g.O.Sink.fault_count l.fn.out;
   source_opened : g.S.Source.opened l.site.source ≡ g.S.Source.opened l.fn.site.source;
   shelf_opened : g.H.Shelf.opened l.site.shelf ≡ g.H.Shelf.opened l.fn.site.shelf;
-  store_opened : g.K.Keeper.opened l.site.keeper ≡ g.K.Keeper.opened l.fn.site.keeper;
-  unkept : LeavesUnkept l.fn.site.keeper l.site.keeper l.fn.site.rows l.site.rows;
+  store_opened : g.K.Keeper.opened l.site.carried.keeper ≡ g.K.Keeper.opened l.fn.site.carried.keeper;
+  unkept : LeavesUnkept l.fn.site.carried l.site.carried;
   ready : IsReady g.R.Runner.meaning l.fn.site → IsReady g.R.Runner.meaning l.site;
   played : IsReady g.R.Runner.meaning l.fn.site → Plays g.R.Runner.meaning (reel (g.N.Lines.left
       l.fn.lines) (g.N.Lines.left l.lines) (g.O.Sink.held l.fn.out) (g.O.Sink.held l.out)) (begun

@@ -4,7 +4,7 @@ use Rattle.rebuild.specs.Answers.{fault, pending, no_object}
 use Rattle.rebuild.specs.Engines.{objects_of}
 use Rattle.session.specs.declared.Shown.TheVariants.{Settled}
 use Rattle.engine_session.proofs.Said.{dep_at, shown_read, shown_else, unread}
-use Rattle.engine_session.proofs.answering.shown.Goals as goal
+use Rattle.engine_session.proofs.answering.shown_by.Goals as goal
 
 -- a faithful engine has read what a profile is made of
 pub returns-in_default : goal.returns-in_default
@@ -14,12 +14,12 @@ returns-in_default g c = λ f. absurd (
     c.args.name.now c.in-Profile.tree.now (c.in-Profile.ensures.scratch f.sound)
     c.in_default.ensures.exact)
 
-pub returns-in_ok-profile_outcome-in-Profile : goal.returns-in_ok-profile_outcome-in-Profile
-returns-in_ok-profile_outcome-in-Profile g c = λ f.
+pub returns-in_ok-outcome-in-Profile : goal.returns-in_ok-outcome-in-Profile
+returns-in_ok-outcome-in-Profile g c = λ f.
     let engine = c.args.works.now.engine in
     shown_read g.R.Runner.meaning engine.core f.kept g.met.R.Runner.laws engine.ready
     f.sound.reached c.args.name.now _ c.in-Profile.tree.now (pairs_of c.in-Some.reads.build.now)
-    (pairs_of c.in-Some.reads.check.now) c.in_ok-profile_outcome-in-Profile.ensures
+    (pairs_of c.in-Some.reads.check.now) c.in_ok-outcome-in-Profile.ensures
     (c.in-Profile.ensures.scratch f.sound) c.in-Some.ensures.exact
 
 pub returns-in_ok-fault_outcome-in-Fault : goal.returns-in_ok-fault_outcome-in-Fault

@@ -3,7 +3,7 @@ use Rattle.object_names.specs.Objects.{are_rising}
 use Rattle.publication.specs.Wants.{proper, wants_of}
 use Rattle.rebuild.proofs.Engines.{ready_is}
 use Rattle.engine_session.proofs.Proper.{wants_proper}
-use Rattle.engine_session.proofs.building.build.Goals as goal
+use Rattle.engine_session.proofs.building.build_again.Goals as goal
 
 pub returns-clause-proper : goal.returns-clause-proper
 returns-clause-proper g c =
