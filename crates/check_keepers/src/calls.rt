@@ -1,4 +1,4 @@
-ghost use Rattle.std.specs.Prelude.{◌≡◌, IsSome, None};
+ghost use Rattle.std.specs.Prelude.{◌≡◌, IsSome, None, OnOk};
 
 use anyhow::{Result, anyhow};
 use base::{Bytes, Text};
@@ -64,6 +64,27 @@ pub(crate) fn letters<K: Keeper>(alloc: Global, keeper: &mut K) -> Result<String
         text.push_str("nothing")?;
     }
     Ok(text)
+}
+
+/// Opens a keeper, and tells the letters that it holds.
+pub(crate) fn opened_letters<K: Keeper>(alloc: Global, keeper: &mut K) -> Result<String>
+    requires closed { K.opened keeper.old ≡ None }
+{
+    if keeper.open_store("rows.db").is_err() {
+        return Err(anyhow!("not opened again"));
+    }
+    letters(alloc, keeper)
+}
+
+/// Opens a keeper, and sets the rows a and b.
+pub(crate) fn fill<K: Keeper>(alloc: Global, keeper: &mut K, file: &str) -> Result<()>
+    requires closed { K.opened keeper.old ≡ None }
+    ensures opened { OnOk result (IsSome (K.opened keeper.new)) }
+{
+    if keeper.open_store(file).is_err() || replace(alloc, keeper, "", "ab")?.is_err() {
+        return Err(anyhow!("not made"));
+    }
+    Ok(())
 }
 
 /// What a call answered.

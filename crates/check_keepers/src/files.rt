@@ -1,4 +1,4 @@
-use crate::calls::{letters, print_calls, replace, word};
+use crate::calls::{fill, letters, print_calls, replace, word};
 use anyhow::{Result, anyhow};
 use host_keeper::HostKeeper;
 use keepers::Keeper;
@@ -60,9 +60,7 @@ fn print_bad(rt: &HostRuntime, what: &str, file: &str) -> Result<()> {
 /// Makes a file that holds the rows a and b, and gives the keeper that has it open.
 fn made(rt: &HostRuntime, file: &str) -> Result<HostKeeper> {
     let mut keeper = HostKeeper::new(rt.clone()?);
-    if keeper.open_store(file).is_err() || replace(rt.alloc(), &mut keeper, "", "ab")?.is_err() {
-        return Err(anyhow!("not made"));
-    }
+    fill(rt.alloc(), &mut keeper, file)?;
     Ok(keeper)
 }
 
@@ -79,7 +77,8 @@ fn print_read_only(rt: &HostRuntime) -> Result<()> {
 
 /// Opens a store that is open elsewhere, of which the one who has it goes on.
 fn print_held(rt: &HostRuntime) -> Result<()> {
-    let mut keeper = made(rt, "held.db")?;
+    let mut keeper = HostKeeper::new(rt.clone()?);
+    fill(rt.alloc(), &mut keeper, "held.db")?;
     print_bad(rt, "a store that is open elsewhere", "held.db")?;
     let done = word(replace(rt.alloc(), &mut keeper, "a", "c")?);
     println!(rt;

@@ -1,6 +1,6 @@
 ghost use Rattle.std.specs.Prelude.{◌≡◌, None};
 
-use crate::calls::{letters, replace};
+use crate::calls::{opened_letters, replace};
 use anyhow::{Result, anyhow};
 use keepers::Keeper;
 use sqlite::{Connection, FileStore, Files, Options};
@@ -72,10 +72,7 @@ fn found(alloc: Global, mut files: Files<Disk>) -> Result<String> {
     match Connection::open_files(alloc, files, Options::new(1)) {
         Ok(connection) => {
             let mut keeper = SqliteKeeper::adopt(alloc, connection);
-            if keeper.open_store("rows.db").is_err() {
-                return Err(anyhow!("not opened again"));
-            }
-            letters(alloc, &mut keeper)
+            opened_letters(alloc, &mut keeper)
         }
         Err(_) => Err(anyhow!("no database")),
     }
