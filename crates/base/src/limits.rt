@@ -1,5 +1,9 @@
-//! The limits of the language and of the program, each named once. Clauses and definitions cite
-//! these names.
+//! The limits that many crates share, each named once. Clauses and definitions cite these names.
+//! Limits of one subject stand with it: of the work of a run in `asking` and `dml_meaning`, of load
+//! paths in `template_meaning`, of types in `type_defs`, of forms and patterns in `builtins_text`
+//! and `builtins_patterns`, of command lines in `command_words`, of a watcher in `session` and
+//! `watch`, of what is kept in `kept_state`, of what is reported in `outside`, `fault_notes` and
+//! `wanted_types`.
 
 /// Bytes of a file that is read.
 pub const MAX_FILE_BYTES: usize = 1_000_000;

@@ -1,11 +1,11 @@
 -- The row of `dict`.
 use Rattle.std.specs.Prelude.{Bool, true, false, not, ◌&&◌, List, [], ◌∷◌, Result, Err, is_some, unwrap_or, if◌then◌else◌}
 use Rattle.std.specs.List.{list_all}
-use Rattle.path_tree.specs.Find.{find_field, text_of}
+use Rattle.path_tree.specs.Dicts.{put_new_field}
+use Rattle.path_tree.specs.Find.{text_of}
 use Rattle.path_tree.specs.Grammar.{is_key}
 use Rattle.path_tree.specs.Lists.{is_null, within_limits}
 use Rattle.path_tree.specs.Plain.{Plain, dict, Fields, no_fields}
-use Rattle.path_tree.specs.Put.{put_field}
 use Rattle.path_tree.specs.declared.refused.Refused.{Refused}
 use Rattle.path_tree.specs.declared.refused.Refused.TheVariants.{BadArgument, BadIndex}
 use Rattle.builtins_tree.specs.declared.pairs.Pair.{Pair}
@@ -27,8 +27,7 @@ has_key pair = is_key pair.key
 
 -- a pair is put where its key is not there
 abbrev pub put_new : Pair → Fields → Fields
-put_new pair fs =
-    if is_some (find_field pair.key fs) then fs else put_field pair.key pair.value fs
+put_new pair fs = put_new_field pair.key pair.value fs
 
 -- the fields of pairs: each is put where no later one has its key
 abbrev pub fields_of_pairs : List Pair → Fields

@@ -1,17 +1,15 @@
-ghost use Rattle.std.specs.Prelude.{◌≡◌, ◌≢◌, true, false, None};
+ghost use Rattle.std.specs.Prelude.{◌≡◌, ◌≢◌, true, false};
 ghost use Rattle.std.specs.List.{list_all};
 ghost use Rattle.base.specs.Answers.{Gives};
 ghost use Rattle.builtins_tree.specs.Dicts.{dict_of_pairs, put_new};
 ghost use Rattle.builtins_tree.specs.Merges.{dict_in_turn};
 ghost use Rattle.builtins_tree.specs.Pairs.{has_value};
-ghost use Rattle.path_tree.specs.Find.{find_field};
 ghost use Rattle.path_tree.specs.Lists.{is_too_large, within_limits};
 ghost use Rattle.path_tree.specs.Plain.{Fields};
 ghost use Rattle.path_tree.specs.Plain as plain;
-ghost use Rattle.path_tree.specs.Put.{put_field};
 ghost use Rattle.path_tree.specs.Refusals.{refusal};
 
-use path_tree::{Key, PutError, Refused, Term, Tree};
+use path_tree::{Key, Refused, Tree};
 use std::alloc::Global;
 
 /// A key and its value.
@@ -61,23 +59,5 @@ fn put_new(alloc: Global, dict: &mut Tree, pair: &Pair) -> Result<(), Refused>
     ensures { (fs : Fields) → dict.old ≡ plain.dict fs → Gives (λ _. dict.new) refusal result
         (within_limits (plain.dict (put_new pair.now fs))) }
 {
-    if dict.field(pair.key.as_str()).is_some() {
-        return Ok(());
-    }
-    put_pair(alloc, dict, pair)
-}
-
-/// Puts a pair whose key is not there.
-fn put_pair(alloc: Global, dict: &mut Tree, pair: &Pair) -> Result<(), Refused>
-    requires value { pair.now.value ≢ plain.null }
-    ensures { (fs : Fields) → dict.old ≡ plain.dict fs → find_field pair.now.key fs ≡ None
-        → Gives (λ _. dict.new) refusal result
-        (within_limits (plain.dict (put_field pair.now.key pair.now.value fs))) }
-{
-    let term = Term::Key(pair.key.share()?);
-    match dict.put(alloc, &[term], pair.value.copy()?) {
-        Ok(()) => Ok(()),
-        Err(PutError::Memory) => Err(Refused::Memory),
-        Err(_) => Err(Refused::TooLarge),
-    }
+    dict.put_new(alloc, &pair.key, &pair.value)
 }

@@ -4,7 +4,8 @@ use Rattle.command_words.specs.Commands.{limit_of, bound_of, directories_of, num
 use Rattle.command_words.specs.declared.commands.Command.TheVariants.{Build, Watch}
 use Rattle.command_words.specs.declared.commands.Work.{Work}
 use Rattle.command_words.specs.declared.words.Words.{Words}
-use Rattle.command_words.specs.declared.limits.TheConstants.{MAX_ITERATIONS, DEFAULT_ITERATIONS, MAX_RECURSION, DEFAULT_RECURSION, MAX_MOST_REMOVED, MAX_MACHINES, MAX_START}
+use Rattle.load_path.specs.declared.limits.TheConstants.{MAX_ITERATIONS, DEFAULT_ITERATIONS, MAX_RECURSION, DEFAULT_RECURSION}
+use Rattle.command_words.specs.declared.limits.TheConstants.{MAX_MOST_REMOVED, MAX_MACHINES, MAX_START}
 
 abbrev recursion : List ℕ → Option ℕ
 recursion text = limit_of MAX_RECURSION DEFAULT_RECURSION (Some text)

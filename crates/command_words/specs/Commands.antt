@@ -10,7 +10,8 @@ use Rattle.command_words.specs.declared.commands.Demonstration.{Demonstration}
 use Rattle.command_words.specs.declared.commands.Limits.{Limits}
 use Rattle.command_words.specs.declared.commands.Pair.{Pair}
 use Rattle.command_words.specs.declared.commands.Work.{Work}
-use Rattle.command_words.specs.declared.limits.TheConstants.{MAX_PARTS, MAX_ITERATIONS, DEFAULT_ITERATIONS, MAX_RECURSION, DEFAULT_RECURSION, MAX_MOST_REMOVED, MAX_MACHINES, MAX_START}
+use Rattle.load_path.specs.declared.limits.TheConstants.{MAX_PARTS, MAX_ITERATIONS, DEFAULT_ITERATIONS, MAX_RECURSION, DEFAULT_RECURSION}
+use Rattle.command_words.specs.declared.limits.TheConstants.{MAX_MOST_REMOVED, MAX_MACHINES, MAX_START}
 use Rattle.command_words.specs.declared.words.Words.{Words}
 
 -- a number in decimal digits without a leading zero, from low to high

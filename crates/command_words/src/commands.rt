@@ -4,14 +4,14 @@ ghost use Rattle.std.specs.List.{list_all};
 ghost use Rattle.base.specs.Integers.{digits_value};
 ghost use Rattle.command_words.specs.Commands.{number_within, number_given, limit_of, bound_of, is_part, directory_of, parts_of, are_parts, directories_among, directories_of, filled, within, limits_given, state_given, work_of, demonstration_of, pair_with, has_option, pair_of, is_word, command_by, command_of};
 
-use crate::limits::{
-    DEFAULT_ITERATIONS, DEFAULT_RECURSION, MAX_ITERATIONS, MAX_MACHINES, MAX_MOST_REMOVED,
-    MAX_PARTS, MAX_RECURSION, MAX_START,
-};
+use crate::limits::{MAX_MACHINES, MAX_MOST_REMOVED, MAX_START};
 use crate::words::{Words, read};
 use base::ascii::digit_value;
 use base::{Seq, Text};
 use load_path::is_file_name;
+use load_path::limits::{
+    DEFAULT_ITERATIONS, DEFAULT_RECURSION, MAX_ITERATIONS, MAX_PARTS, MAX_RECURSION,
+};
 use numbers::number_of;
 use std::alloc::{AllocError, Global};
 

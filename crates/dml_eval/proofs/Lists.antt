@@ -1,5 +1,5 @@
 -- Lists that are walked, a step at a time.
-use Rattle.std.proofs.Common.{◌≡◌, ◌∙◌, ap, sym, ℕ, zero, suc, ◌+◌, ◌-◌, ◌<◌, ◌≤◌, List, [], ◌∷◌, ◌++◌, length, drop, get_or, refl, arith, unwrap_or, pos}
+use Rattle.std.proofs.Common.{◌≡◌, ◌∙◌, ap, sym, ℕ, zero, suc, ◌+◌, ◌-◌, ◌<◌, ◌≤◌, List, [], ◌∷◌, ◌++◌, None, length, drop, get_or, refl, arith, unwrap_or, pos}
 use Rattle.std.proofs.lemmas.List.{drop_more}
 use Rattle.path_tree.specs.Plain.{Plain, dict, list, text, long, boolean, undef, null, Items as Trees, no_items, item, Fields, no_fields, field}
 use Rattle.path_tree.specs.Find.{child_count, item_count, field_count, item_at}
@@ -8,10 +8,12 @@ use Rattle.pan_ast.specs.declared.syntax.Item.{Item as RItem}
 use Rattle.pan_ast.specs.Syntax.{Item, none}
 use Rattle.pan_ast.specs.Seen.{item_seen, items_seen}
 use Rattle.questions.specs.Contents.{Answers}
-use Rattle.questions.specs.Run.{Meter, Done, then}
+use Rattle.questions.specs.Run.{Meter, Done, give, then}
 use Rattle.dml_meaning.specs.Run.{Env}
 use Rattle.dml_meaning.specs.Around.{Around}
-use Rattle.dml_meaning.specs.Meaning.{Means, block_from, values_from, while_turn, while_turns, for_turn, for_turns, after_turn, pairs_of, pairs_of_items, pairs_of_fields, pair_at, pair_turn, pair_turns}
+use Rattle.dml_meaning.specs.Means.{Means}
+use Rattle.dml_meaning.specs.References.{block_from, values_from}
+use Rattle.dml_meaning.specs.Loops.{while_turn, while_turns, for_turn, for_turns, after_turn, pairs_of, pairs_of_items, pairs_of_fields, pair_at, pair_turn, pair_turns}
 
 -- the item at i, and those after it
 pub block_more : (go : Means) (a : Around) (is : List RItem) (i : ℕ) (x : RItem) (last : Plain)
@@ -51,6 +53,15 @@ unfolding while_turns
 while_more zero go a p c b last o e m h = absurd (omega arith)
 while_more (suc n) go a p c b last o e m h = let k : suc n - 1 ≡ n = omega arith in rw k refl
 
+-- a turn that finds the loop over
+pub while_over : (n : ℕ) (go : Means) (a : Around) (p : Place) (c b : Item) (last : Plain)
+    (o : Answers) (e s : Env) (m k : Meter) → while_turn n go a p c b o e m ≡ Done None s k
+    → while_turns n go a p c b last o e m ≡ Done last s k
+unfolding while_turns
+while_over zero go a p c b last o e s m k h = ap (λ z. then z (λ t. after_turn give last t o)) h
+while_over (suc n) go a p c b last o e s m k h =
+    ap (λ z. then z (λ t. after_turn (while_turns n go a p c b) last t o)) h
+
 pub for_more : (n : ℕ) (go : Means) (a : Around) (p : Place) (c s b : Item) (last : Plain)
     (o : Answers) (e : Env) (m : Meter) → 0 < n → for_turns n go a p c s b last o e m
     ≡ then (for_turn n go a p c s b o e m) (λ t. after_turn (for_turns (n - 1) go a p c s b) last t
@@ -58,6 +69,14 @@ pub for_more : (n : ℕ) (go : Means) (a : Around) (p : Place) (c s b : Item) (l
 unfolding for_turns
 for_more zero go a p c s b last o e m h = absurd (omega arith)
 for_more (suc n) go a p c s b last o e m h = let k : suc n - 1 ≡ n = omega arith in rw k refl
+
+pub for_over : (n : ℕ) (go : Means) (a : Around) (p : Place) (c s b : Item) (last : Plain)
+    (o : Answers) (e f : Env) (m k : Meter) → for_turn n go a p c s b o e m ≡ Done None f k
+    → for_turns n go a p c s b last o e m ≡ Done last f k
+unfolding for_turns
+for_over zero go a p c s b last o e f m k h = ap (λ z. then z (λ t. after_turn give last t o)) h
+for_over (suc n) go a p c s b last o e f m k h =
+    ap (λ z. then z (λ t. after_turn (for_turns n go a p c s b) last t o)) h
 
 -- the child at a place, and those after it
 pairs_fields : (fs : Fields) (i : ℕ) → i < field_count fs → drop i (pairs_of_fields fs)

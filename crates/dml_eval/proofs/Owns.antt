@@ -18,7 +18,11 @@ use Rattle.dml_meaning.specs.declared.words.Test.{Test}
 use Rattle.dml_meaning.specs.Run.{Env}
 use Rattle.dml_meaning.specs.Around.{Around, in_include, in_template}
 use Rattle.dml_meaning.specs.Lookups.{structure_named}
-use Rattle.dml_meaning.specs.Meaning.{Means, ToRead, ToDelete, reference_in, value_or_nothing, test_run, exists_by, delete_by, delete_reached, on_text, path_exists_run, is_changed, copy_extended, reference_extended, extend_by, own_values_run, own_call_run, Includes, assign_by, statement_run, begin_statement, statements_from, included}
+use Rattle.dml_meaning.specs.Means.{Means, ToRead, ToDelete}
+use Rattle.dml_meaning.specs.Leaves.{on_text}
+use Rattle.dml_meaning.specs.References.{reference_in}
+use Rattle.dml_meaning.specs.Structures.{Includes, assign_by, statement_run, begin_statement, statements_from, included}
+use Rattle.dml_meaning.specs.BuiltIns.{value_or_nothing, test_run, exists_by, delete_by, delete_reached, path_exists_run, is_changed, copy_extended, reference_extended, extend_by, own_values_run, own_call_run}
 use Rattle.dml_world.specs.declared.stop.Exit.{Exit}
 use Rattle.dml_world.specs.Exits.{Comes}
 use Rattle.dml_leaves.specs.References.{is_lone, is_pair}

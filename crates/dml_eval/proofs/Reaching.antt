@@ -10,7 +10,8 @@ use Rattle.questions.specs.Contents.{Answers}
 use Rattle.questions.specs.Run.{Meter, Done, then, ◌>>=◌}
 use Rattle.dml_meaning.specs.Run.{Env}
 use Rattle.dml_meaning.specs.Around.{Around}
-use Rattle.dml_meaning.specs.Meaning.{Means, index_step, reach_from}
+use Rattle.dml_meaning.specs.Means.{Means}
+use Rattle.dml_meaning.specs.References.{index_step, reach_from}
 use Rattle.dml_leaves.specs.References.{indexes_back}
 use Rattle.dml_leaves.proofs.Indexed.{back_more}
 

@@ -29,7 +29,13 @@ use Rattle.dml_meaning.specs.Run.{Env, Run}
 use Rattle.dml_meaning.specs.Around.{Around, in_create, in_include, in_template}
 use Rattle.dml_meaning.specs.Laws.{IsReading}
 use Rattle.dml_meaning.specs.Lookups.{structure_named}
-use Rattle.dml_meaning.specs.Meaning.{Purpose, ToChange, Reached, after_turn, and_step, apply_binary, apply_boolean, apply_unary, assign_by, assign_value, assignment_run, begin_statement, block_from, body_turn, both, condition_run, copy_extended, created, delete_by, dml_run, either, eval, exists_by, extend_list, extend_reached, for_turn, for_turns, include_value, included, index_step, is_change, node_run, on_text, pair_turn, path_exists_run, reach_from, reach_run, reference_extended, reference_in, relative_terms, second_run, set_pair, set_run, set_value, spine_run, started, statement_run, statements_from, step_run, steps_run, value_or_nothing, values_from, while_turn, while_turns}
+use Rattle.dml_meaning.specs.Means.{Purpose, ToChange, Reached}
+use Rattle.dml_meaning.specs.Leaves.{apply_binary, apply_boolean, apply_unary, both, either, on_text}
+use Rattle.dml_meaning.specs.References.{block_from, index_step, is_change, reach_from, reach_run, reference_in, started, values_from}
+use Rattle.dml_meaning.specs.Loops.{after_turn, and_step, body_turn, condition_run, for_turn, for_turns, pair_turn, set_pair, while_turn, while_turns}
+use Rattle.dml_meaning.specs.Structures.{assign_by, assign_value, assignment_run, begin_statement, created, dml_run, include_value, included, relative_terms, statement_run, statements_from}
+use Rattle.dml_meaning.specs.BuiltIns.{copy_extended, delete_by, exists_by, extend_list, extend_reached, path_exists_run, reference_extended, value_or_nothing}
+use Rattle.dml_meaning.specs.Meaning.{eval, node_run, second_run, set_run, set_value, spine_run, step_run, steps_run}
 use Rattle.dml_meaning.proofs.Leaves.{LawfulMeans, pieces}
 use Rattle.dml_meaning.proofs.Values.{apply_binary_lawful, apply_unary_lawful, set_value_lawful, text_lawful}
 use Rattle.dml_meaning.proofs.Create.{assign_value_lawful, include_lawful, included_lawful}

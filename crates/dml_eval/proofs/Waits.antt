@@ -15,7 +15,8 @@ use Rattle.pan_ast.specs.declared.place.Place.{Place}
 use Rattle.pan_ast.specs.Seen.{step_seen}
 use Rattle.pan_ast.specs.Syntax.{Step}
 use Rattle.dml_meaning.specs.Laws.{IsReading}
-use Rattle.dml_meaning.specs.Meaning.{Means, eval, step_run, steps_run}
+use Rattle.dml_meaning.specs.Means.{Means}
+use Rattle.dml_meaning.specs.Meaning.{eval, step_run, steps_run}
 use Rattle.dml_meaning.proofs.Leaves.{Fits, LawfulMeans, pieces}
 use Rattle.dml_meaning.proofs.Values.{apply_binary_lawful, apply_boolean_lawful}
 use Rattle.dml_meaning.proofs.Items.{node_lawful, step_lawful, chain_lawful, eval_lawful}
@@ -123,7 +124,8 @@ module _ (a : Around) (w : IsReading a.reading) (n : ℕ) where
   resumed_ends answers ws (exit.Need q) e m o p h k =
       sym k ∙ ap (resumed (eval n) a answers ws) h ∙ resumed_asks (eval n) a answers ws _ m
   resumed_ends answers ws (exit.Return t) e m o p h k =
-      sym k ∙ ap (resumed (eval n) a answers ws) h ∙ resumed_returned (eval n) a answers ws t e m
+      sym k ∙ ap (resumed (eval n) a answers ws) h
+      ∙ resumed_returned (eval n) a answers ws t.value e m
 
 pub weight_more : (ws : List Waiting) (w : Waiting) → waits_weight (ws ++ w ∷ [])
     ≡ waits_weight ws + waiting_weight w

@@ -1,1 +1,2 @@
+pub mod Heres
 pub mod Waits

@@ -4,15 +4,17 @@ use Rattle.path_tree.specs.Plain.{Plain}
 use Rattle.pan_ast.specs.declared.place.Place.{Place}
 use Rattle.pan_ast.specs.Syntax.{Step}
 use Rattle.pan_ast.specs.Seen.{node_seen, step_seen}
-use Rattle.questions.specs.declared.key.Key.{Key}
 use Rattle.questions.specs.Contents.{Answers}
-use Rattle.questions.specs.Run.{Outcome, then, ◌>>=◌, give}
+use Rattle.questions.specs.Run.{Meter, Outcome, then, ◌>>=◌, give}
 use Rattle.questions.specs.Told.{ToldEnough}
 use Rattle.dml_meaning.specs.Run.{Env, Run}
 use Rattle.dml_meaning.specs.Around.{Around}
-use Rattle.dml_meaning.specs.Meaning.{Means, spine_run, step_run, steps_run, apply_binary, apply_boolean}
+use Rattle.dml_meaning.specs.Means.{Means}
+use Rattle.dml_meaning.specs.Leaves.{apply_binary, apply_boolean}
+use Rattle.dml_meaning.specs.Meaning.{spine_run, step_run, steps_run}
 use Rattle.dml_world.specs.declared.stop.Exit.{Exit}
-use Rattle.dml_world.specs.declared.frame.Live.{Live}
+use Rattle.dml_world.specs.declared.evaluation.Evaluation.{Evaluation}
+use Rattle.dml_world.specs.declared.world.World as world
 use Rattle.dml_leaves.specs.Weights.{node_weight, step_weight, steps_weight}
 use Rattle.dml_eval.specs.declared.nodes.Operand.{Operand}
 use Rattle.dml_eval.specs.declared.nodes.Operand.TheVariants as operand
@@ -22,7 +24,7 @@ use Rattle.dml_eval.specs.declared.chains.Role.TheVariants as role
 use Rattle.dml_eval.specs.declared.chains.Waiting.{Waiting}
 use Rattle.dml_eval.specs.declared.chains.Turn.{Turn}
 use Rattle.dml_eval.specs.declared.chains.Turn.TheVariants as turn
-use Rattle.dml_world.specs.Seen.{env, meter}
+use Rattle.dml_world.specs.Evaluations.{env_of, meter_of}
 use Rattle.dml_world.specs.Exits.{Ends}
 
 -- What each means.
@@ -62,16 +64,18 @@ resumed go a answers (w ∷ ws) o =
     then (resumed go a answers ws o) (λ t. resume go a w t answers)
 
 -- a run comes to what a function left, as it goes on, or ends as the function did
-abbrev pub GoesOn : {X : Type 0} → (X → Run Plain) → Result X Exit → Answers → Live → List Key
+abbrev pub GoesOn : {X : Type 0} → (X → Run Plain) → Result X Exit → Answers → Env → Meter
     → Outcome Env Plain → Type 0
-GoesOn left (Ok x) told after new o = o ≡ left x told (env after) (meter after.work new)
-GoesOn left (Err x) told after new o = Ends x (env after) (meter after.work new) o
+GoesOn left (Ok x) told e m o = o ≡ left x told e m
+GoesOn left (Err x) told e m o = Ends x e m o
 
--- told the answers, from what stood there and the keys asked, to what stands there then
-abbrev pub Leads : {X : Type 0} → (X → Run Plain) → Result X Exit → Answers → Live → List Key
-    → Live → List Key → Run Plain → Type 0
-Leads left r answers before old after new run = ToldEnough answers old new (λ told.
-    GoesOn left r told after new (run told (env before) (meter before.work old)))
+-- told the world's answers, from what stood there and was asked to what stands there and was asked
+-- then
+abbrev pub Leads : {W C L X : Type 0} → (X → Run Plain) → Result X Exit → world.Ghosts W C
+    → Evaluation W L → Evaluation W L → Run Plain → Type 0
+Leads left r M before after run = ToldEnough M.answers (M.asked before.world.now)
+    (M.asked after.world.now) (λ told. GoesOn left r told (env_of after) (meter_of M after)
+    (run told (env_of before) (meter_of M before)))
 
 -- How many turns are left at most.
 

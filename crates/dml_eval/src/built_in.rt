@@ -1,14 +1,16 @@
 ghost use Rattle.std.specs.Prelude.{◌≡◌, ◌+◌};
-ghost use Rattle.dml_world.specs.Exits.{Follows};
-ghost use Rattle.dml_world.specs.Seen.{around_of};
-ghost use Rattle.dml_meaning.specs.Meaning.{copy_extended, delete_by, eval, exists_by, own_call_run, own_values_run, reference_extended, reference_in, test_run};
+ghost use Rattle.dml_eval.specs.Heres.{around_in};
+ghost use Rattle.dml_world.specs.Evaluations.{Evaluates, KeepsLoans, total};
+ghost use Rattle.dml_meaning.specs.References.{reference_in};
+ghost use Rattle.dml_meaning.specs.BuiltIns.{copy_extended, delete_by, exists_by, own_call_run, own_values_run, reference_extended, test_run};
+ghost use Rattle.dml_meaning.specs.Meaning.{eval};
 ghost use Rattle.dml_leaves.specs.References.{argument_of};
 ghost use Rattle.pan_ast.specs.Seen.{item_seen, items_seen};
 
 use crate::creating::run_create;
+use crate::here::Here;
 use crate::items::{open_item, open_values};
 use crate::references::{open_reference, value_or_nothing};
-use base::Steps;
 use dml_leaves::changing::{
     delete_reached, extend_list, extend_reached, is_changed, passes_option,
 };
@@ -17,45 +19,35 @@ use dml_leaves::starting::Purpose;
 use dml_leaves::texts::{exists_value, run_seen};
 use dml_meaning::{Own, Side, Test};
 use dml_world::leaf::fault;
-use dml_world::{Around, Exit, Live, World};
+use dml_world::{Evaluation, Exit, World};
 use pan_ast::{Code, Item, Place};
 use path_tree::Tree;
-use std::alloc::Global;
 use std::sync::ledger::Ledger;
 
 /// A built-in function that looks at more than values. Those that take references look at how an
 /// argument is written.
 #[cycle(eval)]
-#[tactic(auto, unfolding(dml_meaning::specs::Meaning::own_call_run))]
+#[tactic(auto, unfolding(dml_meaning::specs::BuiltIns::own_call_run))]
 pub(crate) fn run_own<W: World, L: Ledger>(
-    alloc: Global,
     place: &Place,
     own: Own,
     arguments: &[Item],
-    room: u64,
-    around: &Around<'_>,
-    live: &mut Live,
-    world: &mut W,
-    steps: &mut Steps<L>,
+    here: Here<'_>,
+    evaluation: &mut Evaluation<'_, '_, W, L>,
 ) -> Result<Tree, Exit>
-    ensures gives { Follows (λ t. t) result W.answers live.old (W.asked world.old) live.new
-        (W.asked world.new) (own_call_run (eval room) (around_of around.now W.reading W.calls)
+    ensures gives { Evaluates (λ t. t) result W.World evaluation.old evaluation.new
+        (own_call_run (eval here.entry.room) (around_in W.World here.entry)
         place.now own (items_seen arguments.now)) }
-    ensures counted { steps.new + live.new.work.left ≡ steps.old + live.old.work.left }
+    ensures counted { total evaluation.new ≡ total evaluation.old }
+    ensures lent { KeepsLoans evaluation.old evaluation.new }
 {
     match own {
-        Own::Is(test) => run_test(
-            alloc, place, test, arguments, room, around, live, world, steps,
-        ),
-        Own::Exists => run_exists(alloc, place, arguments, room, around, live, world, steps),
-        Own::Delete => run_delete(alloc, place, arguments, room, around, live, world, steps),
-        Own::Extend(side) => run_extend(
-            alloc, place, side, arguments, room, around, live, world, steps,
-        ),
-        Own::Create => run_create(alloc, place, arguments, room, around, live, world, steps),
-        _ => run_evaluated(
-            alloc, place, own, arguments, room, around, live, world, steps,
-        ),
+        Own::Is(test) => run_test(place, test, arguments, here, evaluation),
+        Own::Exists => run_exists(place, arguments, here, evaluation),
+        Own::Delete => run_delete(place, arguments, here, evaluation),
+        Own::Extend(side) => run_extend(place, side, arguments, here, evaluation),
+        Own::Create => run_create(place, arguments, here, evaluation),
+        _ => run_evaluated(place, own, arguments, here, evaluation),
     }
 }
 
@@ -63,71 +55,60 @@ pub(crate) fn run_own<W: World, L: Ledger>(
 #[cycle(eval)]
 #[tactic(auto, using(dml_meaning::proofs::Leaving::leaving))]
 fn run_evaluated<W: World, L: Ledger>(
-    alloc: Global,
     place: &Place,
     own: Own,
     arguments: &[Item],
-    room: u64,
-    around: &Around<'_>,
-    live: &mut Live,
-    world: &mut W,
-    steps: &mut Steps<L>,
+    here: Here<'_>,
+    evaluation: &mut Evaluation<'_, '_, W, L>,
 ) -> Result<Tree, Exit>
-    ensures gives { Follows (λ t. t) result W.answers live.old (W.asked world.old) live.new
-        (W.asked world.new) (own_values_run (eval room) (around_of around.now W.reading W.calls)
+    ensures gives { Evaluates (λ t. t) result W.World evaluation.old evaluation.new
+        (own_values_run (eval here.entry.room) (around_in W.World here.entry)
         place.now own (items_seen arguments.now)) }
-    ensures counted { steps.new + live.new.work.left ≡ steps.old + live.old.work.left }
+    ensures counted { total evaluation.new ≡ total evaluation.old }
+    ensures lent { KeepsLoans evaluation.old evaluation.new }
 {
-    let values = open_values(alloc, arguments, room, around, live, world, steps)?;
-    run_seen(alloc, place, own, values, around, live, world, steps)
+    let values = open_values(arguments, here, evaluation)?;
+    run_seen(place, own, values, here.around, evaluation)
 }
 
 /// `is_defined` and its kin.
 #[cycle(eval)]
 #[tactic(auto, using(crate::proofs::Owns::tests))]
 fn run_test<W: World, L: Ledger>(
-    alloc: Global,
     place: &Place,
     test: Test,
     arguments: &[Item],
-    room: u64,
-    around: &Around<'_>,
-    live: &mut Live,
-    world: &mut W,
-    steps: &mut Steps<L>,
+    here: Here<'_>,
+    evaluation: &mut Evaluation<'_, '_, W, L>,
 ) -> Result<Tree, Exit>
-    ensures gives { Follows (λ t. t) result W.answers live.old (W.asked world.old) live.new
-        (W.asked world.new) (own_call_run (eval room) (around_of around.now W.reading W.calls)
+    ensures gives { Evaluates (λ t. t) result W.World evaluation.old evaluation.new
+        (own_call_run (eval here.entry.room) (around_in W.World here.entry)
         place.now (Own.Is test) (items_seen arguments.now)) }
-    ensures counted { steps.new + live.new.work.left ≡ steps.old + live.old.work.left }
+    ensures counted { total evaluation.new ≡ total evaluation.old }
+    ensures lent { KeepsLoans evaluation.old evaluation.new }
 {
     let Some(item) = lone(arguments) else {
         let own = Own::Is(test);
-        return run_evaluated(
-            alloc, place, own, arguments, room, around, live, world, steps,
-        );
+        return run_evaluated(place, own, arguments, here, evaluation);
     };
-    test_item(alloc, test, item, room, around, live, world, steps)
+    test_item(test, item, here, evaluation)
 }
 
 /// Whether what an argument leads to passes a test.
 #[cycle(eval)]
 fn test_item<W: World, L: Ledger>(
-    alloc: Global,
     test: Test,
     item: &Item,
-    room: u64,
-    around: &Around<'_>,
-    live: &mut Live,
-    world: &mut W,
-    steps: &mut Steps<L>,
+    here: Here<'_>,
+    evaluation: &mut Evaluation<'_, '_, W, L>,
 ) -> Result<Tree, Exit>
-    ensures gives { Follows (λ t. t) result W.answers live.old (W.asked world.old) live.new
-        (W.asked world.new) (test_run (eval room) (around_of around.now W.reading W.calls) test
+    ensures gives { Evaluates (λ t. t) result W.World evaluation.old evaluation.new
+        (test_run (eval here.entry.room) (around_in W.World here.entry) test
         (item_seen item.now)) }
-    ensures counted { steps.new + live.new.work.left ≡ steps.old + live.old.work.left }
+    ensures counted { total evaluation.new ≡ total evaluation.old }
+    ensures lent { KeepsLoans evaluation.old evaluation.new }
 {
-    let value = value_or_nothing(alloc, item, room, around, live, world, steps)?;
+    let value = value_or_nothing(item, here, evaluation)?;
     Ok(Tree::boolean(passes_option(test, value.as_ref())))
 }
 
@@ -135,56 +116,46 @@ fn test_item<W: World, L: Ledger>(
 #[cycle(eval)]
 #[tactic(auto, using(crate::proofs::Owns::exists))]
 fn run_exists<W: World, L: Ledger>(
-    alloc: Global,
     place: &Place,
     arguments: &[Item],
-    room: u64,
-    around: &Around<'_>,
-    live: &mut Live,
-    world: &mut W,
-    steps: &mut Steps<L>,
+    here: Here<'_>,
+    evaluation: &mut Evaluation<'_, '_, W, L>,
 ) -> Result<Tree, Exit>
-    ensures gives { Follows (λ t. t) result W.answers live.old (W.asked world.old) live.new
-        (W.asked world.new) (own_call_run (eval room) (around_of around.now W.reading W.calls)
+    ensures gives { Evaluates (λ t. t) result W.World evaluation.old evaluation.new
+        (own_call_run (eval here.entry.room) (around_in W.World here.entry)
         place.now Own.Exists (items_seen arguments.now)) }
-    ensures counted { steps.new + live.new.work.left ≡ steps.old + live.old.work.left }
+    ensures counted { total evaluation.new ≡ total evaluation.old }
+    ensures lent { KeepsLoans evaluation.old evaluation.new }
 {
     let Some(item) = lone(arguments) else {
         let own = Own::Exists;
-        return run_evaluated(
-            alloc, place, own, arguments, room, around, live, world, steps,
-        );
+        return run_evaluated(place, own, arguments, here, evaluation);
     };
-    exists_item(alloc, place, item, room, around, live, world, steps)
+    exists_item(place, item, here, evaluation)
 }
 
 /// Whether an argument leads to something, or is a path that does.
 #[cycle(eval)]
 #[tactic(auto, using(crate::proofs::Owns::exists_items, pan_ast::proofs::Places::item_place_seen, dml_meaning::proofs::Leaving::leaving))]
 fn exists_item<W: World, L: Ledger>(
-    alloc: Global,
     place: &Place,
     item: &Item,
-    room: u64,
-    around: &Around<'_>,
-    live: &mut Live,
-    world: &mut W,
-    steps: &mut Steps<L>,
+    here: Here<'_>,
+    evaluation: &mut Evaluation<'_, '_, W, L>,
 ) -> Result<Tree, Exit>
-    ensures gives { Follows (λ t. t) result W.answers live.old (W.asked world.old) live.new
-        (W.asked world.new) (exists_by (eval room) (around_of around.now W.reading W.calls)
+    ensures gives { Evaluates (λ t. t) result W.World evaluation.old evaluation.new
+        (exists_by (eval here.entry.room) (around_in W.World here.entry)
         place.now (item_seen item.now) (reference_in (item_seen item.now))) }
-    ensures counted { steps.new + live.new.work.left ≡ steps.old + live.old.work.left }
+    ensures counted { total evaluation.new ≡ total evaluation.old }
+    ensures lent { KeepsLoans evaluation.old evaluation.new }
 {
-    let Some(argument) = reference_in(alloc, item)? else {
-        let value = open_item(alloc, item, room, around, live, world, steps)?;
-        return exists_value(alloc, place, &value, around, live, world);
+    let Some(argument) = reference_in(evaluation.alloc, item)? else {
+        let value = open_item(item, here, evaluation)?;
+        return exists_value(place, &value, here.around, evaluation);
     };
     let purpose = Purpose::Read;
     let at = &item.place;
-    let reached = open_reference(
-        alloc, &purpose, at, argument, room, around, live, world, steps,
-    )?;
+    let reached = open_reference(&purpose, at, argument, here, evaluation)?;
     Ok(Tree::boolean(reached.value.is_some()))
 }
 
@@ -192,58 +163,48 @@ fn exists_item<W: World, L: Ledger>(
 #[cycle(eval)]
 #[tactic(auto, using(crate::proofs::Owns::deletes))]
 fn run_delete<W: World, L: Ledger>(
-    alloc: Global,
     place: &Place,
     arguments: &[Item],
-    room: u64,
-    around: &Around<'_>,
-    live: &mut Live,
-    world: &mut W,
-    steps: &mut Steps<L>,
+    here: Here<'_>,
+    evaluation: &mut Evaluation<'_, '_, W, L>,
 ) -> Result<Tree, Exit>
-    ensures gives { Follows (λ t. t) result W.answers live.old (W.asked world.old) live.new
-        (W.asked world.new) (own_call_run (eval room) (around_of around.now W.reading W.calls)
+    ensures gives { Evaluates (λ t. t) result W.World evaluation.old evaluation.new
+        (own_call_run (eval here.entry.room) (around_in W.World here.entry)
         place.now Own.Delete (items_seen arguments.now)) }
-    ensures counted { steps.new + live.new.work.left ≡ steps.old + live.old.work.left }
+    ensures counted { total evaluation.new ≡ total evaluation.old }
+    ensures lent { KeepsLoans evaluation.old evaluation.new }
 {
     let Some(item) = lone(arguments) else {
         let own = Own::Delete;
-        return run_evaluated(
-            alloc, place, own, arguments, room, around, live, world, steps,
-        );
+        return run_evaluated(place, own, arguments, here, evaluation);
     };
-    delete_item(alloc, place, item, room, around, live, world, steps)
+    delete_item(place, item, here, evaluation)
 }
 
 /// What an argument leads to goes, where it is written as a reference.
 #[cycle(eval)]
 #[tactic(auto, using(crate::proofs::Owns::delete_items, pan_ast::proofs::Places::item_place_seen, dml_meaning::proofs::Leaving::leaving))]
 fn delete_item<W: World, L: Ledger>(
-    alloc: Global,
     place: &Place,
     item: &Item,
-    room: u64,
-    around: &Around<'_>,
-    live: &mut Live,
-    world: &mut W,
-    steps: &mut Steps<L>,
+    here: Here<'_>,
+    evaluation: &mut Evaluation<'_, '_, W, L>,
 ) -> Result<Tree, Exit>
-    ensures gives { Follows (λ t. t) result W.answers live.old (W.asked world.old) live.new
-        (W.asked world.new) (delete_by (eval room) (around_of around.now W.reading W.calls)
+    ensures gives { Evaluates (λ t. t) result W.World evaluation.old evaluation.new
+        (delete_by (eval here.entry.room) (around_in W.World here.entry)
         place.now (item_seen item.now) (reference_in (item_seen item.now))) }
-    ensures counted { steps.new + live.new.work.left ≡ steps.old + live.old.work.left }
+    ensures counted { total evaluation.new ≡ total evaluation.old }
+    ensures lent { KeepsLoans evaluation.old evaluation.new }
 {
-    let Some(argument) = reference_in(alloc, item)? else {
-        open_item(alloc, item, room, around, live, world, steps)?;
-        return Err(fault(alloc, Code::BadArgument, place));
+    let Some(argument) = reference_in(evaluation.alloc, item)? else {
+        open_item(item, here, evaluation)?;
+        return Err(fault(evaluation.alloc, Code::BadArgument, place));
     };
     let name = argument.name;
     let purpose = Purpose::Delete(place);
     let at = &item.place;
-    let reached = open_reference(
-        alloc, &purpose, at, argument, room, around, live, world, steps,
-    )?;
-    delete_reached(alloc, name, &reached, live, world)
+    let reached = open_reference(&purpose, at, argument, here, evaluation)?;
+    delete_reached(name, &reached, evaluation)
 }
 
 /// `append` and `prepend` of two arguments: the first one is changed where it is a reference that
@@ -251,106 +212,75 @@ fn delete_item<W: World, L: Ledger>(
 #[cycle(eval)]
 #[tactic(auto, using(crate::proofs::Owns::extends, pan_ast::proofs::Places::item_place_seen, dml_meaning::proofs::Leaving::leaving))]
 fn run_extend<W: World, L: Ledger>(
-    alloc: Global,
     place: &Place,
     side: Side,
     arguments: &[Item],
-    room: u64,
-    around: &Around<'_>,
-    live: &mut Live,
-    world: &mut W,
-    steps: &mut Steps<L>,
+    here: Here<'_>,
+    evaluation: &mut Evaluation<'_, '_, W, L>,
 ) -> Result<Tree, Exit>
-    ensures gives { Follows (λ t. t) result W.answers live.old (W.asked world.old) live.new
-        (W.asked world.new) (own_call_run (eval room) (around_of around.now W.reading W.calls)
+    ensures gives { Evaluates (λ t. t) result W.World evaluation.old evaluation.new
+        (own_call_run (eval here.entry.room) (around_in W.World here.entry)
         place.now (Own.Extend side) (items_seen arguments.now)) }
-    ensures counted { steps.new + live.new.work.left ≡ steps.old + live.old.work.left }
+    ensures counted { total evaluation.new ≡ total evaluation.old }
+    ensures lent { KeepsLoans evaluation.old evaluation.new }
 {
     let Some((list, value)) = two(arguments) else {
         let own = Own::Extend(side);
-        return run_evaluated(
-            alloc, place, own, arguments, room, around, live, world, steps,
-        );
+        return run_evaluated(place, own, arguments, here, evaluation);
     };
-    let Some(argument) = reference_in(alloc, list)? else {
-        return run_copy(
-            alloc, place, side, list, value, room, around, live, world, steps,
-        );
+    let Some(argument) = reference_in(evaluation.alloc, list)? else {
+        return run_copy(place, side, list, value, here, evaluation);
     };
-    if !is_changed(argument.name, around, live, world) {
-        return run_copy(
-            alloc, place, side, list, value, room, around, live, world, steps,
-        );
+    if !is_changed(argument.name, here.around, evaluation) {
+        return run_copy(place, side, list, value, here, evaluation);
     }
-    run_change(
-        alloc,
-        place,
-        side,
-        &list.place,
-        argument,
-        value,
-        room,
-        around,
-        live,
-        world,
-        steps,
-    )
+    run_change(place, side, &list.place, argument, value, here, evaluation)
 }
 
 /// A copy of a list takes a value.
 #[cycle(eval)]
 #[tactic(auto, using(dml_meaning::proofs::Leaving::leaving))]
 fn run_copy<W: World, L: Ledger>(
-    alloc: Global,
     place: &Place,
     side: Side,
     list: &Item,
     value: &Item,
-    room: u64,
-    around: &Around<'_>,
-    live: &mut Live,
-    world: &mut W,
-    steps: &mut Steps<L>,
+    here: Here<'_>,
+    evaluation: &mut Evaluation<'_, '_, W, L>,
 ) -> Result<Tree, Exit>
-    ensures gives { Follows (λ t. t) result W.answers live.old (W.asked world.old) live.new
-        (W.asked world.new) (copy_extended (eval room) (around_of around.now W.reading W.calls)
+    ensures gives { Evaluates (λ t. t) result W.World evaluation.old evaluation.new
+        (copy_extended (eval here.entry.room) (around_in W.World here.entry)
         place.now side (item_seen list.now) (item_seen value.now)) }
-    ensures counted { steps.new + live.new.work.left ≡ steps.old + live.old.work.left }
+    ensures counted { total evaluation.new ≡ total evaluation.old }
+    ensures lent { KeepsLoans evaluation.old evaluation.new }
 {
-    let list = open_item(alloc, list, room, around, live, world, steps)?;
-    let value = open_item(alloc, value, room, around, live, world, steps)?;
-    extend_list(alloc, place, side, list, value, live, world)
+    let list = open_item(list, here, evaluation)?;
+    let value = open_item(value, here, evaluation)?;
+    extend_list(place, side, list, value, evaluation)
 }
 
 /// What a reference leads to takes a value; the place `at` is that of the reference as an item.
 #[cycle(eval)]
 #[tactic(auto, using(dml_meaning::proofs::Leaving::leaving))]
 fn run_change<W: World, L: Ledger>(
-    alloc: Global,
     place: &Place,
     side: Side,
     at: &Place,
     argument: Argument<'_>,
     value: &Item,
-    room: u64,
-    around: &Around<'_>,
-    live: &mut Live,
-    world: &mut W,
-    steps: &mut Steps<L>,
+    here: Here<'_>,
+    evaluation: &mut Evaluation<'_, '_, W, L>,
 ) -> Result<Tree, Exit>
-    ensures gives { Follows (λ t. t) result W.answers live.old (W.asked world.old) live.new
-        (W.asked world.new) (reference_extended (eval room)
-        (around_of around.now W.reading W.calls) place.now side at.now
+    ensures gives { Evaluates (λ t. t) result W.World evaluation.old evaluation.new
+        (reference_extended (eval here.entry.room)
+        (around_in W.World here.entry) place.now side at.now
         (argument_of argument.entry) (item_seen value.now)) }
-    ensures counted { steps.new + live.new.work.left ≡ steps.old + live.old.work.left }
+    ensures counted { total evaluation.new ≡ total evaluation.old }
+    ensures lent { KeepsLoans evaluation.old evaluation.new }
 {
     let name = argument.name;
     let purpose = Purpose::Change;
-    let reached = open_reference(
-        alloc, &purpose, at, argument, room, around, live, world, steps,
-    )?;
-    let value = open_item(alloc, value, room, around, live, world, steps)?;
-    extend_reached(
-        alloc, place, side, name, reached, value, around, live, world,
-    )
+    let reached = open_reference(&purpose, at, argument, here, evaluation)?;
+    let value = open_item(value, here, evaluation)?;
+    extend_reached(place, side, name, reached, value, here.around, evaluation)
 }

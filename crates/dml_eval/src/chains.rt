@@ -1,21 +1,21 @@
 ghost use Rattle.std.specs.Prelude.{◌≡◌, ◌+◌, ◌<◌, ◌∷◌, [], map, IfOk, MatchOption};
-ghost use Rattle.dml_world.specs.Exits.{Follows};
-ghost use Rattle.dml_world.specs.Seen.{around_of};
+ghost use Rattle.dml_eval.specs.Heres.{around_in};
+ghost use Rattle.dml_world.specs.Evaluations.{Evaluates, KeepsLoans, total};
 ghost use Rattle.dml_eval.specs.Waits.{Leads, chain_run, chain_weight, resume, turn_run, turn_weight, waiting_weight, with_steps};
 ghost use Rattle.dml_leaves.specs.Weights.{node_weight, step_weight, steps_weight};
 ghost use Rattle.dml_meaning.specs.Meaning.{eval, second_run, step_run};
 ghost use Rattle.pan_ast.specs.Seen.{item_seen, node_seen, step_seen};
 ghost use Rattle.pan_ast.specs.Syntax.{AtAnd, AtBinary, AtIndex, AtOr};
 
+use crate::here::Here;
 use crate::items::open_item;
 use crate::nodes::{Operand, run_operand};
 use base::Steps;
 use dml_leaves::indexes::apply_index;
 use dml_world::leaf::{apply_binary, apply_boolean};
-use dml_world::{Around, Exit, Live, World};
+use dml_world::{Evaluation, Exit, World};
 use pan_ast::{Item, Node, Place, Step};
 use path_tree::{BinaryOp, Tree};
-use std::alloc::Global;
 use std::sync::ledger::Ledger;
 
 /// A chain: its left operand, and the steps to its right.
@@ -70,33 +70,28 @@ fn cut(steps: &[Step]) -> Option<(&Step, &[Step])>
 #[inline(never)]
 #[tactic(auto, using(crate::proofs::Waits::waits), unfolding(dml_meaning::specs::Meaning::steps_run, crate::specs::Waits::resumed))]
 pub(crate) fn run_chain<W: World, L: Ledger>(
-    alloc: Global,
     chain: Chain<'_>,
-    room: u64,
-    around: &Around<'_>,
-    live: &mut Live,
-    world: &mut W,
-    steps: &mut Steps<L>,
+    here: Here<'_>,
+    evaluation: &mut Evaluation<'_, '_, W, L>,
 ) -> Result<Tree, Exit>
-    ensures gives { Follows (λ t. t) result W.answers live.old (W.asked world.old) live.new
-        (W.asked world.new) (chain_run (eval room) (around_of around.now W.reading W.calls)
+    ensures gives { Evaluates (λ t. t) result W.World evaluation.old evaluation.new
+        (chain_run (eval here.entry.room) (around_in W.World here.entry)
         chain.entry) }
-    ensures counted { steps.new + live.new.work.left ≡ steps.old + live.old.work.left }
+    ensures counted { total evaluation.new ≡ total evaluation.old }
+    ensures lent { KeepsLoans evaluation.old evaluation.new }
 {
-    let mut waiting = Vec::new(alloc);
-    let mut turn = start(alloc, chain, room, around, live, world, steps)?;
+    let mut waiting = Vec::new(evaluation.alloc);
+    let mut turn = start(chain, here, evaluation)?;
     'turns: loop {
         turn = match turn {
             Turn::Inner(inner, outer) => {
                 waiting.push(outer)?;
-                start(alloc, inner, room, around, live, world, steps)?
+                start(inner, here, evaluation)?
             }
             Turn::Steps(value, place, rest) => match cut(rest) {
-                Some((step, rest)) => run_step(
-                    alloc, place, value, step, rest, room, around, live, world, steps,
-                )?,
+                Some((step, rest)) => run_step(place, value, step, rest, here, evaluation)?,
                 None => match waiting.pop() {
-                    Some(outer) => take_up(alloc, outer, value, room, around, live, world, steps)?,
+                    Some(outer) => take_up(outer, value, here, evaluation)?,
                     None => return Ok(value),
                 },
             },
@@ -109,18 +104,15 @@ pub(crate) fn run_chain<W: World, L: Ledger>(
 #[cycle(eval)]
 #[tactic(auto, using(dml_meaning::proofs::Leaving::leaving), unfolding(dml_meaning::specs::Meaning::steps_run))]
 fn start<'a, W: World, L: Ledger>(
-    alloc: Global,
     chain: Chain<'a>,
-    room: u64,
-    around: &Around<'_>,
-    live: &mut Live,
-    world: &mut W,
-    steps: &mut Steps<L>,
+    here: Here<'_>,
+    evaluation: &mut Evaluation<'_, '_, W, L>,
 ) -> Result<Turn<'a>, Exit>
-    ensures gives { Leads (turn_run (eval room) (around_of around.now W.reading W.calls)) result
-        W.answers live.old (W.asked world.old) live.new (W.asked world.new)
-        (chain_run (eval room) (around_of around.now W.reading W.calls) chain.entry) }
-    ensures counted { steps.new + live.new.work.left ≡ steps.old + live.old.work.left }
+    ensures gives { Leads (turn_run (eval here.entry.room) (around_in W.World here.entry)) result
+        W.World evaluation.old evaluation.new
+        (chain_run (eval here.entry.room) (around_in W.World here.entry) chain.entry) }
+    ensures counted { total evaluation.new ≡ total evaluation.old }
+    ensures lent { KeepsLoans evaluation.old evaluation.new }
     ensures lighter { IfOk result (λ t. turn_weight t < chain_weight chain.entry) }
 {
     let Chain {
@@ -129,10 +121,8 @@ fn start<'a, W: World, L: Ledger>(
         step,
         rest,
     } = chain;
-    match run_operand(alloc, first, room, around, live, world, steps)? {
-        Operand::Value(value) => run_step(
-            alloc, place, value, step, rest, room, around, live, world, steps,
-        ),
+    match run_operand(first, here, evaluation)? {
+        Operand::Value(value) => run_step(place, value, step, rest, here, evaluation),
         Operand::Chain(inner) => Ok(Turn::Inner(
             inner,
             Waiting {
@@ -148,32 +138,27 @@ fn start<'a, W: World, L: Ledger>(
 #[cycle(eval)]
 #[tactic(auto, using(dml_meaning::proofs::Leaving::leaving))]
 fn take_up<'a, W: World, L: Ledger>(
-    alloc: Global,
     waiting: Waiting<'a>,
     value: Tree,
-    room: u64,
-    around: &Around<'_>,
-    live: &mut Live,
-    world: &mut W,
-    steps: &mut Steps<L>,
+    here: Here<'_>,
+    evaluation: &mut Evaluation<'_, '_, W, L>,
 ) -> Result<Turn<'a>, Exit>
-    ensures gives { Leads (turn_run (eval room) (around_of around.now W.reading W.calls)) result
-        W.answers live.old (W.asked world.old) live.new (W.asked world.new)
-        (resume (eval room) (around_of around.now W.reading W.calls) waiting.entry value) }
-    ensures counted { steps.new + live.new.work.left ≡ steps.old + live.old.work.left }
+    ensures gives { Leads (turn_run (eval here.entry.room) (around_in W.World here.entry)) result
+        W.World evaluation.old evaluation.new
+        (resume (eval here.entry.room) (around_in W.World here.entry) waiting.entry value) }
+    ensures counted { total evaluation.new ≡ total evaluation.old }
+    ensures lent { KeepsLoans evaluation.old evaluation.new }
     ensures lighter { IfOk result (λ t. turn_weight t < waiting_weight waiting.entry) }
 {
     let Waiting { place, role, rest } = waiting;
     match role {
-        Role::Left(step) => run_step(
-            alloc, place, value, step, rest, room, around, live, world, steps,
-        ),
+        Role::Left(step) => run_step(place, value, step, rest, here, evaluation),
         Role::Right(op, left) => {
-            let value = apply_binary(alloc, place, op, &left, &value, live, world, steps)?;
+            let value = apply_binary(place, op, &left, &value, evaluation)?;
             Ok(Turn::Steps(value, place, rest))
         }
         Role::Deciding => {
-            let value = apply_boolean(alloc, place, &value, live, world, steps)?;
+            let value = apply_boolean(place, &value, evaluation)?;
             Ok(Turn::Steps(value, place, rest))
         }
     }
@@ -184,39 +169,28 @@ fn take_up<'a, W: World, L: Ledger>(
 #[cycle(eval)]
 #[tactic(auto, using(pan_ast::proofs::Forms::steps))]
 fn run_step<'a, W: World, L: Ledger>(
-    alloc: Global,
     place: &'a Place,
     left: Tree,
     step: &'a Step,
     rest: &'a [Step],
-    room: u64,
-    around: &Around<'_>,
-    live: &mut Live,
-    world: &mut W,
-    steps: &mut Steps<L>,
+    here: Here<'_>,
+    evaluation: &mut Evaluation<'_, '_, W, L>,
 ) -> Result<Turn<'a>, Exit>
-    ensures gives { Leads (turn_run (eval room) (around_of around.now W.reading W.calls)) result
-        W.answers live.old (W.asked world.old) live.new (W.asked world.new)
-        (with_steps (eval room) (around_of around.now W.reading W.calls) place.now
-        (map step_seen rest.now) (step_run (eval room) (around_of around.now W.reading W.calls)
+    ensures gives { Leads (turn_run (eval here.entry.room) (around_in W.World here.entry)) result
+        W.World evaluation.old evaluation.new
+        (with_steps (eval here.entry.room) (around_in W.World here.entry) place.now
+        (map step_seen rest.now) (step_run (eval here.entry.room) (around_in W.World here.entry)
         place.now left (step_seen step.now))) }
-    ensures counted { steps.new + live.new.work.left ≡ steps.old + live.old.work.left }
+    ensures counted { total evaluation.new ≡ total evaluation.old }
+    ensures lent { KeepsLoans evaluation.old evaluation.new }
     ensures lighter { IfOk result (λ t. turn_weight t < step_weight (step_seen step.now)
         + steps_weight (map step_seen rest.now)) }
 {
     match step {
-        Step::Index(item) => run_index(
-            alloc, place, left, item, rest, room, around, live, world, steps,
-        ),
-        Step::Binary(op, right) => run_binary(
-            alloc, place, *op, left, right, rest, room, around, live, world, steps,
-        ),
-        Step::And(right) => run_both(
-            alloc, place, left, right, rest, room, around, live, world, steps,
-        ),
-        Step::Or(right) => run_either(
-            alloc, place, left, right, rest, room, around, live, world, steps,
-        ),
+        Step::Index(item) => run_index(place, left, item, rest, here, evaluation),
+        Step::Binary(op, right) => run_binary(place, *op, left, right, rest, here, evaluation),
+        Step::And(right) => run_both(place, left, right, rest, here, evaluation),
+        Step::Or(right) => run_either(place, left, right, rest, here, evaluation),
     }
 }
 
@@ -224,27 +198,24 @@ fn run_step<'a, W: World, L: Ledger>(
 #[cycle(eval)]
 #[tactic(auto, using(dml_meaning::proofs::Leaving::leaving), unfolding(dml_meaning::specs::Meaning::step_run))]
 fn run_index<'a, W: World, L: Ledger>(
-    alloc: Global,
     place: &'a Place,
     left: Tree,
     item: &Item,
     rest: &'a [Step],
-    room: u64,
-    around: &Around<'_>,
-    live: &mut Live,
-    world: &mut W,
-    steps: &mut Steps<L>,
+    here: Here<'_>,
+    evaluation: &mut Evaluation<'_, '_, W, L>,
 ) -> Result<Turn<'a>, Exit>
-    ensures gives { Leads (turn_run (eval room) (around_of around.now W.reading W.calls)) result
-        W.answers live.old (W.asked world.old) live.new (W.asked world.new)
-        (with_steps (eval room) (around_of around.now W.reading W.calls) place.now
-        (map step_seen rest.now) (step_run (eval room) (around_of around.now W.reading W.calls)
+    ensures gives { Leads (turn_run (eval here.entry.room) (around_in W.World here.entry)) result
+        W.World evaluation.old evaluation.new
+        (with_steps (eval here.entry.room) (around_in W.World here.entry) place.now
+        (map step_seen rest.now) (step_run (eval here.entry.room) (around_in W.World here.entry)
         place.now left (AtIndex (item_seen item.now)))) }
-    ensures counted { steps.new + live.new.work.left ≡ steps.old + live.old.work.left }
+    ensures counted { total evaluation.new ≡ total evaluation.old }
+    ensures lent { KeepsLoans evaluation.old evaluation.new }
     ensures lighter { IfOk result (λ t. turn_weight t < 1 + steps_weight (map step_seen rest.now)) }
 {
-    let index = open_item(alloc, item, room, around, live, world, steps)?;
-    let value = apply_index(alloc, place, &left, &index, live, world, steps)?;
+    let index = open_item(item, here, evaluation)?;
+    let value = apply_index(place, &left, &index, evaluation)?;
     Ok(Turn::Steps(value, place, rest))
 }
 
@@ -253,30 +224,27 @@ fn run_index<'a, W: World, L: Ledger>(
 #[cycle(eval)]
 #[tactic(auto, using(dml_meaning::proofs::Chains::then_then, dml_meaning::proofs::Leaving::leaving), unfolding(dml_meaning::specs::Meaning::step_run))]
 fn run_binary<'a, W: World, L: Ledger>(
-    alloc: Global,
     place: &'a Place,
     op: BinaryOp,
     left: Tree,
     right: &'a Node,
     rest: &'a [Step],
-    room: u64,
-    around: &Around<'_>,
-    live: &mut Live,
-    world: &mut W,
-    steps: &mut Steps<L>,
+    here: Here<'_>,
+    evaluation: &mut Evaluation<'_, '_, W, L>,
 ) -> Result<Turn<'a>, Exit>
-    ensures gives { Leads (turn_run (eval room) (around_of around.now W.reading W.calls)) result
-        W.answers live.old (W.asked world.old) live.new (W.asked world.new)
-        (with_steps (eval room) (around_of around.now W.reading W.calls) place.now
-        (map step_seen rest.now) (step_run (eval room) (around_of around.now W.reading W.calls)
+    ensures gives { Leads (turn_run (eval here.entry.room) (around_in W.World here.entry)) result
+        W.World evaluation.old evaluation.new
+        (with_steps (eval here.entry.room) (around_in W.World here.entry) place.now
+        (map step_seen rest.now) (step_run (eval here.entry.room) (around_in W.World here.entry)
         place.now left (AtBinary op (node_seen right.now)))) }
-    ensures counted { steps.new + live.new.work.left ≡ steps.old + live.old.work.left }
+    ensures counted { total evaluation.new ≡ total evaluation.old }
+    ensures lent { KeepsLoans evaluation.old evaluation.new }
     ensures lighter { IfOk result (λ t. turn_weight t < (2 + node_weight (node_seen right.now))
         + steps_weight (map step_seen rest.now)) }
 {
-    match run_operand(alloc, right, room, around, live, world, steps)? {
+    match run_operand(right, here, evaluation)? {
         Operand::Value(value) => {
-            let value = apply_binary(alloc, place, op, &left, &value, live, world, steps)?;
+            let value = apply_binary(place, op, &left, &value, evaluation)?;
             Ok(Turn::Steps(value, place, rest))
         }
         Operand::Chain(inner) => {
@@ -296,30 +264,27 @@ fn run_binary<'a, W: World, L: Ledger>(
 #[cycle(eval)]
 #[tactic(auto, using(dml_world::proofs::Booleans::boths, dml_meaning::proofs::Leaving::leaving), unfolding(dml_meaning::specs::Meaning::step_run))]
 fn run_both<'a, W: World, L: Ledger>(
-    alloc: Global,
     place: &'a Place,
     left: Tree,
     right: &'a Node,
     rest: &'a [Step],
-    room: u64,
-    around: &Around<'_>,
-    live: &mut Live,
-    world: &mut W,
-    steps: &mut Steps<L>,
+    here: Here<'_>,
+    evaluation: &mut Evaluation<'_, '_, W, L>,
 ) -> Result<Turn<'a>, Exit>
-    ensures gives { Leads (turn_run (eval room) (around_of around.now W.reading W.calls)) result
-        W.answers live.old (W.asked world.old) live.new (W.asked world.new)
-        (with_steps (eval room) (around_of around.now W.reading W.calls) place.now
-        (map step_seen rest.now) (step_run (eval room) (around_of around.now W.reading W.calls)
+    ensures gives { Leads (turn_run (eval here.entry.room) (around_in W.World here.entry)) result
+        W.World evaluation.old evaluation.new
+        (with_steps (eval here.entry.room) (around_in W.World here.entry) place.now
+        (map step_seen rest.now) (step_run (eval here.entry.room) (around_in W.World here.entry)
         place.now left (AtAnd (node_seen right.now)))) }
-    ensures counted { steps.new + live.new.work.left ≡ steps.old + live.old.work.left }
+    ensures counted { total evaluation.new ≡ total evaluation.old }
+    ensures lent { KeepsLoans evaluation.old evaluation.new }
     ensures lighter { IfOk result (λ t. turn_weight t < (2 + node_weight (node_seen right.now))
         + steps_weight (map step_seen rest.now)) }
 {
     match left.as_boolean() {
-        Some(true) => run_second(alloc, place, right, rest, room, around, live, world, steps),
+        Some(true) => run_second(place, right, rest, here, evaluation),
         Some(false) | None => {
-            let value = apply_boolean(alloc, place, &left, live, world, steps)?;
+            let value = apply_boolean(place, &left, evaluation)?;
             Ok(Turn::Steps(value, place, rest))
         }
     }
@@ -329,30 +294,27 @@ fn run_both<'a, W: World, L: Ledger>(
 #[cycle(eval)]
 #[tactic(auto, using(dml_world::proofs::Booleans::eithers, dml_meaning::proofs::Leaving::leaving), unfolding(dml_meaning::specs::Meaning::step_run))]
 fn run_either<'a, W: World, L: Ledger>(
-    alloc: Global,
     place: &'a Place,
     left: Tree,
     right: &'a Node,
     rest: &'a [Step],
-    room: u64,
-    around: &Around<'_>,
-    live: &mut Live,
-    world: &mut W,
-    steps: &mut Steps<L>,
+    here: Here<'_>,
+    evaluation: &mut Evaluation<'_, '_, W, L>,
 ) -> Result<Turn<'a>, Exit>
-    ensures gives { Leads (turn_run (eval room) (around_of around.now W.reading W.calls)) result
-        W.answers live.old (W.asked world.old) live.new (W.asked world.new)
-        (with_steps (eval room) (around_of around.now W.reading W.calls) place.now
-        (map step_seen rest.now) (step_run (eval room) (around_of around.now W.reading W.calls)
+    ensures gives { Leads (turn_run (eval here.entry.room) (around_in W.World here.entry)) result
+        W.World evaluation.old evaluation.new
+        (with_steps (eval here.entry.room) (around_in W.World here.entry) place.now
+        (map step_seen rest.now) (step_run (eval here.entry.room) (around_in W.World here.entry)
         place.now left (AtOr (node_seen right.now)))) }
-    ensures counted { steps.new + live.new.work.left ≡ steps.old + live.old.work.left }
+    ensures counted { total evaluation.new ≡ total evaluation.old }
+    ensures lent { KeepsLoans evaluation.old evaluation.new }
     ensures lighter { IfOk result (λ t. turn_weight t < (2 + node_weight (node_seen right.now))
         + steps_weight (map step_seen rest.now)) }
 {
     match left.as_boolean() {
-        Some(false) => run_second(alloc, place, right, rest, room, around, live, world, steps),
+        Some(false) => run_second(place, right, rest, here, evaluation),
         Some(true) | None => {
-            let value = apply_boolean(alloc, place, &left, live, world, steps)?;
+            let value = apply_boolean(place, &left, evaluation)?;
             Ok(Turn::Steps(value, place, rest))
         }
     }
@@ -362,28 +324,25 @@ fn run_either<'a, W: World, L: Ledger>(
 #[cycle(eval)]
 #[tactic(auto, using(dml_meaning::proofs::Chains::then_then, dml_meaning::proofs::Leaving::leaving))]
 fn run_second<'a, W: World, L: Ledger>(
-    alloc: Global,
     place: &'a Place,
     right: &'a Node,
     rest: &'a [Step],
-    room: u64,
-    around: &Around<'_>,
-    live: &mut Live,
-    world: &mut W,
-    steps: &mut Steps<L>,
+    here: Here<'_>,
+    evaluation: &mut Evaluation<'_, '_, W, L>,
 ) -> Result<Turn<'a>, Exit>
-    ensures gives { Leads (turn_run (eval room) (around_of around.now W.reading W.calls)) result
-        W.answers live.old (W.asked world.old) live.new (W.asked world.new)
-        (with_steps (eval room) (around_of around.now W.reading W.calls) place.now
-        (map step_seen rest.now) (second_run (eval room) (around_of around.now W.reading W.calls)
+    ensures gives { Leads (turn_run (eval here.entry.room) (around_in W.World here.entry)) result
+        W.World evaluation.old evaluation.new
+        (with_steps (eval here.entry.room) (around_in W.World here.entry) place.now
+        (map step_seen rest.now) (second_run (eval here.entry.room) (around_in W.World here.entry)
         place.now (node_seen right.now))) }
-    ensures counted { steps.new + live.new.work.left ≡ steps.old + live.old.work.left }
+    ensures counted { total evaluation.new ≡ total evaluation.old }
+    ensures lent { KeepsLoans evaluation.old evaluation.new }
     ensures lighter { IfOk result (λ t. turn_weight t < (2 + node_weight (node_seen right.now))
         + steps_weight (map step_seen rest.now)) }
 {
-    match run_operand(alloc, right, room, around, live, world, steps)? {
+    match run_operand(right, here, evaluation)? {
         Operand::Value(value) => {
-            let value = apply_boolean(alloc, place, &value, live, world, steps)?;
+            let value = apply_boolean(place, &value, evaluation)?;
             Ok(Turn::Steps(value, place, rest))
         }
         Operand::Chain(inner) => {

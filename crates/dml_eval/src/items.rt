@@ -1,45 +1,51 @@
 ghost use Rattle.std.specs.Prelude.{◌≡◌, ◌+◌, []};
-ghost use Rattle.dml_world.specs.Exits.{Follows};
-ghost use Rattle.dml_world.specs.Seen.{around_of};
-ghost use Rattle.dml_meaning.specs.Meaning.{assign_run, block_from, choose, condition_run, eval, item_run, set_run, values_from};
+ghost use Rattle.dml_eval.specs.Heres.{around_in};
+ghost use Rattle.dml_world.specs.Evaluations.{Evaluates, KeepsLoans, total};
+ghost use Rattle.dml_meaning.specs.References.{block_from, values_from};
+ghost use Rattle.dml_meaning.specs.Loops.{choose, condition_run};
+ghost use Rattle.dml_meaning.specs.Meaning.{assign_run, eval, item_run, set_run};
 ghost use Rattle.questions.specs.Run.{give};
 ghost use Rattle.pan_ast.specs.Seen.{item_seen, items_seen, reference_seen};
 ghost use Rattle.pan_ast.specs.Syntax.{none};
 ghost use Rattle.path_tree.specs.Plain.{undef};
 
-use crate::loops::{run_for, run_foreach, run_while};
+use crate::here::Here;
+use crate::loops::{ForeachLoop, WhileLoop, run_for, run_foreach, run_while};
 use crate::nodes::run_node;
-use base::{Steps, Text};
+use base::Text;
 use dml_leaves::names::{is_whole, may_change, set_value};
 use dml_world::leaf::{boolean, fault, take_step};
-use dml_world::{Around, Exit, Live, World};
+use dml_world::{Evaluation, Exit, World};
 use pan_ast::{Code, Item, ItemForm, Place, Reference};
 use path_tree::Tree;
-use std::alloc::Global;
 use std::sync::ledger::Ledger;
 
 /// An item, where `room` more may be open.
 #[cycle(eval)]
 #[tactic(auto, using(pan_ast::proofs::Places::item_place_seen, dml_meaning::proofs::Leaving::leaving), unfolding(dml_meaning::specs::Meaning::eval))]
 pub(crate) fn open_item<W: World, L: Ledger>(
-    alloc: Global,
     item: &Item,
-    room: u64,
-    around: &Around<'_>,
-    live: &mut Live,
-    world: &mut W,
-    steps: &mut Steps<L>,
+    here: Here<'_>,
+    evaluation: &mut Evaluation<'_, '_, W, L>,
 ) -> Result<Tree, Exit>
-    ensures gives { Follows (λ t. t) result W.answers live.old (W.asked world.old) live.new
-        (W.asked world.new) ((eval room).opens (around_of around.now W.reading W.calls)
+    ensures gives { Evaluates (λ t. t) result W.World evaluation.old evaluation.new
+        ((eval here.entry.room).opens (around_in W.World here.entry)
         (item_seen item.now)) }
-    ensures counted { steps.new + live.new.work.left ≡ steps.old + live.old.work.left }
+    ensures counted { total evaluation.new ≡ total evaluation.old }
+    ensures lent { KeepsLoans evaluation.old evaluation.new }
 {
-    take_step(alloc, &item.place, live, world, steps)?;
-    if room == 0 {
-        return Err(fault(alloc, Code::CallDepth, &item.place));
+    take_step(&item.place, evaluation)?;
+    if here.room == 0 {
+        return Err(fault(evaluation.alloc, Code::CallDepth, &item.place));
     }
-    run_item(alloc, item, room - 1, around, live, world, steps)
+    run_item(
+        item,
+        Here {
+            around: here.around,
+            room: here.room - 1,
+        },
+        evaluation,
+    )
 }
 
 /// An item that has begun.
@@ -47,123 +53,90 @@ pub(crate) fn open_item<W: World, L: Ledger>(
 #[cycle(eval)]
 #[tactic(auto, using(pan_ast::proofs::Forms::items), unfolding(dml_meaning::specs::Meaning::item_run))]
 fn run_item<W: World, L: Ledger>(
-    alloc: Global,
     item: &Item,
-    room: u64,
-    around: &Around<'_>,
-    live: &mut Live,
-    world: &mut W,
-    steps: &mut Steps<L>,
+    here: Here<'_>,
+    evaluation: &mut Evaluation<'_, '_, W, L>,
 ) -> Result<Tree, Exit>
-    ensures gives { Follows (λ t. t) result W.answers live.old (W.asked world.old) live.new
-        (W.asked world.new) (item_run (eval room) (around_of around.now W.reading W.calls)
+    ensures gives { Evaluates (λ t. t) result W.World evaluation.old evaluation.new
+        (item_run (eval here.entry.room) (around_in W.World here.entry)
         (item_seen item.now)) }
-    ensures counted { steps.new + live.new.work.left ≡ steps.old + live.old.work.left }
+    ensures counted { total evaluation.new ≡ total evaluation.old }
+    ensures lent { KeepsLoans evaluation.old evaluation.new }
 {
     match &item.form {
-        ItemForm::Block(items) => run_block(alloc, items, room, around, live, world, steps),
-        ItemForm::If(condition, then, None) => run_if(
-            alloc, condition, then, room, around, live, world, steps,
-        ),
+        ItemForm::Block(items) => run_block(items, here, evaluation),
+        ItemForm::If(condition, then, None) => run_if(condition, then, here, evaluation),
         ItemForm::If(condition, then, Some(other)) => {
-            run_if_else(
-                alloc, condition, then, other, room, around, live, world, steps,
-            )
+            run_if_else(condition, then, other, here, evaluation)
         }
         ItemForm::While(condition, body) => {
-            run_while(
-                alloc,
-                &item.place,
+            let looped = WhileLoop {
+                place: &item.place,
                 condition,
                 body,
-                room,
-                around,
-                live,
-                world,
-                steps,
-            )
+            };
+            run_while(looped, here, evaluation)
         }
         ItemForm::For(first, condition, step, body) => {
-            run_for(
-                alloc,
-                &item.place,
-                first,
+            let looped = WhileLoop {
+                place: &item.place,
                 condition,
-                step,
                 body,
-                room,
-                around,
-                live,
-                world,
-                steps,
-            )
+            };
+            run_for(first, looped, step, here, evaluation)
         }
         ItemForm::Foreach(key, value, container, body) => {
-            run_foreach(
-                alloc,
-                &item.place,
+            let looped = ForeachLoop {
+                place: &item.place,
                 key,
                 value,
-                container,
                 body,
-                room,
-                around,
-                live,
-                world,
-                steps,
-            )
+            };
+            run_foreach(container, looped, here, evaluation)
         }
-        ItemForm::Assign(reference, right) => run_assign(
-            alloc, reference, right, room, around, live, world, steps,
-        ),
-        ItemForm::Plain(node) => run_node(alloc, node, room, around, live, world, steps),
+        ItemForm::Assign(reference, right) => run_assign(reference, right, here, evaluation),
+        ItemForm::Plain(node) => run_node(node, here, evaluation),
     }
 }
 
 /// Items in turn: the value of the last one.
 #[cycle(eval)]
-#[tactic(auto, using(crate::proofs::Lists::items, dml_meaning::proofs::Leaving::leaving), unfolding(dml_meaning::specs::Meaning::block_from))]
+#[tactic(auto, using(crate::proofs::Lists::items, dml_meaning::proofs::Leaving::leaving), unfolding(dml_meaning::specs::References::block_from))]
 fn run_block<W: World, L: Ledger>(
-    alloc: Global,
     items: &[Item],
-    room: u64,
-    around: &Around<'_>,
-    live: &mut Live,
-    world: &mut W,
-    steps: &mut Steps<L>,
+    here: Here<'_>,
+    evaluation: &mut Evaluation<'_, '_, W, L>,
 ) -> Result<Tree, Exit>
-    ensures gives { Follows (λ t. t) result W.answers live.old (W.asked world.old) live.new
-        (W.asked world.new) (block_from (eval room) (around_of around.now W.reading W.calls)
+    ensures gives { Evaluates (λ t. t) result W.World evaluation.old evaluation.new
+        (block_from (eval here.entry.room) (around_in W.World here.entry)
         (items_seen items.now) undef) }
-    ensures counted { steps.new + live.new.work.left ≡ steps.old + live.old.work.left }
+    ensures counted { total evaluation.new ≡ total evaluation.old }
+    ensures lent { KeepsLoans evaluation.old evaluation.new }
 {
     let mut last = Tree::undef();
     'items: for item in items {
-        last = open_item(alloc, item, room, around, live, world, steps)?;
+        last = open_item(item, here, evaluation)?;
     }
     Ok(last)
 }
 
 /// The values of items, in order.
 #[cycle(eval)]
-#[tactic(auto, using(crate::proofs::Lists::items, dml_meaning::proofs::Leaving::leaving), unfolding(dml_meaning::specs::Meaning::values_from))]
+#[tactic(auto, using(crate::proofs::Lists::items, dml_meaning::proofs::Leaving::leaving), unfolding(dml_meaning::specs::References::values_from))]
 pub(crate) fn open_values<W: World, L: Ledger>(
-    alloc: Global,
     items: &[Item],
-    room: u64,
-    around: &Around<'_>,
-    live: &mut Live,
-    world: &mut W,
-    steps: &mut Steps<L>,
+    here: Here<'_>,
+    evaluation: &mut Evaluation<'_, '_, W, L>,
 ) -> Result<Vec<Tree>, Exit>
-    ensures gives { Follows (λ v. v.items) result W.answers live.old (W.asked world.old) live.new
-        (W.asked world.new) (values_from (eval room) (around_of around.now W.reading W.calls)
+    ensures gives { Evaluates (λ v. v.items) result W.World evaluation.old evaluation.new
+        (values_from (eval here.entry.room) (around_in W.World here.entry)
         (items_seen items.now) []) }
-    ensures counted { steps.new + live.new.work.left ≡ steps.old + live.old.work.left }
+    ensures counted { total evaluation.new ≡ total evaluation.old }
+    ensures lent { KeepsLoans evaluation.old evaluation.new }
 {
-    let mut values = Vec::new(alloc);
+    let mut values = Vec::new(evaluation.alloc);
     'items: for item in items {
-        let value = open_item(alloc, item, room, around, live, world, steps)?;
+        let value = open_item(item, here, evaluation)?;
         values.push(value)?;
     }
     Ok(values)
@@ -172,53 +145,40 @@ pub(crate) fn open_values<W: World, L: Ledger>(
 /// Whether a condition holds.
 #[inline(always)]
 #[cycle(eval)]
-#[tactic(auto, using(pan_ast::proofs::Places::item_place_seen), unfolding(dml_meaning::specs::Meaning::condition_run))]
+#[tactic(auto, using(pan_ast::proofs::Places::item_place_seen), unfolding(dml_meaning::specs::Loops::condition_run))]
 pub(crate) fn holds<W: World, L: Ledger>(
-    alloc: Global,
     condition: &Item,
-    room: u64,
-    around: &Around<'_>,
-    live: &mut Live,
-    world: &mut W,
-    steps: &mut Steps<L>,
+    here: Here<'_>,
+    evaluation: &mut Evaluation<'_, '_, W, L>,
 ) -> Result<bool, Exit>
-    ensures gives { Follows (λ t. t) result W.answers live.old (W.asked world.old) live.new
-        (W.asked world.new) (condition_run (eval room) (around_of around.now W.reading W.calls)
+    ensures gives { Evaluates (λ t. t) result W.World evaluation.old evaluation.new
+        (condition_run (eval here.entry.room) (around_in W.World here.entry)
         (item_seen condition.now)) }
-    ensures counted { steps.new + live.new.work.left ≡ steps.old + live.old.work.left }
+    ensures counted { total evaluation.new ≡ total evaluation.old }
+    ensures lent { KeepsLoans evaluation.old evaluation.new }
 {
-    let value = open_item(alloc, condition, room, around, live, world, steps)?;
-    boolean(
-        alloc,
-        Code::NotBoolean,
-        &condition.place,
-        &value,
-        live,
-        world,
-    )
+    let value = open_item(condition, here, evaluation)?;
+    boolean(Code::NotBoolean, &condition.place, &value, evaluation)
 }
 
 /// A choice without another side.
 #[cycle(eval)]
 #[tactic(auto, using(dml_meaning::proofs::Leaving::leaving))]
 fn run_if<W: World, L: Ledger>(
-    alloc: Global,
     condition: &Item,
     then: &Item,
-    room: u64,
-    around: &Around<'_>,
-    live: &mut Live,
-    world: &mut W,
-    steps: &mut Steps<L>,
+    here: Here<'_>,
+    evaluation: &mut Evaluation<'_, '_, W, L>,
 ) -> Result<Tree, Exit>
-    ensures gives { Follows (λ t. t) result W.answers live.old (W.asked world.old) live.new
-        (W.asked world.new) (choose (eval room) (around_of around.now W.reading W.calls)
-        (item_seen condition.now) ((eval room).opens (around_of around.now W.reading W.calls)
+    ensures gives { Evaluates (λ t. t) result W.World evaluation.old evaluation.new
+        (choose (eval here.entry.room) (around_in W.World here.entry)
+        (item_seen condition.now) ((eval here.entry.room).opens (around_in W.World here.entry)
         (item_seen then.now)) (give undef)) }
-    ensures counted { steps.new + live.new.work.left ≡ steps.old + live.old.work.left }
+    ensures counted { total evaluation.new ≡ total evaluation.old }
+    ensures lent { KeepsLoans evaluation.old evaluation.new }
 {
-    if holds(alloc, condition, room, around, live, world, steps)? {
-        open_item(alloc, then, room, around, live, world, steps)
+    if holds(condition, here, evaluation)? {
+        open_item(then, here, evaluation)
     } else {
         Ok(Tree::undef())
     }
@@ -228,27 +188,24 @@ fn run_if<W: World, L: Ledger>(
 #[cycle(eval)]
 #[tactic(auto, using(dml_meaning::proofs::Leaving::leaving))]
 fn run_if_else<W: World, L: Ledger>(
-    alloc: Global,
     condition: &Item,
     then: &Item,
     other: &Item,
-    room: u64,
-    around: &Around<'_>,
-    live: &mut Live,
-    world: &mut W,
-    steps: &mut Steps<L>,
+    here: Here<'_>,
+    evaluation: &mut Evaluation<'_, '_, W, L>,
 ) -> Result<Tree, Exit>
-    ensures gives { Follows (λ t. t) result W.answers live.old (W.asked world.old) live.new
-        (W.asked world.new) (choose (eval room) (around_of around.now W.reading W.calls)
-        (item_seen condition.now) ((eval room).opens (around_of around.now W.reading W.calls)
-        (item_seen then.now)) ((eval room).opens (around_of around.now W.reading W.calls)
+    ensures gives { Evaluates (λ t. t) result W.World evaluation.old evaluation.new
+        (choose (eval here.entry.room) (around_in W.World here.entry)
+        (item_seen condition.now) ((eval here.entry.room).opens (around_in W.World here.entry)
+        (item_seen then.now)) ((eval here.entry.room).opens (around_in W.World here.entry)
         (item_seen other.now))) }
-    ensures counted { steps.new + live.new.work.left ≡ steps.old + live.old.work.left }
+    ensures counted { total evaluation.new ≡ total evaluation.old }
+    ensures lent { KeepsLoans evaluation.old evaluation.new }
 {
-    if holds(alloc, condition, room, around, live, world, steps)? {
-        open_item(alloc, then, room, around, live, world, steps)
+    if holds(condition, here, evaluation)? {
+        open_item(then, here, evaluation)
     } else {
-        open_item(alloc, other, room, around, live, world, steps)
+        open_item(other, here, evaluation)
     }
 }
 
@@ -257,36 +214,22 @@ fn run_if_else<W: World, L: Ledger>(
 #[cycle(eval)]
 #[tactic(auto, using(pan_ast::proofs::Forms::seen_reference, dml_meaning::proofs::Leaving::leaving), unfolding(dml_meaning::specs::Meaning::assign_run))]
 fn run_assign<W: World, L: Ledger>(
-    alloc: Global,
     reference: &Reference,
     right: &Item,
-    room: u64,
-    around: &Around<'_>,
-    live: &mut Live,
-    world: &mut W,
-    steps: &mut Steps<L>,
+    here: Here<'_>,
+    evaluation: &mut Evaluation<'_, '_, W, L>,
 ) -> Result<Tree, Exit>
-    ensures gives { Follows (λ t. t) result W.answers live.old (W.asked world.old) live.new
-        (W.asked world.new) (assign_run (eval room) (around_of around.now W.reading W.calls)
+    ensures gives { Evaluates (λ t. t) result W.World evaluation.old evaluation.new
+        (assign_run (eval here.entry.room) (around_in W.World here.entry)
         (reference_seen reference.now) (item_seen right.now)) }
-    ensures counted { steps.new + live.new.work.left ≡ steps.old + live.old.work.left }
+    ensures counted { total evaluation.new ≡ total evaluation.old }
+    ensures lent { KeepsLoans evaluation.old evaluation.new }
 {
     let place = &reference.place;
     let name = &reference.name;
     let whole = is_whole(&reference.indexes);
-    may_change(alloc, place, name, whole, around, live, world)?;
-    run_set(
-        alloc,
-        place,
-        name,
-        &reference.indexes,
-        right,
-        room,
-        around,
-        live,
-        world,
-        steps,
-    )
+    may_change(place, name, whole, here.around, evaluation)?;
+    run_set(place, name, &reference.indexes, right, here, evaluation)
 }
 
 /// The indexes, the right side, and then the change.
@@ -294,28 +237,25 @@ fn run_assign<W: World, L: Ledger>(
 #[cycle(eval)]
 #[tactic(auto, using(dml_meaning::proofs::Leaving::leaving), unfolding(dml_meaning::specs::Meaning::set_run))]
 fn run_set<W: World, L: Ledger>(
-    alloc: Global,
     place: &Place,
     name: &Text,
     indexes: &[Item],
     right: &Item,
-    room: u64,
-    around: &Around<'_>,
-    live: &mut Live,
-    world: &mut W,
-    steps: &mut Steps<L>,
+    here: Here<'_>,
+    evaluation: &mut Evaluation<'_, '_, W, L>,
 ) -> Result<Tree, Exit>
-    ensures gives { Follows (λ t. t) result W.answers live.old (W.asked world.old) live.new
-        (W.asked world.new) (set_run (eval room) (around_of around.now W.reading W.calls) place.now
+    ensures gives { Evaluates (λ t. t) result W.World evaluation.old evaluation.new
+        (set_run (eval here.entry.room) (around_in W.World here.entry) place.now
         name.now (items_seen indexes.now) (item_seen right.now)) }
-    ensures counted { steps.new + live.new.work.left ≡ steps.old + live.old.work.left }
+    ensures counted { total evaluation.new ≡ total evaluation.old }
+    ensures lent { KeepsLoans evaluation.old evaluation.new }
 {
     if let [] = indexes {
-        return run_whole(alloc, place, name, right, room, around, live, world, steps);
+        return run_whole(place, name, right, here, evaluation);
     }
-    let keys = open_values(alloc, indexes, room, around, live, world, steps)?;
-    let value = open_item(alloc, right, room, around, live, world, steps)?;
-    set_value(alloc, place, name, &keys, value, live, world, steps)
+    let keys = open_values(indexes, here, evaluation)?;
+    let value = open_item(right, here, evaluation)?;
+    set_value(place, name, &keys, value, evaluation)
 }
 
 /// The right side of an assignment without indexes, and then the change.
@@ -323,21 +263,18 @@ fn run_set<W: World, L: Ledger>(
 #[cycle(eval)]
 #[tactic(auto, using(crate::proofs::Lists::no_values), unfolding(dml_meaning::specs::Meaning::set_run))]
 fn run_whole<W: World, L: Ledger>(
-    alloc: Global,
     place: &Place,
     name: &Text,
     right: &Item,
-    room: u64,
-    around: &Around<'_>,
-    live: &mut Live,
-    world: &mut W,
-    steps: &mut Steps<L>,
+    here: Here<'_>,
+    evaluation: &mut Evaluation<'_, '_, W, L>,
 ) -> Result<Tree, Exit>
-    ensures gives { Follows (λ t. t) result W.answers live.old (W.asked world.old) live.new
-        (W.asked world.new) (set_run (eval room) (around_of around.now W.reading W.calls) place.now
+    ensures gives { Evaluates (λ t. t) result W.World evaluation.old evaluation.new
+        (set_run (eval here.entry.room) (around_in W.World here.entry) place.now
         name.now none (item_seen right.now)) }
-    ensures counted { steps.new + live.new.work.left ≡ steps.old + live.old.work.left }
+    ensures counted { total evaluation.new ≡ total evaluation.old }
+    ensures lent { KeepsLoans evaluation.old evaluation.new }
 {
-    let value = open_item(alloc, right, room, around, live, world, steps)?;
-    set_value(alloc, place, name, &[], value, live, world, steps)
+    let value = open_item(right, here, evaluation)?;
+    set_value(place, name, &[], value, evaluation)
 }

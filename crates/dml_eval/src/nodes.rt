@@ -1,6 +1,6 @@
 ghost use Rattle.std.specs.Prelude.{◌≡◌, ◌+◌, ◌≤◌, IfOk};
-ghost use Rattle.dml_world.specs.Exits.{Follows};
-ghost use Rattle.dml_world.specs.Seen.{around_of};
+ghost use Rattle.dml_eval.specs.Heres.{around_in};
+ghost use Rattle.dml_world.specs.Evaluations.{Evaluates, KeepsLoans, total};
 ghost use Rattle.dml_eval.specs.Waits.{Leads, operand_run, operand_weight};
 ghost use Rattle.dml_leaves.specs.Weights.{node_weight};
 ghost use Rattle.dml_meaning.specs.Meaning.{eval, node_run};
@@ -8,14 +8,13 @@ ghost use Rattle.pan_ast.specs.Seen.{node_seen};
 
 use crate::calls::run_call;
 use crate::chains::{Chain, run_chain};
+use crate::here::Here;
 use crate::items::open_item;
-use base::Steps;
 use dml_leaves::names::run_name;
 use dml_world::leaf::{apply_unary, fault, literal, text_value};
-use dml_world::{Around, Exit, Live, World};
+use dml_world::{Evaluation, Exit, World};
 use pan_ast::{Code, Form, Node, Place};
 use path_tree::{Tree, UnaryOp};
-use std::alloc::Global;
 use std::sync::ledger::Ledger;
 
 /// What an operand is: a value, which was evaluated, or a chain, which was not.
@@ -29,22 +28,19 @@ pub(crate) enum Operand<'a> {
 #[inline(always)]
 #[cycle(eval)]
 pub(crate) fn run_node<W: World, L: Ledger>(
-    alloc: Global,
     node: &Node,
-    room: u64,
-    around: &Around<'_>,
-    live: &mut Live,
-    world: &mut W,
-    steps: &mut Steps<L>,
+    here: Here<'_>,
+    evaluation: &mut Evaluation<'_, '_, W, L>,
 ) -> Result<Tree, Exit>
-    ensures gives { Follows (λ t. t) result W.answers live.old (W.asked world.old) live.new
-        (W.asked world.new) (node_run (eval room) (around_of around.now W.reading W.calls)
+    ensures gives { Evaluates (λ t. t) result W.World evaluation.old evaluation.new
+        (node_run (eval here.entry.room) (around_in W.World here.entry)
         (node_seen node.now)) }
-    ensures counted { steps.new + live.new.work.left ≡ steps.old + live.old.work.left }
+    ensures counted { total evaluation.new ≡ total evaluation.old }
+    ensures lent { KeepsLoans evaluation.old evaluation.new }
 {
-    match run_operand(alloc, node, room, around, live, world, steps)? {
+    match run_operand(node, here, evaluation)? {
         Operand::Value(value) => Ok(value),
-        Operand::Chain(chain) => run_chain(alloc, chain, room, around, live, world, steps),
+        Operand::Chain(chain) => run_chain(chain, here, evaluation),
     }
 }
 
@@ -52,35 +48,28 @@ pub(crate) fn run_node<W: World, L: Ledger>(
 #[cycle(eval)]
 #[tactic(auto, using(pan_ast::proofs::Forms::nodes, dml_meaning::proofs::Chains::at_spine, dml_leaves::proofs::Weights::weight_spine), unfolding(dml_meaning::specs::Meaning::node_run))]
 pub(crate) fn run_operand<'a, W: World, L: Ledger>(
-    alloc: Global,
     node: &'a Node,
-    room: u64,
-    around: &Around<'_>,
-    live: &mut Live,
-    world: &mut W,
-    steps: &mut Steps<L>,
+    here: Here<'_>,
+    evaluation: &mut Evaluation<'_, '_, W, L>,
 ) -> Result<Operand<'a>, Exit>
-    ensures gives { Leads (operand_run (eval room) (around_of around.now W.reading W.calls)) result
-        W.answers live.old (W.asked world.old) live.new (W.asked world.new)
-        (node_run (eval room) (around_of around.now W.reading W.calls) (node_seen node.now)) }
-    ensures counted { steps.new + live.new.work.left ≡ steps.old + live.old.work.left }
+    ensures gives { Leads (operand_run (eval here.entry.room) (around_in W.World here.entry)) result
+        W.World evaluation.old evaluation.new
+        (node_run (eval here.entry.room) (around_in W.World here.entry) (node_seen node.now)) }
+    ensures counted { total evaluation.new ≡ total evaluation.old }
+    ensures lent { KeepsLoans evaluation.old evaluation.new }
     ensures lighter { IfOk result (λ o. operand_weight o ≤ node_weight (node_seen node.now)) }
 {
     let place = &node.place;
     let value = match &node.form {
-        Form::Long(number) => literal(alloc, place, Tree::long(*number), live, world, steps)?,
-        Form::Text(text) => literal(alloc, place, text_value(text)?, live, world, steps)?,
-        Form::Boolean(holds) => literal(alloc, place, Tree::boolean(*holds), live, world, steps)?,
-        Form::Undef => literal(alloc, place, Tree::undef(), live, world, steps)?,
-        Form::Null => literal(alloc, place, Tree::null(), live, world, steps)?,
-        Form::Name(name) => run_name(alloc, place, name, around, live, world, steps)?,
-        Form::Call(name, arguments) => run_call(
-            alloc, place, name, arguments, room, around, live, world, steps,
-        )?,
-        Form::Inside(item) => open_item(alloc, item, room, around, live, world, steps)?,
-        Form::Unary(op, operand) => open_sign(
-            alloc, place, *op, operand, room, around, live, world, steps,
-        )?,
+        Form::Long(number) => literal(place, Tree::long(*number), evaluation)?,
+        Form::Text(text) => literal(place, text_value(text)?, evaluation)?,
+        Form::Boolean(holds) => literal(place, Tree::boolean(*holds), evaluation)?,
+        Form::Undef => literal(place, Tree::undef(), evaluation)?,
+        Form::Null => literal(place, Tree::null(), evaluation)?,
+        Form::Name(name) => run_name(place, name, here.around, evaluation)?,
+        Form::Call(name, arguments) => run_call(place, name, arguments, here, evaluation)?,
+        Form::Inside(item) => open_item(item, here, evaluation)?,
+        Form::Unary(op, operand) => open_sign(place, *op, operand, here, evaluation)?,
         Form::Spine(first, step, rest) => {
             return Ok(Operand::Chain(Chain {
                 place,
@@ -97,24 +86,28 @@ pub(crate) fn run_operand<'a, W: World, L: Ledger>(
 #[cycle(eval)]
 #[tactic(auto, using(dml_meaning::proofs::Leaving::leaving), unfolding(dml_meaning::specs::Meaning::eval))]
 fn open_sign<W: World, L: Ledger>(
-    alloc: Global,
     place: &Place,
     op: UnaryOp,
     operand: &Node,
-    room: u64,
-    around: &Around<'_>,
-    live: &mut Live,
-    world: &mut W,
-    steps: &mut Steps<L>,
+    here: Here<'_>,
+    evaluation: &mut Evaluation<'_, '_, W, L>,
 ) -> Result<Tree, Exit>
-    ensures gives { Follows (λ t. t) result W.answers live.old (W.asked world.old) live.new
-        (W.asked world.new) ((eval room).signs (around_of around.now W.reading W.calls) place.now op
+    ensures gives { Evaluates (λ t. t) result W.World evaluation.old evaluation.new
+        ((eval here.entry.room).signs (around_in W.World here.entry) place.now op
         (node_seen operand.now)) }
-    ensures counted { steps.new + live.new.work.left ≡ steps.old + live.old.work.left }
+    ensures counted { total evaluation.new ≡ total evaluation.old }
+    ensures lent { KeepsLoans evaluation.old evaluation.new }
 {
-    if room == 0 {
-        return Err(fault(alloc, Code::CallDepth, place));
+    if here.room == 0 {
+        return Err(fault(evaluation.alloc, Code::CallDepth, place));
     }
-    let value = run_node(alloc, operand, room - 1, around, live, world, steps)?;
-    apply_unary(alloc, place, op, &value, live, world, steps)
+    let value = run_node(
+        operand,
+        Here {
+            around: here.around,
+            room: here.room - 1,
+        },
+        evaluation,
+    )?;
+    apply_unary(place, op, &value, evaluation)
 }

@@ -8,7 +8,8 @@ use Rattle.pan_ast.specs.declared.syntax.Item.{Item as RItem}
 use Rattle.pan_ast.specs.declared.syntax.Step.{Step as RStep}
 use Rattle.pan_ast.specs.Seen.{item_seen, items_seen, step_seen}
 use Rattle.pan_ast.specs.Syntax.{Item, Items, none, more, Node, Name, Index, Binary, And, Or, Long, Text, Boolean, Undef, Null, Call, Inside, Unary, Step, AtIndex, AtBinary, AtAnd, AtOr, stepped, steps_on}
-use Rattle.dml_meaning.specs.Meaning.{no_indexes, reference_on}
+use Rattle.dml_meaning.specs.Names.{no_indexes}
+use Rattle.dml_meaning.specs.References.{reference_on}
 use Rattle.dml_leaves.specs.References.{indexed, indexes_back, is_index, is_lone, is_no_reference, is_pair}
 
 -- one more index, at the end

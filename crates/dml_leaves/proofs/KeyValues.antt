@@ -5,7 +5,8 @@ use Rattle.pan_ast.specs.declared.place.Place.{Place}
 use Rattle.questions.specs.Contents.{Answers}
 use Rattle.questions.specs.Run.{Meter, Done, then}
 use Rattle.dml_meaning.specs.Run.{Env}
-use Rattle.dml_meaning.specs.Meaning.{on_text, set_key, set_keys}
+use Rattle.dml_meaning.specs.Leaves.{on_text}
+use Rattle.dml_meaning.specs.Structures.{set_key, set_keys}
 use Rattle.dml_meaning.proofs.Leaving.{set_keys_leave}
 use Rattle.dml_world.specs.declared.stop.Exit.{Exit}
 use Rattle.dml_world.specs.declared.stop.Exit.TheVariants as exit

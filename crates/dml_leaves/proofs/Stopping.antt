@@ -6,7 +6,8 @@ use Rattle.questions.specs.Contents.{Answers}
 use Rattle.questions.specs.Run.{Meter, Outcome, Done, then}
 use Rattle.questions.specs.Told.{LeavesAtMost}
 use Rattle.dml_meaning.specs.Run.{Env}
-use Rattle.dml_meaning.specs.Meaning.{change, set_value, steps}
+use Rattle.dml_meaning.specs.Names.{change}
+use Rattle.dml_meaning.specs.Meaning.{set_value, steps}
 use Rattle.dml_meaning.proofs.Leaving.{change_leaves, then_leaves}
 use Rattle.dml_world.specs.declared.stop.Exit.{Exit}
 use Rattle.dml_world.specs.Exits.{Ends}

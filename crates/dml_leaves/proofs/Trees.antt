@@ -15,7 +15,8 @@ use Rattle.pan_ast.specs.declared.syntax.Item.{Item as RItem}
 use Rattle.pan_ast.specs.Seen.{items_seen}
 use Rattle.dml_meaning.specs.Indexes.{put_code, term_for, terms_from}
 use Rattle.dml_meaning.specs.Values.{is_nothing}
-use Rattle.dml_meaning.specs.Meaning.{key_value, no_indexes}
+use Rattle.dml_meaning.specs.Names.{no_indexes}
+use Rattle.dml_meaning.specs.Loops.{key_value}
 
 -- what is no text and no long is no index
 pub other_term : (k : Plain) (t : Option Plain) → text_of k ≡ None → long_of k ≡ None → term_for k t

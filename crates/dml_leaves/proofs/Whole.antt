@@ -12,7 +12,8 @@ use Rattle.questions.specs.Contents.{Answers}
 use Rattle.questions.specs.Run.{Meter, Done, then}
 use Rattle.dml_meaning.specs.Run.{Env}
 use Rattle.dml_meaning.specs.Indexes.{changed, put_code}
-use Rattle.dml_meaning.specs.Meaning.{change, root_of, set_root, set_value, steps, with_root}
+use Rattle.dml_meaning.specs.Names.{change, root_of, set_root, with_root}
+use Rattle.dml_meaning.specs.Meaning.{set_value, steps}
 use Rattle.dml_world.specs.declared.stop.Exit.{Exit}
 use Rattle.dml_world.specs.Exits.{Ends}
 use Rattle.dml_leaves.proofs.Stopping.{change_stops}

@@ -12,7 +12,7 @@ use Rattle.dml_world.specs.declared.stop.Exit.TheVariants as exit
 use Rattle.dml_world.specs.Exits.{IsFault}
 use Rattle.dml_meaning.specs.Indexes.{put_code}
 use Rattle.dml_meaning.specs.Around.{with_local}
-use Rattle.dml_meaning.specs.Meaning.{with_root}
+use Rattle.dml_meaning.specs.Names.{with_root}
 use Rattle.dml_world.specs.declared.frame.Live.{Live}
 use Rattle.dml_meaning.specs.declared.local.Local.{Local}
 use Rattle.dml_world.specs.Seen.{env}

@@ -5,7 +5,7 @@ use Rattle.pan_ast.specs.declared.syntax.Item.{Item as RItem}
 use Rattle.pan_ast.specs.declared.place.Place.{Place}
 use Rattle.pan_ast.specs.Seen.{item_seen, node_seen, step_seen}
 use Rattle.pan_ast.specs.Syntax.{Items, none, more, Node, Name, Index, Reference, Refer, Step, AtIndex, stepped, steps_on}
-use Rattle.dml_meaning.specs.Meaning as plain
+use Rattle.dml_meaning.specs.Means as plain
 use Rattle.dml_leaves.specs.declared.references.Argument.{Argument}
 use Rattle.dml_leaves.specs.declared.references.Reached.{Reached}
 use Rattle.dml_leaves.specs.declared.references.Front.{Front}

@@ -3,11 +3,13 @@ ghost use Rattle.path_tree.specs.Find.{kind_of};
 ghost use Rattle.path_tree.specs.Plain as plain;
 ghost use Rattle.base.specs.Answers.{Gives};
 ghost use Rattle.path_tree.specs.Refusals.{refusal as refusal_of};
-ghost use Rattle.dml_meaning.specs.Meaning.{as_list, delete_reached, extend_list, extend_reached, extend_self, is_changed, is_self, list_by, or_refuse, set_self, without_root};
+ghost use Rattle.dml_meaning.specs.Names.{is_self};
+ghost use Rattle.dml_meaning.specs.Leaves.{or_refuse};
+ghost use Rattle.dml_meaning.specs.BuiltIns.{as_list, delete_reached, extend_list, extend_reached, extend_self, is_changed, list_by, set_self, without_root};
 ghost use Rattle.dml_meaning.specs.Values.{extended, passes_option};
 ghost use Rattle.dml_meaning.specs.Words.{automatic_of};
-ghost use Rattle.dml_world.specs.Exits.{Follows};
-ghost use Rattle.dml_world.specs.Seen.{around_of, env};
+ghost use Rattle.dml_world.specs.Evaluations.{Evaluates, KeepsLoans, total};
+ghost use Rattle.dml_world.specs.Seen.{around_of, env, is_fixed};
 ghost use Rattle.dml_leaves.specs.References.{reached_of};
 
 use crate::indexes::delete_in;
@@ -16,11 +18,12 @@ use crate::references::Reached;
 use base::Text;
 use dml_meaning::{Automatic, Side, Test, automatic_name};
 use dml_world::leaf::{fault, passes, refusal};
-use dml_world::{Around, Exit, Live, World};
+use dml_world::{Around, Evaluation, Exit, Live, World};
 use pan_ast::{Code, Place};
 use path_tree::{Kind, Refused, Tree};
 use std::alloc::{AllocError, Global};
 use std::mem;
+use std::sync::ledger::Ledger;
 
 /// Whether a value passes a test; nothing passes none.
 pub fn passes_option(test: Test, value: Option<&Tree>) -> bool
@@ -43,39 +46,35 @@ fn or_undef(value: Option<Tree>) -> Tree
 }
 
 /// A list, where undef is an empty one.
-fn list_from<W: World>(
-    alloc: Global,
+fn list_from<W: World, L: Ledger>(
     place: &Place,
     value: Tree,
-    live: &Live,
-    world: &W,
+    evaluation: &Evaluation<'_, '_, W, L>,
 ) -> Result<Tree, Exit>
-    ensures { Follows (λ t. t) result W.answers live.now (W.asked world.now) live.now
-        (W.asked world.now) (list_by place.now value (kind_of value)) }
+    ensures { Evaluates (λ t. t) result W.World evaluation.now evaluation.now
+        (list_by place.now value (kind_of value)) }
 {
     match value.kind() {
         Kind::List => Ok(value),
-        Kind::Undef => Ok(Tree::empty_list(alloc)?),
-        _ => Err(fault(alloc, Code::BadArgument, place)),
+        Kind::Undef => Ok(Tree::empty_list(evaluation.alloc)?),
+        _ => Err(fault(evaluation.alloc, Code::BadArgument, place)),
     }
 }
 
 /// A list that takes a value.
-fn as_list<W: World>(
-    alloc: Global,
+fn as_list<W: World, L: Ledger>(
     place: &Place,
     list: Tree,
     value: &Tree,
-    live: &Live,
-    world: &W,
+    evaluation: &Evaluation<'_, '_, W, L>,
 ) -> Result<Tree, Exit>
-    ensures { Follows (λ t. t) result W.answers live.now (W.asked world.now) live.now
-        (W.asked world.now) (as_list place.now list value.now) }
+    ensures { Evaluates (λ t. t) result W.World evaluation.now evaluation.now
+        (as_list place.now list value.now) }
 {
     if passes(Test::Null, value.kind()) {
-        return Err(fault(alloc, Code::BadArgument, place));
+        return Err(fault(evaluation.alloc, Code::BadArgument, place));
     }
-    list_from(alloc, place, list, live, world)
+    list_from(place, list, evaluation)
 }
 
 /// A list takes a value at an end, in place.
@@ -89,97 +88,100 @@ fn push(alloc: Global, side: Side, list: &mut Tree, value: Tree) -> Result<(), R
 }
 
 /// A list with a value more at an end.
-fn extend<W: World>(
-    alloc: Global,
+fn extend<W: World, L: Ledger>(
     place: &Place,
     side: Side,
     list: Tree,
     value: Tree,
-    live: &Live,
-    world: &W,
+    evaluation: &Evaluation<'_, '_, W, L>,
 ) -> Result<Tree, Exit>
-    ensures { Follows (λ t. t) result W.answers live.now (W.asked world.now) live.now
-        (W.asked world.now) (or_refuse place.now (extended side list value)) }
+    ensures { Evaluates (λ t. t) result W.World evaluation.now evaluation.now
+        (or_refuse place.now (extended side list value)) }
 {
     let mut list = list;
-    match push(alloc, side, &mut list, value) {
+    match push(evaluation.alloc, side, &mut list, value) {
         Ok(()) => Ok(list),
-        Err(refused) => Err(refusal(alloc, place, refused)),
+        Err(refused) => Err(refusal(evaluation.alloc, place, refused)),
     }
 }
 
 /// What `append` and `prepend` give of a value that is copied.
-pub fn extend_list<W: World>(
-    alloc: Global,
+pub fn extend_list<W: World, L: Ledger>(
     place: &Place,
     side: Side,
     list: Tree,
     value: Tree,
-    live: &Live,
-    world: &W,
+    evaluation: &Evaluation<'_, '_, W, L>,
 ) -> Result<Tree, Exit>
-    ensures { Follows (λ t. t) result W.answers live.now (W.asked world.now) live.now
-        (W.asked world.now) (extend_list place.now side list value) }
+    ensures { Evaluates (λ t. t) result W.World evaluation.now evaluation.now
+        (extend_list place.now side list value) }
 {
-    let list = as_list(alloc, place, list, &value, live, world)?;
-    extend(alloc, place, side, list, value, live, world)
+    let list = as_list(place, list, &value, evaluation)?;
+    extend(place, side, list, value, evaluation)
 }
 
 /// SELF gets a value, which is the value of the call.
-fn set_self<W: World>(value: Tree, live: &mut Live, world: &W) -> Result<Tree, Exit>
-    ensures gives { Follows (λ t. t) result W.answers live.old (W.asked world.now) live.new
-        (W.asked world.now) (set_self value) }
-    ensures left { live.new.work.left ≡ live.old.work.left }
+fn set_self<W: World, L: Ledger>(
+    value: Tree,
+    evaluation: &mut Evaluation<'_, '_, W, L>,
+) -> Result<Tree, Exit>
+    ensures gives { Evaluates (λ t. t) result W.World evaluation.old evaluation.new
+        (set_self value) }
+    ensures counted { total evaluation.new ≡ total evaluation.old }
+    ensures lent { KeepsLoans evaluation.old evaluation.new }
 {
-    live.self_value = value.copy()?;
+    evaluation.live.self_value = value.copy()?;
     Ok(value)
 }
 
 /// `append` and `prepend` of one value: SELF takes it.
-pub fn extend_self<W: World>(
-    alloc: Global,
+pub fn extend_self<W: World, L: Ledger>(
     place: &Place,
     side: Side,
     value: Tree,
     around: &Around<'_>,
-    live: &mut Live,
-    world: &W,
+    evaluation: &mut Evaluation<'_, '_, W, L>,
 ) -> Result<Tree, Exit>
-    ensures gives { Follows (λ t. t) result W.answers live.old (W.asked world.now) live.new
-        (W.asked world.now) (extend_self (around_of around.now W.reading W.calls) place.now side
+    ensures gives { Evaluates (λ t. t) result W.World evaluation.old evaluation.new
+        (extend_self (around_of around.now W.reading W.calls) place.now side
         value) }
-    ensures left { live.new.work.left ≡ live.old.work.left }
+    ensures counted { total evaluation.new ≡ total evaluation.old }
+    ensures lent { KeepsLoans evaluation.old evaluation.new }
 {
     if passes(Test::Null, value.kind()) {
-        return Err(fault(alloc, Code::BadArgument, place));
+        return Err(fault(evaluation.alloc, Code::BadArgument, place));
     }
     if around.self_use.is_fixed() {
-        return Err(fault(alloc, Code::SelfChange, place));
+        return Err(fault(evaluation.alloc, Code::SelfChange, place));
     }
-    let list = mem::replace(&mut live.self_value, Tree::undef());
-    let longer = extend_list(alloc, place, side, list, value, live, world)?;
-    set_self(longer, live, world)
+    let list = mem::replace(&mut evaluation.live.self_value, Tree::undef());
+    let longer = extend_list(place, side, list, value, evaluation)?;
+    set_self(longer, evaluation)
 }
 
 /// Whether `append` and `prepend` change what a name stands for: a local, SELF, or a name that is
 /// none. Anything else is copied.
-pub fn is_changed<W: World>(name: &Text, around: &Around<'_>, live: &Live, world: &W) -> bool
-    ensures { result ≡ is_changed (around_of around.now W.reading W.calls) name.now (env live.now) }
+pub fn is_changed<W: World, L: Ledger>(
+    name: &Text,
+    around: &Around<'_>,
+    evaluation: &Evaluation<'_, '_, W, L>,
+) -> bool
+    ensures { result ≡ is_changed (around_of around.now W.reading W.calls) name.now
+        (env evaluation.now.live) }
 {
     match automatic_name(name.as_str()) {
         Some(Automatic::OwnValue) => true,
-        Some(_) => live.locals.find(name.as_str()).is_some(),
+        Some(_) => evaluation.live.locals.find(name.as_str()).is_some(),
         None => {
-            live.locals.find(name.as_str()).is_some()
+            evaluation.live.locals.find(name.as_str()).is_some()
                 || around.frame.globals.value(name.as_str()).is_none()
         }
     }
 }
 
 /// Whether a name is SELF where it may not be changed.
-fn is_fixed_self<W: World>(name: &Text, around: &Around<'_>, world: &W) -> bool
-    ensures { result ≡ (is_self (automatic_of name.now)
-        && (around_of around.now W.reading W.calls).fixed) }
+fn is_fixed_self(name: &Text, around: &Around<'_>) -> bool
+    ensures { result ≡ (is_self (automatic_of name.now) && is_fixed around.now.self_use) }
 {
     match automatic_name(name.as_str()) {
         Some(Automatic::OwnValue) => around.self_use.is_fixed(),
@@ -189,34 +191,33 @@ fn is_fixed_self<W: World>(name: &Text, around: &Around<'_>, world: &W) -> bool
 
 /// `append` and `prepend` of a reference: what it leads to takes the value, and the name is changed
 /// at the indexes.
-pub fn extend_reached<W: World>(
-    alloc: Global,
+pub fn extend_reached<W: World, L: Ledger>(
     place: &Place,
     side: Side,
     name: &Text,
     reached: Reached,
     value: Tree,
     around: &Around<'_>,
-    live: &mut Live,
-    world: &W,
+    evaluation: &mut Evaluation<'_, '_, W, L>,
 ) -> Result<Tree, Exit>
-    ensures gives { Follows (λ t. t) result W.answers live.old (W.asked world.now) live.new
-        (W.asked world.now) (extend_reached (around_of around.now W.reading W.calls) place.now side
+    ensures gives { Evaluates (λ t. t) result W.World evaluation.old evaluation.new
+        (extend_reached (around_of around.now W.reading W.calls) place.now side
         name.now (reached_of reached) value) }
-    ensures left { live.new.work.left ≡ live.old.work.left }
+    ensures counted { total evaluation.new ≡ total evaluation.old }
+    ensures lent { KeepsLoans evaluation.old evaluation.new }
 {
     let Reached { keys, value: found } = reached;
-    let list = as_list(alloc, place, or_undef(found), &value, live, world)?;
-    if is_fixed_self(name, around, world) {
-        return Err(fault(alloc, Code::SelfChange, place));
+    let list = as_list(place, or_undef(found), &value, evaluation)?;
+    if is_fixed_self(name, around) {
+        return Err(fault(evaluation.alloc, Code::SelfChange, place));
     }
-    let longer = extend(alloc, place, side, list, value, live, world)?;
-    change(alloc, place, name, &keys, &longer, live, world)?;
+    let longer = extend(place, side, list, value, evaluation)?;
+    change(place, name, &keys, &longer, evaluation)?;
     Ok(longer)
 }
 
-/// What is at indexes of SELF or of a local goes; without indexes the local does. Of a name that is no
-/// local any more nothing goes.
+/// What is at indexes of SELF or of a local goes; without indexes the local does. Of a name that is
+/// no local any more nothing goes.
 #[tactic(auto, using(assign_rules::proofs::Entries::put_back, assign_rules::proofs::Entries::not_taken))]
 fn delete_at(alloc: Global, name: &Text, keys: &[Tree], live: &mut Live) -> Result<(), AllocError>
     ensures gone { OnOk result (env live.new ≡ without_root name.now keys.now (env live.old)) }
@@ -237,19 +238,18 @@ fn delete_at(alloc: Global, name: &Text, keys: &[Tree], live: &mut Live) -> Resu
 }
 
 /// `delete`: a name loses what was reached.
-pub fn delete_reached<W: World>(
-    alloc: Global,
+pub fn delete_reached<W: World, L: Ledger>(
     name: &Text,
     reached: &Reached,
-    live: &mut Live,
-    world: &W,
+    evaluation: &mut Evaluation<'_, '_, W, L>,
 ) -> Result<Tree, Exit>
-    ensures gives { Follows (λ t. t) result W.answers live.old (W.asked world.now) live.new
-        (W.asked world.now) (delete_reached name.now (reached_of reached.now)) }
-    ensures left { live.new.work.left ≡ live.old.work.left }
+    ensures gives { Evaluates (λ t. t) result W.World evaluation.old evaluation.new
+        (delete_reached name.now (reached_of reached.now)) }
+    ensures counted { total evaluation.new ≡ total evaluation.old }
+    ensures lent { KeepsLoans evaluation.old evaluation.new }
 {
     if reached.value.is_some() {
-        delete_at(alloc, name, &reached.keys, live)?;
+        delete_at(evaluation.alloc, name, &reached.keys, &mut evaluation.live)?;
     }
     Ok(Tree::undef())
 }

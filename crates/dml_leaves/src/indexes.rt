@@ -6,13 +6,13 @@ ghost use Rattle.path_tree.specs.Remove.{remove as removed_from};
 ghost use Rattle.path_tree.specs.Find.{child};
 ghost use Rattle.path_tree.specs.Plain as plain;
 ghost use Rattle.dml_leaves.specs.Changes.{IsChange, IsUnput};
-ghost use Rattle.dml_meaning.specs.Meaning.{apply_index};
-ghost use Rattle.dml_world.specs.Exits.{Follows};
+ghost use Rattle.dml_meaning.specs.Leaves.{apply_index};
+ghost use Rattle.dml_world.specs.Evaluations.{Evaluates, KeepsLoans, total};
 
-use base::{Steps, Text};
+use base::Text;
 use dml_meaning::Test;
 use dml_world::leaf::{fault, passes, take_step};
-use dml_world::{Exit, Live, World};
+use dml_world::{Evaluation, Exit, World};
 use pan_ast::{Code, Place};
 use path_tree::{Key, KeyError, PutError, Term, Tree};
 use std::alloc::{AllocError, Global};
@@ -200,21 +200,19 @@ pub fn change_tree(
 
 /// The value at an index.
 pub fn apply_index<W: World, L: Ledger>(
-    alloc: Global,
     place: &Place,
     value: &Tree,
     index: &Tree,
-    live: &mut Live,
-    world: &W,
-    steps: &mut Steps<L>,
+    evaluation: &mut Evaluation<'_, '_, W, L>,
 ) -> Result<Tree, Exit>
-    ensures gives { Follows (λ t. t) result W.answers live.old (W.asked world.now) live.new
-        (W.asked world.now) (apply_index place.now value.now index.now) }
-    ensures counted { steps.new + live.new.work.left ≡ steps.old + live.old.work.left }
+    ensures gives { Evaluates (λ t. t) result W.World evaluation.old evaluation.new
+        (apply_index place.now value.now index.now) }
+    ensures counted { total evaluation.new ≡ total evaluation.old }
+    ensures lent { KeepsLoans evaluation.old evaluation.new }
 {
-    take_step(alloc, place, live, world, steps)?;
+    take_step(place, evaluation)?;
     match at_index(index, value)? {
         Some(found) => Ok(found.copy()?),
-        None => Err(fault(alloc, Code::BadIndex, place)),
+        None => Err(fault(evaluation.alloc, Code::BadIndex, place)),
     }
 }

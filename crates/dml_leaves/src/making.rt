@@ -4,20 +4,21 @@ ghost use Rattle.path_tree.specs.Paths.{path_of};
 ghost use Rattle.path_tree.specs.Plain as plain;
 ghost use Rattle.path_tree.specs.Put.{put};
 ghost use Rattle.dml_meaning.specs.Lookups.{structure_named};
-ghost use Rattle.dml_meaning.specs.Meaning.{are_pairs, assigned_at, is_set, on_text, put_fault, relative_terms, set_key, set_keys};
+ghost use Rattle.dml_meaning.specs.Leaves.{on_text};
+ghost use Rattle.dml_meaning.specs.Structures.{are_pairs, assigned_at, is_set, put_fault, relative_terms, set_key, set_keys};
 ghost use Rattle.dml_meaning.specs.Values.{is_nothing};
 ghost use Rattle.questions.specs.Run.{still};
-ghost use Rattle.dml_world.specs.Exits.{Follows};
+ghost use Rattle.dml_world.specs.Evaluations.{Evaluates, KeepsLoans, total};
 ghost use Rattle.dml_world.specs.Seen.{around_of};
 ghost use Rattle.dml_leaves.specs.Changes.{IsUnputAt, is_short};
 ghost use Rattle.dml_leaves.specs.Statements.{IsStructureForm};
 ghost use Rattle.pan_ast.specs.TemplatesSeen.{form_seen, template_seen};
 
 use crate::indexes::remove_found;
-use base::{Seq, Steps, Text};
+use base::{Seq, Text};
 use dml_meaning::Test;
 use dml_world::leaf::{fault, fault_on, passes};
-use dml_world::{Around, Exit, Live, World, templates};
+use dml_world::{Around, Evaluation, Exit, World, templates};
 use pan_ast::{Code, Item, Place, StatementForm, Template};
 use path_tree::{Anchor, Key, KeyError, Kind, Path, PathError, PutError, Term, Tree};
 use std::alloc::{AllocError, Global};
@@ -27,28 +28,24 @@ use std::sync::ledger::Ledger;
 /// The structure template of a name.
 #[tactic(auto, using(dml_world::proofs::Ends::stops))]
 pub fn structure_named<W: World, L: Ledger>(
-    alloc: Global,
     place: &Place,
     name: &Text,
     around: &Around<'_>,
-    live: &mut Live,
-    world: &mut W,
-    steps: &mut Steps<L>,
+    evaluation: &mut Evaluation<'_, '_, W, L>,
 ) -> Result<Rc<Template>, Exit>
-    ensures gives { Follows (λ t. template_seen t.value) result W.answers live.old
-        (W.asked world.old) live.new (W.asked world.new)
-        (still (structure_named (around_of around.now W.reading W.calls) place.now name.now)) }
-    ensures counted { steps.new + live.new.work.left ≡ steps.old + live.old.work.left }
+    ensures gives { Evaluates (λ t. template_seen t.value) result W.World evaluation.old
+        evaluation.new (still (structure_named (around_of around.now W.reading W.calls) place.now name.now)) }
+    ensures counted { total evaluation.new ≡ total evaluation.old }
+    ensures lent { KeepsLoans evaluation.old evaluation.new }
 {
-    let work = &mut live.work;
     let template = templates::structure_named(
-        alloc,
+        evaluation.alloc,
         place,
         name.as_str(),
         around,
-        world,
-        work,
-        steps,
+        &mut *evaluation.world,
+        &mut evaluation.live.work,
+        &mut *evaluation.steps,
     )?;
     Ok(template)
 }
@@ -93,25 +90,23 @@ pub fn structure_form(form: &StatementForm) -> StructureForm<'_>
 }
 
 /// The terms of a relative path, which is the only one that a structure template assigns to.
-pub fn relative_terms<W: World>(
-    alloc: Global,
+pub fn relative_terms<W: World, L: Ledger>(
     place: &Place,
     text: &Text,
-    live: &Live,
-    world: &W,
+    evaluation: &Evaluation<'_, '_, W, L>,
 ) -> Result<Seq<Term>, Exit>
-    ensures { Follows (λ ms. ms) result W.answers live.now (W.asked world.now) live.now
-        (W.asked world.now) (relative_terms place.now text.now (path_of text.now)) }
+    ensures { Evaluates (λ ms. ms) result W.World evaluation.now evaluation.now
+        (relative_terms place.now text.now (path_of text.now)) }
 {
-    let path = match Path::parse(alloc, text) {
+    let path = match Path::parse(evaluation.alloc, text) {
         Ok(path) => path,
         Err(PathError::Memory) => return Err(Exit::Memory),
-        Err(_) => return Err(fault_on(alloc, Code::BadPath, place, text.as_str())),
+        Err(_) => return Err(fault_on(evaluation.alloc, Code::BadPath, place, text.as_str())),
     };
     match path.anchor {
         Anchor::Relative => Ok(path.terms),
-        Anchor::Absolute => Err(fault(alloc, Code::WrongStatement, place)),
-        Anchor::External(_) => Err(fault_on(alloc, Code::BadPath, place, text.as_str())),
+        Anchor::Absolute => Err(fault(evaluation.alloc, Code::WrongStatement, place)),
+        Anchor::External(_) => Err(fault_on(evaluation.alloc, Code::BadPath, place, text.as_str())),
     }
 }
 
@@ -148,89 +143,81 @@ fn put_fault(alloc: Global, place: &Place, text: &Text, error: PutError) -> Exit
     }
 }
 
-fn put_at<W: World>(
-    alloc: Global,
+fn put_at<W: World, L: Ledger>(
     place: &Place,
     text: &Text,
     terms: &[Term],
     made: Tree,
     value: Tree,
-    live: &Live,
-    world: &W,
+    evaluation: &Evaluation<'_, '_, W, L>,
 ) -> Result<Tree, Exit>
     requires value { is_nothing value ≡ false }
-    ensures { Follows (λ t. t) result W.answers live.now (W.asked world.now) live.now
-        (W.asked world.now) (put_fault (put terms.now value made) place.now text.now) }
+    ensures { Evaluates (λ t. t) result W.World evaluation.now evaluation.now
+        (put_fault (put terms.now value made) place.now text.now) }
 {
     let mut made = made;
-    match made.put(alloc, terms, value) {
+    match made.put(evaluation.alloc, terms, value) {
         Ok(()) => Ok(made),
-        Err(error) => Err(put_fault(alloc, place, text, error)),
+        Err(error) => Err(put_fault(evaluation.alloc, place, text, error)),
     }
 }
 
 /// A value is put at a path, written as `text`, of what is made; null removes.
-pub fn assign_at<W: World>(
-    alloc: Global,
+pub fn assign_at<W: World, L: Ledger>(
     place: &Place,
     text: &Text,
     terms: &[Term],
     made: Tree,
     value: Tree,
-    live: &Live,
-    world: &W,
+    evaluation: &Evaluation<'_, '_, W, L>,
 ) -> Result<Tree, Exit>
-    ensures { Follows (λ t. t) result W.answers live.now (W.asked world.now) live.now
-        (W.asked world.now) (assigned_at place.now text.now terms.now made value) }
+    ensures { Evaluates (λ t. t) result W.World evaluation.now evaluation.now
+        (assigned_at place.now text.now terms.now made value) }
 {
     if passes(Test::Null, value.kind()) {
         let mut made = made;
-        remove_found(alloc, terms, &mut made)?;
+        remove_found(evaluation.alloc, terms, &mut made)?;
         return Ok(made);
     }
-    put_at(alloc, place, text, terms, made, value, live, world)
+    put_at(place, text, terms, made, value, evaluation)
 }
 
 /// A key is set in what is made; null removes it.
-fn set_key<W: World>(
-    alloc: Global,
+fn set_key<W: World, L: Ledger>(
     place: &Place,
     key: &Text,
     value: &Tree,
     made: Tree,
-    live: &Live,
-    world: &W,
+    evaluation: &Evaluation<'_, '_, W, L>,
 ) -> Result<Tree, Exit>
-    ensures { Follows (λ t. t) result W.answers live.now (W.asked world.now) live.now
-        (W.asked world.now) (set_key place.now value.now made key.now) }
+    ensures { Evaluates (λ t. t) result W.World evaluation.now evaluation.now
+        (set_key place.now value.now made key.now) }
 {
     match Key::of_text(key) {
         Ok(term) => {
             let terms = [Term::Key(term)];
             let value = value.copy()?;
-            assign_at(alloc, place, key, &terms, made, value, live, world)
+            assign_at(place, key, &terms, made, value, evaluation)
         }
-        Err(KeyError::BadKey) => Err(fault(alloc, Code::BadIndex, place)),
+        Err(KeyError::BadKey) => Err(fault(evaluation.alloc, Code::BadIndex, place)),
         Err(KeyError::Memory) => Err(Exit::Memory),
     }
 }
 
 /// A value that has to be a key is set in what is made.
-fn set_by<W: World>(
-    alloc: Global,
+fn set_by<W: World, L: Ledger>(
     place: &Place,
     key: &Tree,
     value: &Tree,
     made: Tree,
-    live: &Live,
-    world: &W,
+    evaluation: &Evaluation<'_, '_, W, L>,
 ) -> Result<Tree, Exit>
-    ensures { Follows (λ t. t) result W.answers live.now (W.asked world.now) live.now
-        (W.asked world.now) (on_text place.now (set_key place.now value.now made) key.now) }
+    ensures { Evaluates (λ t. t) result W.World evaluation.now evaluation.now
+        (on_text place.now (set_key place.now value.now made) key.now) }
 {
     match key.text_handle() {
-        Some(text) => set_key(alloc, place, text, value, made, live, world),
-        None => Err(fault(alloc, Code::BadArgument, place)),
+        Some(text) => set_key(place, text, value, made, evaluation),
+        None => Err(fault(evaluation.alloc, Code::BadArgument, place)),
     }
 }
 
@@ -269,22 +256,20 @@ pub fn are_pairs(values: &[Tree]) -> bool
 }
 
 /// Each key of such pairs is set in turn.
-#[tactic(auto, using(crate::proofs::KeyValues::pairs), unfolding(dml_meaning::specs::Meaning::set_keys))]
-pub fn set_keys<W: World>(
-    alloc: Global,
+#[tactic(auto, using(crate::proofs::KeyValues::pairs), unfolding(dml_meaning::specs::Structures::set_keys))]
+pub fn set_keys<W: World, L: Ledger>(
     place: &Place,
     pairs: &[Tree],
     made: Tree,
-    live: &Live,
-    world: &W,
+    evaluation: &Evaluation<'_, '_, W, L>,
 ) -> Result<Tree, Exit>
-    ensures { Follows (λ t. t) result W.answers live.now (W.asked world.now) live.now
-        (W.asked world.now) (set_keys place.now pairs.now made) }
+    ensures { Evaluates (λ t. t) result W.World evaluation.now evaluation.now
+        (set_keys place.now pairs.now made) }
 {
     let mut made = made;
     let mut rest = pairs;
     'pairs: while let Some((key, value, behind)) = cut_pair(rest) {
-        made = set_by(alloc, place, key, value, made, live, world)?;
+        made = set_by(place, key, value, made, evaluation)?;
         rest = behind;
     }
     Ok(made)

@@ -1,5 +1,6 @@
 ghost use Rattle.std.specs.Prelude.{◌≡◌, [], IfOk, is_some, option_copied, unwrap_or, Some, None, option_and_then, pos, OnOk, not, ◌&&◌, ◌+◌};
-ghost use Rattle.dml_world.specs.Exits.{Follows, IsFault};
+ghost use Rattle.dml_world.specs.Evaluations.{Evaluates, KeepsLoans, total};
+ghost use Rattle.dml_world.specs.Exits.{IsFault};
 ghost use Rattle.dml_leaves.specs.Changes.{IsLocalChange, IsRootChange};
 ghost use Rattle.dml_meaning.specs.Indexes.{changed};
 ghost use Rattle.path_tree.specs.Plain as plain;
@@ -8,15 +9,18 @@ ghost use Rattle.path_tree.specs.Find.{child_count};
 ghost use Rattle.dml_meaning.specs.Words.{automatic_of};
 ghost use Rattle.dml_meaning.specs.Around.{found};
 ghost use Rattle.dml_world.specs.Seen.{around_of, env};
-ghost use Rattle.dml_meaning.specs.Meaning.{assign_name, automatic_value, change, in_function, may_change, may_change_by, name_run, no_indexes, read, root_of, set_value, value_of, with_root};
+ghost use Rattle.dml_meaning.specs.Names.{automatic_value, change, in_function, may_change, may_change_by, no_indexes, read, root_of, value_of, with_root};
+ghost use Rattle.dml_meaning.specs.Leaves.{name_run};
+ghost use Rattle.dml_meaning.specs.Loops.{assign_name};
+ghost use Rattle.dml_meaning.specs.Meaning.{set_value};
 ghost use Rattle.pan_ast.specs.Seen.{items_seen};
 
 use crate::indexes::{Unchanged, change_tree};
 use assign_rules::Variables;
-use base::{Steps, Text};
+use base::Text;
 use dml_meaning::{Automatic, automatic_name};
 use dml_world::leaf::{fault, fault_on, take_step, take_steps};
-use dml_world::{Around, Called, Exit, Live, World};
+use dml_world::{Around, Called, Evaluation, Exit, Live, World};
 use pan_ast::{Code, Item, Place};
 use path_tree::Tree;
 use std::alloc::{AllocError, Global};
@@ -42,20 +46,21 @@ fn argument_count(called: &Called) -> Tree
 }
 
 /// The value of an automatic name, where it is there.
-fn automatic_value<W: World>(
-    alloc: Global,
+fn automatic_value<W: World, L: Ledger>(
     name: Automatic,
     around: &Around<'_>,
-    live: &Live,
-    world: &W,
+    evaluation: &Evaluation<'_, '_, W, L>,
 ) -> Result<Option<Tree>, AllocError>
     ensures { IfOk result (λ t. t ≡ automatic_value (around_of around.now W.reading W.calls)
-        live.now.self_value name) }
+        evaluation.now.live.self_value name) }
 {
     match name {
-        Automatic::OwnValue => Ok(Some(live.self_value.copy()?)),
-        Automatic::Object => Ok(Some(name_value(alloc, around.frame.object.as_str())?)),
-        Automatic::Template => Ok(Some(name_value(alloc, around.frame.template.as_str())?)),
+        Automatic::OwnValue => Ok(Some(evaluation.live.self_value.copy()?)),
+        Automatic::Object => Ok(Some(name_value(evaluation.alloc, around.frame.object.as_str())?)),
+        Automatic::Template => Ok(Some(name_value(
+            evaluation.alloc,
+            around.frame.template.as_str(),
+        )?)),
         Automatic::Arguments => match &around.called {
             None => Ok(None),
             Some(called) => Ok(Some(called.arguments.copy()?)),
@@ -66,45 +71,41 @@ fn automatic_value<W: World>(
         },
         Automatic::Function => match &around.called {
             None => Ok(None),
-            Some(called) => Ok(Some(name_value(alloc, called.name.as_str())?)),
+            Some(called) => Ok(Some(name_value(evaluation.alloc, called.name.as_str())?)),
         },
     }
 }
 
 /// The value of an automatic name, by its text.
-fn automatic_named<W: World>(
-    alloc: Global,
+fn automatic_named<W: World, L: Ledger>(
     name: &Text,
     around: &Around<'_>,
-    live: &Live,
-    world: &W,
+    evaluation: &Evaluation<'_, '_, W, L>,
 ) -> Result<Option<Tree>, AllocError>
     ensures { IfOk result (λ t. t ≡ option_and_then
-        (automatic_value (around_of around.now W.reading W.calls) live.now.self_value)
+        (automatic_value (around_of around.now W.reading W.calls) evaluation.now.live.self_value)
         (automatic_of name.now)) }
 {
     match automatic_name(name.as_str()) {
-        Some(automatic) => automatic_value(alloc, automatic, around, live, world),
+        Some(automatic) => automatic_value(automatic, around, evaluation),
         None => Ok(None),
     }
 }
 
 /// The value of a name: of the local, else of the automatic name, else of the global.
 #[inline(always)]
-pub fn find_value<W: World>(
-    alloc: Global,
+pub fn find_value<W: World, L: Ledger>(
     name: &Text,
     around: &Around<'_>,
-    live: &Live,
-    world: &W,
+    evaluation: &Evaluation<'_, '_, W, L>,
 ) -> Result<Option<Tree>, AllocError>
     ensures { IfOk result (λ t. t ≡ value_of (around_of around.now W.reading W.calls) name.now
-        (env live.now)) }
+        (env evaluation.now.live)) }
 {
-    if let Some(value) = live.locals.find(name.as_str()) {
+    if let Some(value) = evaluation.live.locals.find(name.as_str()) {
         return Ok(Some(value.copy()?));
     }
-    if let Some(value) = automatic_named(alloc, name, around, live, world)? {
+    if let Some(value) = automatic_named(name, around, evaluation)? {
         return Ok(Some(value));
     }
     match around.frame.globals.value(name.as_str()) {
@@ -115,40 +116,36 @@ pub fn find_value<W: World>(
 
 /// The value of a name that has one.
 #[inline(always)]
-fn read<W: World>(
-    alloc: Global,
+fn read<W: World, L: Ledger>(
     place: &Place,
     name: &Text,
     around: &Around<'_>,
-    live: &Live,
-    world: &W,
+    evaluation: &Evaluation<'_, '_, W, L>,
 ) -> Result<Tree, Exit>
-    ensures { Follows (λ t. t) result W.answers live.now (W.asked world.now) live.now
-        (W.asked world.now) (read (around_of around.now W.reading W.calls) place.now name.now) }
+    ensures { Evaluates (λ t. t) result W.World evaluation.now evaluation.now
+        (read (around_of around.now W.reading W.calls) place.now name.now) }
 {
-    match find_value(alloc, name, around, live, world)? {
+    match find_value(name, around, evaluation)? {
         Some(value) => Ok(value),
-        None => Err(fault_on(alloc, Code::NoVariable, place, name.as_str())),
+        None => Err(fault_on(evaluation.alloc, Code::NoVariable, place, name.as_str())),
     }
 }
 
 /// A name, with its step.
 #[inline(always)]
 pub fn run_name<W: World, L: Ledger>(
-    alloc: Global,
     place: &Place,
     name: &Text,
     around: &Around<'_>,
-    live: &mut Live,
-    world: &W,
-    steps: &mut Steps<L>,
+    evaluation: &mut Evaluation<'_, '_, W, L>,
 ) -> Result<Tree, Exit>
-    ensures gives { Follows (λ t. t) result W.answers live.old (W.asked world.now) live.new
-        (W.asked world.now) (name_run (around_of around.now W.reading W.calls) place.now name.now) }
-    ensures counted { steps.new + live.new.work.left ≡ steps.old + live.old.work.left }
+    ensures gives { Evaluates (λ t. t) result W.World evaluation.old evaluation.new
+        (name_run (around_of around.now W.reading W.calls) place.now name.now) }
+    ensures counted { total evaluation.new ≡ total evaluation.old }
+    ensures lent { KeepsLoans evaluation.old evaluation.new }
 {
-    take_step(alloc, place, live, world, steps)?;
-    read(alloc, place, name, around, live, world)
+    take_step(place, evaluation)?;
+    read(place, name, around, evaluation)
 }
 
 /// Whether a reference has no index.
@@ -174,29 +171,27 @@ fn is_only_global(name: &Text, around: &Around<'_>, live: &Live) -> bool
 
 /// Whether a name may be changed, at an index or as a whole.
 #[inline(always)]
-pub fn may_change<W: World>(
-    alloc: Global,
+pub fn may_change<W: World, L: Ledger>(
     place: &Place,
     name: &Text,
     whole: bool,
     around: &Around<'_>,
-    live: &Live,
-    world: &W,
+    evaluation: &Evaluation<'_, '_, W, L>,
 ) -> Result<(), Exit>
-    ensures { Follows (λ t. t) result W.answers live.now (W.asked world.now) live.now
-        (W.asked world.now) (may_change (around_of around.now W.reading W.calls) place.now name.now
+    ensures { Evaluates (λ t. t) result W.World evaluation.now evaluation.now
+        (may_change (around_of around.now W.reading W.calls) place.now name.now
         whole) }
 {
     match automatic_name(name.as_str()) {
         Some(Automatic::OwnValue) => {
             if around.self_use.is_fixed() || whole {
-                return Err(fault(alloc, Code::SelfChange, place));
+                return Err(fault(evaluation.alloc, Code::SelfChange, place));
             }
         }
-        Some(_) => return Err(fault_on(alloc, Code::GlobalChange, place, name.as_str())),
+        Some(_) => return Err(fault_on(evaluation.alloc, Code::GlobalChange, place, name.as_str())),
         None => {
-            if is_only_global(name, around, live) {
-                return Err(fault_on(alloc, Code::GlobalChange, place, name.as_str()));
+            if is_only_global(name, around, &evaluation.live) {
+                return Err(fault_on(evaluation.alloc, Code::GlobalChange, place, name.as_str()));
             }
         }
     }
@@ -244,22 +239,21 @@ fn change_root(
 }
 
 /// Changes what is at indexes of SELF or of a local, or says at a place why not.
-pub fn change<W: World>(
-    alloc: Global,
+pub fn change<W: World, L: Ledger>(
     place: &Place,
     name: &Text,
     keys: &[Tree],
     value: &Tree,
-    live: &mut Live,
-    world: &W,
+    evaluation: &mut Evaluation<'_, '_, W, L>,
 ) -> Result<(), Exit>
-    ensures gives { Follows (λ t. t) result W.answers live.old (W.asked world.now) live.new
-        (W.asked world.now) (change place.now name.now keys.now value.now) }
-    ensures left { live.new.work.left ≡ live.old.work.left }
+    ensures gives { Evaluates (λ t. t) result W.World evaluation.old evaluation.new
+        (change place.now name.now keys.now value.now) }
+    ensures counted { total evaluation.new ≡ total evaluation.old }
+    ensures lent { KeepsLoans evaluation.old evaluation.new }
 {
-    match change_root(alloc, name, keys, value, live) {
+    match change_root(evaluation.alloc, name, keys, value, &mut evaluation.live) {
         Ok(()) => Ok(()),
-        Err(Unchanged::Code(code)) => Err(fault(alloc, code, place)),
+        Err(Unchanged::Code(code)) => Err(fault(evaluation.alloc, code, place)),
         Err(Unchanged::Memory) => Err(Exit::Memory),
     }
 }
@@ -284,61 +278,58 @@ fn set_root(name: &Text, value: &Tree, live: &mut Live) -> Result<(), AllocError
 /// Sets SELF or a local as a whole: what `change` without indexes does, with less work.
 #[inline(always)]
 #[tactic(auto, using(crate::proofs::Whole::change_whole, dml_meaning::proofs::Leaving::change_leaves))]
-pub fn set_whole<W: World>(
+pub fn set_whole<W: World, L: Ledger>(
     place: &Place,
     name: &Text,
     value: &Tree,
-    live: &mut Live,
-    world: &W,
+    evaluation: &mut Evaluation<'_, '_, W, L>,
 ) -> Result<(), Exit>
-    ensures gives { Follows (λ t. t) result W.answers live.old (W.asked world.now) live.new
-        (W.asked world.now) (change place.now name.now [] value.now) }
-    ensures left { live.new.work.left ≡ live.old.work.left }
+    ensures gives { Evaluates (λ t. t) result W.World evaluation.old evaluation.new
+        (change place.now name.now [] value.now) }
+    ensures counted { total evaluation.new ≡ total evaluation.old }
+    ensures lent { KeepsLoans evaluation.old evaluation.new }
 {
-    set_root(name, value, live)?;
+    set_root(name, value, &mut evaluation.live)?;
     Ok(())
 }
 
 /// A step for each index, and the change.
 #[inline(always)]
 pub fn set_value<W: World, L: Ledger>(
-    alloc: Global,
     place: &Place,
     name: &Text,
     keys: &[Tree],
     value: Tree,
-    live: &mut Live,
-    world: &W,
-    steps: &mut Steps<L>,
+    evaluation: &mut Evaluation<'_, '_, W, L>,
 ) -> Result<Tree, Exit>
-    ensures gives { Follows (λ t. t) result W.answers live.old (W.asked world.now) live.new
-        (W.asked world.now) (set_value place.now name.now keys.now value) }
-    ensures counted { steps.new + live.new.work.left ≡ steps.old + live.old.work.left }
+    ensures gives { Evaluates (λ t. t) result W.World evaluation.old evaluation.new
+        (set_value place.now name.now keys.now value) }
+    ensures counted { total evaluation.new ≡ total evaluation.old }
+    ensures lent { KeepsLoans evaluation.old evaluation.new }
 {
     if let [] = keys {
-        set_whole(place, name, &value, live, world)?;
+        set_whole(place, name, &value, evaluation)?;
         return Ok(value);
     }
-    take_steps(alloc, keys.len(), place, live, world, steps)?;
-    change(alloc, place, name, keys, &value, live, world)?;
+    take_steps(keys.len(), place, evaluation)?;
+    change(place, name, keys, &value, evaluation)?;
     Ok(value)
 }
 
 /// Sets a name by the rules of assignment.
-pub fn assign_name<W: World>(
-    alloc: Global,
+pub fn assign_name<W: World, L: Ledger>(
     place: &Place,
     name: &Text,
     value: &Tree,
     around: &Around<'_>,
-    live: &mut Live,
-    world: &W,
+    evaluation: &mut Evaluation<'_, '_, W, L>,
 ) -> Result<(), Exit>
-    ensures gives { Follows (λ t. t) result W.answers live.old (W.asked world.now) live.new
-        (W.asked world.now) (assign_name (around_of around.now W.reading W.calls) place.now name.now
+    ensures gives { Evaluates (λ t. t) result W.World evaluation.old evaluation.new
+        (assign_name (around_of around.now W.reading W.calls) place.now name.now
         value.now) }
-    ensures left { live.new.work.left ≡ live.old.work.left }
+    ensures counted { total evaluation.new ≡ total evaluation.old }
+    ensures lent { KeepsLoans evaluation.old evaluation.new }
 {
-    may_change(alloc, place, name, true, around, live, world)?;
-    set_whole(place, name, value, live, world)
+    may_change(place, name, true, around, evaluation)?;
+    set_whole(place, name, value, evaluation)
 }

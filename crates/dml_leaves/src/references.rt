@@ -1,7 +1,8 @@
 ghost use Rattle.std.specs.Prelude.{◌≡◌, ◌∷◌, IfOk, MatchOption, false, if◌then◌else◌, map, option_map, Some, None};
 ghost use Rattle.pan_ast.specs.Seen.{item_seen, items_seen, node_seen, step_seen};
 ghost use Rattle.pan_ast.specs.Syntax.{AtIndex, more, none};
-ghost use Rattle.dml_meaning.specs.Meaning.{no_indexes, reference_in, reference_on};
+ghost use Rattle.dml_meaning.specs.Names.{no_indexes};
+ghost use Rattle.dml_meaning.specs.References.{reference_in, reference_on};
 ghost use Rattle.dml_leaves.specs.References.{IsFront, argument_of, indexed, indexes_back, is_index, is_lone, is_pair};
 
 use base::Text;

@@ -1,15 +1,15 @@
 ghost use Rattle.std.specs.Prelude.{◌≡◌};
-ghost use Rattle.dml_meaning.specs.Meaning.{open_call};
+ghost use Rattle.dml_meaning.specs.Calls.{open_call};
 ghost use Rattle.dml_meaning.specs.Values.{has_null};
-ghost use Rattle.dml_world.specs.Exits.{Follows};
+ghost use Rattle.dml_world.specs.Evaluations.{Evaluates};
 ghost use Rattle.dml_world.specs.Seen.{around_of};
 
 use dml_meaning::Test;
 use dml_world::leaf::{fault, passes, refusal};
-use dml_world::{Around, Exit, Live, World};
+use dml_world::{Around, Evaluation, Exit, World};
 use pan_ast::{Code, Place};
 use path_tree::Tree;
-use std::alloc::Global;
+use std::sync::ledger::Ledger;
 
 /// Whether one of the values is null.
 fn has_null(values: &[Tree]) -> bool
@@ -20,26 +20,24 @@ fn has_null(values: &[Tree]) -> bool
 
 /// The tests of a call of a function with these values, and the list that they make.
 #[tactic(auto, using(dml_world::proofs::Ends::refused_comes))]
-pub fn open_call<W: World>(
-    alloc: Global,
+pub fn open_call<W: World, L: Ledger>(
     place: &Place,
     values: Vec<Tree>,
     around: &Around<'_>,
-    live: &Live,
-    world: &W,
+    evaluation: &Evaluation<'_, '_, W, L>,
 ) -> Result<Tree, Exit>
-    ensures { Follows (λ t. t) result W.answers live.now (W.asked world.now) live.now
-        (W.asked world.now) (open_call (around_of around.now W.reading W.calls) place.now
+    ensures { Evaluates (λ t. t) result W.World evaluation.now evaluation.now
+        (open_call (around_of around.now W.reading W.calls) place.now
         values.items) }
 {
     if has_null(&values) {
-        return Err(fault(alloc, Code::BadArgument, place));
+        return Err(fault(evaluation.alloc, Code::BadArgument, place));
     }
     if around.calls_left == 0 {
-        return Err(fault(alloc, Code::CallDepth, place));
+        return Err(fault(evaluation.alloc, Code::CallDepth, place));
     }
-    match Tree::list(alloc, values) {
+    match Tree::list(evaluation.alloc, values) {
         Ok(list) => Ok(list),
-        Err(refused) => Err(refusal(alloc, place, refused)),
+        Err(refused) => Err(refusal(evaluation.alloc, place, refused)),
     }
 }

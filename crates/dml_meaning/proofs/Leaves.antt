@@ -25,7 +25,7 @@ use Rattle.questions.proofs.Lawful.{Lawful, FailsCircular, lawful_bind, lawful_g
 use Rattle.dml_meaning.specs.Run.{Look}
 use Rattle.dml_meaning.specs.Around.{Around}
 use Rattle.dml_meaning.specs.Lookups.{Present, Long, Whole, or_next, asked_file, tried, first_present, looked_up, on_bytes, or_fault, named_so, of_kind, template_named, structure_named, Looked, looked_in, looked_under, look_other, look_at, look_by, look}
-use Rattle.dml_meaning.specs.Meaning.{Means, Purpose}
+use Rattle.dml_meaning.specs.Means.{Means, Purpose}
 
 -- what may be asked about an object: any file, and any other object; no file reads as the fault of
 -- a circular one

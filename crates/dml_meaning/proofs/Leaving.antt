@@ -17,7 +17,14 @@ use Rattle.dml_meaning.specs.declared.words.Side.{Side}
 use Rattle.dml_meaning.specs.Around.{Around, ValueCall}
 use Rattle.dml_meaning.specs.Laws.{IsReading}
 use Rattle.dml_meaning.specs.Lookups.{first_present, template_named, structure_named, look, look_at}
-use Rattle.dml_meaning.specs.Meaning.{Purpose, Reached, change, extend_reached, block_from, values_from, reach_from, reach_run, condition_run, while_turn, for_turn, while_turns, for_turns, pair_turn, pair_turns, each_of, body_run, function_run, dml_run, assignment_run, statement_run, statements_from, included, set_keys, create_named, text_run, own_run, own_call_run, call_by, node_run, step_run, steps_run, steps, set_run, assign_run, item_run, eval}
+use Rattle.dml_meaning.specs.Means.{Purpose, Reached}
+use Rattle.dml_meaning.specs.Names.{change}
+use Rattle.dml_meaning.specs.References.{block_from, values_from, reach_from, reach_run}
+use Rattle.dml_meaning.specs.Loops.{condition_run, while_turn, for_turn, while_turns, for_turns, pair_turn, pair_turns, each_of}
+use Rattle.dml_meaning.specs.Structures.{dml_run, assignment_run, statement_run, statements_from, included, set_keys, create_named}
+use Rattle.dml_meaning.specs.BuiltIns.{extend_reached, text_run, own_run, own_call_run}
+use Rattle.dml_meaning.specs.Calls.{body_run, function_run, call_by}
+use Rattle.dml_meaning.specs.Meaning.{node_run, step_run, steps_run, steps, set_run, assign_run, item_run, eval}
 use Rattle.dml_meaning.proofs.Leaves.{LawfulMeans, first_lawful, template_lawful, structure_lawful, look_at_lawful, look_lawful}
 use Rattle.dml_meaning.proofs.Values.{change_lawful, steps_lawful, set_keys_lawful}
 use Rattle.dml_meaning.proofs.Items.{block_lawful, values_lawful, reach_from_lawful, reach_lawful, condition_lawful, while_turn_lawful, for_turn_lawful, while_lawful, for_lawful, pair_turn_lawful, pairs_lawful, each_lawful, body_lawful, function_lawful, text_run_lawful, own_lawful, own_call_lawful, call_by_lawful, extend_reached_lawful, node_lawful, step_lawful, chain_lawful, set_lawful, assign_lawful, item_lawful, eval_lawful}

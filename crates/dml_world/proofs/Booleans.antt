@@ -7,7 +7,7 @@ use Rattle.pan_ast.specs.declared.fault.Code.{Code}
 use Rattle.questions.specs.Contents.{Answers}
 use Rattle.questions.specs.Run.{Meter, fail, then}
 use Rattle.dml_meaning.specs.Run.{Env, Run}
-use Rattle.dml_meaning.specs.Meaning.{as_boolean, apply_boolean, both, either}
+use Rattle.dml_meaning.specs.Leaves.{as_boolean, apply_boolean, both, either}
 
 -- what is no boolean
 pub booleans : (c : Code) (p : Place) (t : Plain) (o : Answers) (e : Env) (m : Meter) → boolean_of t

@@ -11,7 +11,7 @@ use Rattle.questions.specs.Run.{Meter, Outcome, Done, Returned, Failed, Asks, th
 use Rattle.questions.specs.Told.{LeavesAtMost}
 use Rattle.dml_meaning.specs.Run.{Env}
 use Rattle.dml_meaning.proofs.Leaving.{then_leaves}
-use Rattle.dml_meaning.specs.Meaning.{code_of, or_refuse}
+use Rattle.dml_meaning.specs.Leaves.{code_of, or_refuse}
 use Rattle.dml_world.specs.declared.stop.Exit.{Exit}
 use Rattle.dml_world.specs.declared.stop.Exit.TheVariants as exit
 use Rattle.dml_world.specs.declared.stop.Stop.{Stop}

@@ -11,7 +11,7 @@ use Rattle.questions.specs.Contents.{Answers}
 use Rattle.questions.specs.Run.{Meter, Outcome, Done, Returned, Failed, Asks, fault_at}
 use Rattle.questions.specs.Told.{LeavesAtMost, ToldEnough}
 use Rattle.dml_meaning.specs.Run.{Env, Run, Look}
-use Rattle.dml_meaning.specs.Meaning.{code_of}
+use Rattle.dml_meaning.specs.Leaves.{code_of}
 use Rattle.dml_world.specs.declared.stop.Stop.{Stop}
 use Rattle.dml_world.specs.declared.stop.Stop.TheVariants as stop
 use Rattle.dml_world.specs.declared.stop.Exit.{Exit}
@@ -49,7 +49,7 @@ abbrev pub Ends : {Y : Type 0} → Exit → Env → Meter → Outcome Env Y → 
 Ends exit.Memory e m o = LeavesAtMost m.left o
 Ends (exit.Fault f) e m o = o ≡ Failed f.value m
 Ends (exit.Need q) e m o = o ≡ Asks (Under q.value.object q.value.terms) m
-Ends (exit.Return t) e m o = o ≡ Returned t e m
+Ends (exit.Return t) e m o = o ≡ Returned t.value e m
 
 abbrev pub Comes : {X Y : Type 0} → (X → Y) → Result X Exit → Env → Meter → Outcome Env Y → Type 0
 Comes view (Ok x) e m o = o ≡ Done (view x) e m

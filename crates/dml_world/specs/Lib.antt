@@ -3,4 +3,5 @@
 pub mod Seen
 pub mod Answers
 pub mod Exits
+pub mod Evaluations
 pub mod Functions

@@ -1,14 +1,15 @@
 ghost use Rattle.std.specs.Prelude.{◌≡◌, ◌+◌, IfOk};
 ghost use Rattle.path_tree.specs.Plain as plain;
-ghost use Rattle.dml_world.specs.Exits.{Follows, IsFault, IsRefused, IsStop, Looks};
-ghost use Rattle.dml_world.specs.Seen.{around_of};
-ghost use Rattle.dml_meaning.specs.Meaning.{apply_binary, apply_boolean, apply_unary, as_boolean, code_of, literal_run, or_refuse, steps as steps_of};
+ghost use Rattle.dml_world.specs.Evaluations.{Evaluates, KeepsLoans, total};
+ghost use Rattle.dml_world.specs.Exits.{IsFault, IsRefused, IsStop, Looks};
+ghost use Rattle.dml_meaning.specs.Leaves.{apply_binary, apply_boolean, apply_unary, as_boolean, code_of, literal_run, or_refuse};
+ghost use Rattle.dml_meaning.specs.Meaning.{steps as steps_of};
 ghost use Rattle.dml_meaning.specs.Values.{passes};
 ghost use Rattle.pan_ast.specs.Detail.{fault_at, fault_with};
 ghost use Rattle.questions.specs.Run.{step};
 ghost use Rattle.dml_ops.specs.Operators.{binary_of, unary_of};
 
-use crate::frame::Live;
+use crate::evaluation::Evaluation;
 use crate::stop::{Exit, Stop};
 use crate::world::World;
 use base::{Steps, Text};
@@ -137,41 +138,37 @@ pub fn spend_step<W: World, L: Ledger>(
 /// One step of work, at a place.
 #[inline(always)]
 pub fn take_step<W: World, L: Ledger>(
-    alloc: Global,
     place: &Place,
-    live: &mut Live,
-    world: &W,
-    steps: &mut Steps<L>,
+    evaluation: &mut Evaluation<'_, '_, W, L>,
 ) -> Result<(), Exit>
-    ensures gives { Follows (λ t. t) result W.answers live.old (W.asked world.now) live.new
-        (W.asked world.now) (step place.now) }
-    ensures counted { steps.new + live.new.work.left ≡ steps.old + live.old.work.left }
+    ensures gives { Evaluates (λ t. t) result W.World evaluation.old evaluation.new
+        (step place.now) }
+    ensures counted { total evaluation.new ≡ total evaluation.old }
+    ensures lent { KeepsLoans evaluation.old evaluation.new }
 {
-    if live.work.left == 0 {
-        return Err(fault(alloc, Code::WorkSpent, place));
+    if evaluation.live.work.left == 0 {
+        return Err(fault(evaluation.alloc, Code::WorkSpent, place));
     }
-    live.work.left -= 1;
-    steps.tick();
+    evaluation.live.work.left -= 1;
+    evaluation.steps.tick();
     Ok(())
 }
 
 /// Some steps of work, at a place.
 #[tactic(auto, using(crate::proofs::Working::steps_more, dml_meaning::proofs::Leaving::steps_leave), unfolding(dml_meaning::specs::Meaning::steps))]
 pub fn take_steps<W: World, L: Ledger>(
-    alloc: Global,
     count: usize,
     place: &Place,
-    live: &mut Live,
-    world: &W,
-    steps: &mut Steps<L>,
+    evaluation: &mut Evaluation<'_, '_, W, L>,
 ) -> Result<(), Exit>
-    ensures gives { Follows (λ t. t) result W.answers live.old (W.asked world.now) live.new
-        (W.asked world.now) (steps_of count place.now) }
-    ensures counted { steps.new + live.new.work.left ≡ steps.old + live.old.work.left }
+    ensures gives { Evaluates (λ t. t) result W.World evaluation.old evaluation.new
+        (steps_of count place.now) }
+    ensures counted { total evaluation.new ≡ total evaluation.old }
+    ensures lent { KeepsLoans evaluation.old evaluation.new }
 {
     let mut more = count;
     'more: while 0 < more {
-        take_step(alloc, place, live, world, steps)?;
+        take_step(place, evaluation)?;
         more -= 1;
     }
     Ok(())
@@ -190,60 +187,54 @@ pub fn text_value(text: &Text) -> Result<Tree, AllocError>
 /// A literal.
 #[inline(always)]
 pub fn literal<W: World, L: Ledger>(
-    alloc: Global,
     place: &Place,
     value: Tree,
-    live: &mut Live,
-    world: &W,
-    steps: &mut Steps<L>,
+    evaluation: &mut Evaluation<'_, '_, W, L>,
 ) -> Result<Tree, Exit>
-    ensures gives { Follows (λ t. t) result W.answers live.old (W.asked world.now) live.new
-        (W.asked world.now) (literal_run place.now value) }
-    ensures counted { steps.new + live.new.work.left ≡ steps.old + live.old.work.left }
+    ensures gives { Evaluates (λ t. t) result W.World evaluation.old evaluation.new
+        (literal_run place.now value) }
+    ensures counted { total evaluation.new ≡ total evaluation.old }
+    ensures lent { KeepsLoans evaluation.old evaluation.new }
 {
-    take_step(alloc, place, live, world, steps)?;
+    take_step(place, evaluation)?;
     Ok(value)
 }
 
 /// The boolean that a value is.
 #[inline(always)]
 #[tactic(auto, using(crate::proofs::Booleans::booleans))]
-pub fn boolean<W: World>(
-    alloc: Global,
+pub fn boolean<W: World, L: Ledger>(
     code: Code,
     place: &Place,
     value: &Tree,
-    live: &Live,
-    world: &W,
+    evaluation: &Evaluation<'_, '_, W, L>,
 ) -> Result<bool, Exit>
-    ensures { Follows (λ t. t) result W.answers live.now (W.asked world.now) live.now
-        (W.asked world.now) (as_boolean code place.now value.now) }
+    ensures { Evaluates (λ t. t) result W.World evaluation.now evaluation.now
+        (as_boolean code place.now value.now) }
 {
     match value.as_boolean() {
         Some(holds) => Ok(holds),
-        None => Err(fault(alloc, code, place)),
+        None => Err(fault(evaluation.alloc, code, place)),
     }
 }
 
 /// An operator before its operand.
 #[tactic(auto, using(crate::proofs::Ends::refused_comes))]
 pub fn apply_unary<W: World, L: Ledger>(
-    alloc: Global,
     place: &Place,
     op: UnaryOp,
     value: &Tree,
-    live: &mut Live,
-    world: &W,
-    steps: &mut Steps<L>,
+    evaluation: &mut Evaluation<'_, '_, W, L>,
 ) -> Result<Tree, Exit>
-    ensures gives { Follows (λ t. t) result W.answers live.old (W.asked world.now) live.new
-        (W.asked world.now) (apply_unary place.now op value.now) }
-    ensures counted { steps.new + live.new.work.left ≡ steps.old + live.old.work.left }
+    ensures gives { Evaluates (λ t. t) result W.World evaluation.old evaluation.new
+        (apply_unary place.now op value.now) }
+    ensures counted { total evaluation.new ≡ total evaluation.old }
+    ensures lent { KeepsLoans evaluation.old evaluation.new }
 {
-    take_step(alloc, place, live, world, steps)?;
+    take_step(place, evaluation)?;
     match unary(op, value) {
         Ok(value) => Ok(value),
-        Err(refused) => Err(refusal(alloc, place, refused)),
+        Err(refused) => Err(refusal(evaluation.alloc, place, refused)),
     }
 }
 
@@ -251,40 +242,36 @@ pub fn apply_unary<W: World, L: Ledger>(
 #[inline(always)]
 #[tactic(auto, using(crate::proofs::Ends::refused_comes))]
 pub fn apply_binary<W: World, L: Ledger>(
-    alloc: Global,
     place: &Place,
     op: BinaryOp,
     left: &Tree,
     right: &Tree,
-    live: &mut Live,
-    world: &W,
-    steps: &mut Steps<L>,
+    evaluation: &mut Evaluation<'_, '_, W, L>,
 ) -> Result<Tree, Exit>
-    ensures gives { Follows (λ t. t) result W.answers live.old (W.asked world.now) live.new
-        (W.asked world.now) (apply_binary place.now op left.now right.now) }
-    ensures counted { steps.new + live.new.work.left ≡ steps.old + live.old.work.left }
+    ensures gives { Evaluates (λ t. t) result W.World evaluation.old evaluation.new
+        (apply_binary place.now op left.now right.now) }
+    ensures counted { total evaluation.new ≡ total evaluation.old }
+    ensures lent { KeepsLoans evaluation.old evaluation.new }
 {
-    take_step(alloc, place, live, world, steps)?;
-    match binary(alloc, op, left, right) {
+    take_step(place, evaluation)?;
+    match binary(evaluation.alloc, op, left, right) {
         Ok(value) => Ok(value),
-        Err(refused) => Err(refusal(alloc, place, refused)),
+        Err(refused) => Err(refusal(evaluation.alloc, place, refused)),
     }
 }
 
 /// The operand that decides `&&` or `||`.
 pub fn apply_boolean<W: World, L: Ledger>(
-    alloc: Global,
     place: &Place,
     value: &Tree,
-    live: &mut Live,
-    world: &W,
-    steps: &mut Steps<L>,
+    evaluation: &mut Evaluation<'_, '_, W, L>,
 ) -> Result<Tree, Exit>
-    ensures gives { Follows (λ t. t) result W.answers live.old (W.asked world.now) live.new
-        (W.asked world.now) (apply_boolean place.now value.now) }
-    ensures counted { steps.new + live.new.work.left ≡ steps.old + live.old.work.left }
+    ensures gives { Evaluates (λ t. t) result W.World evaluation.old evaluation.new
+        (apply_boolean place.now value.now) }
+    ensures counted { total evaluation.new ≡ total evaluation.old }
+    ensures lent { KeepsLoans evaluation.old evaluation.new }
 {
-    take_step(alloc, place, live, world, steps)?;
-    let holds = boolean(alloc, Code::TypeClash, place, value, live, world)?;
+    take_step(place, evaluation)?;
+    let holds = boolean(Code::TypeClash, place, value, evaluation)?;
     Ok(Tree::boolean(holds))
 }

@@ -2,8 +2,7 @@ ghost use Rattle.std.specs.Prelude.{◌≡◌, IfOk, IfSome, Err, None, option_c
 ghost use Rattle.outside.specs.Causes.{HasCause};
 
 use base::Text;
-use keepers::Faults;
-use outside::{StoreError, Trouble};
+use outside::{Faults, StoreError, Trouble};
 use sqlite_keeper::Refusal;
 use std::alloc::{AllocError, Global};
 

@@ -5,11 +5,10 @@ ghost use Rattle.stored_rows.specs.Rows.{row_name, are_rising};
 ghost use Rattle.outside.specs.Calls.{is_to_fail, after_call, no_calls};
 ghost use Rattle.keepers.specs.Kept.{cell_of};
 
-use crate::calls::Calls;
 use crate::keeper::Keeper;
 use crate::sure_keeper::SureKeeper;
 use base::Text;
-use outside::StoreError;
+use outside::{Calls, StoreError};
 use std::alloc::Global;
 use stored_rows::StoredRow;
 

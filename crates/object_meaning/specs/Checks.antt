@@ -10,7 +10,8 @@ use Rattle.questions.specs.Told.{Ending, answer_by, whole}
 use Rattle.dml_meaning.specs.declared.limits.TheConstants.{MAX_INCLUDES, MAX_OPEN_ITEMS}
 use Rattle.dml_meaning.specs.Around.{Around}
 use Rattle.dml_meaning.specs.Lookups.{look_at}
-use Rattle.dml_meaning.specs.Meaning.{dml_run, eval}
+use Rattle.dml_meaning.specs.Structures.{dml_run}
+use Rattle.dml_meaning.specs.Meaning.{eval}
 use Rattle.dml_meaning.specs.Run.{Look}
 use Rattle.template_meaning.specs.Program.{Site}
 use Rattle.validate.specs.Checked.{checked}

@@ -7,7 +7,7 @@ use std::marker::Model;
 
 /// The calls on an object in memory: how many there were, which are to fail, and how many failed.
 #[derive(Debug, Drop)]
-pub(crate) struct Calls {
+pub struct Calls {
     failing: Vec<u64>,
     made: u64,
     faults: Faults,
@@ -22,7 +22,8 @@ impl Model for Calls {
 }
 
 impl Calls {
-    pub(crate) fn new(failing: Vec<u64>) -> Calls
+    /// No call yet. `failing` are the numbers of the calls that are to fail, the first being 0.
+    pub fn new(failing: Vec<u64>) -> Calls
         ensures { result ≡ no_calls failing.items }
     {
         Calls {
@@ -32,14 +33,15 @@ impl Calls {
         }
     }
 
-    pub(crate) fn faults(&self) -> u64
+    /// How many failed.
+    pub fn faults(&self) -> u64
         ensures { result ≡ self.now.faults }
     {
         self.faults.count()
     }
 
     /// Counts a call, and tells whether it is to fail.
-    pub(crate) fn fails(&mut self) -> bool
+    pub fn fails(&mut self) -> bool
         ensures answer { result ≡ is_to_fail self.old }
         ensures counted { self.new ≡ after_call self.old }
         ensures later { self.old.faults ≤ self.new.faults }

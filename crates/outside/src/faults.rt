@@ -8,25 +8,29 @@ use std::io::ErrorKind;
 
 /// The faults of an object, counted up to the last value of the type.
 #[derive(Debug, Drop)]
-pub(crate) struct Faults {
+pub struct Faults {
     count: u64,
 }
 
 impl Faults {
-    pub(crate) fn new() -> Faults
+    /// No fault yet.
+    pub fn new() -> Faults
         ensures { result.count ≡ 0 }
     {
         Faults { count: 0 }
     }
 
-    pub(crate) fn count(&self) -> u64
+    /// How many there were.
+    pub fn count(&self) -> u64
         ensures { result ≡ self.now.count }
     {
         self.count
     }
 
-    pub(crate) fn add(&mut self)
+    /// Counts one more.
+    pub fn add(&mut self)
         ensures counted { self.new.count ≡ one_more self.old.count }
+        ensures rose { Rose self.old.count self.new.count }
         ensures later { self.old.count ≤ self.new.count }
         ensures once { self.new.count ≤ self.old.count + 1 }
     {

@@ -33,9 +33,11 @@ mod sure_sink;
 mod sure_source;
 mod troubles;
 
+pub use calls::Calls;
 pub use distinct::are_distinct;
 pub use error::StoreError;
 pub use fault_lines::MAX_FAULT_LINES;
+pub use faults::Faults;
 pub use host_lines::HostLines;
 pub use host_shelf::HostShelf;
 pub use host_sink::HostSink;

@@ -21,6 +21,7 @@ pub mod Whole
 pub mod Made
 pub mod Changes
 pub mod Kept
+pub mod Lacking
 pub mod Steps
 pub mod Escapes
 pub mod Removals

@@ -46,10 +46,10 @@ nulls_none : (ts : List Plain) → AreItems (items_of ts) → list_any is_null t
 nulls_none [] h = refl
 nulls_none (t ∷ ts) h = rw (no_null t h.0) (nulls_none ts h.2)
 
-is_past : (most n : ℕ) → most < n → nat_lt most n ≡ true
+pub is_past : (most n : ℕ) → most < n → nat_lt most n ≡ true
 is_past most n h = grind (arith, nat_tests)
 
-is_within : (most n : ℕ) → n ≤ most → nat_lt most n ≡ false
+pub is_within : (most n : ℕ) → n ≤ most → nat_lt most n ≡ false
 is_within most n h = grind (arith, nat_tests)
 
 -- the list of these

@@ -9,7 +9,7 @@ use Rattle.path_tree.specs.Kept.{CanWalk, Walks}
 use Rattle.path_tree.specs.declared.path.Term.{Term}
 use Rattle.path_tree.specs.declared.path.Term.TheVariants as term
 use Rattle.path_tree.proofs.Changes.{field_walks, item_walks, ok_is}
-use Rattle.path_tree.proofs.Sizes.{changes_field, changes_item, height_le-size, one_le-height}
+use Rattle.path_tree.proofs.Sizes.{IsChange, changes_field, changes_item, height_le-size, one_le-height}
 
 -- an undef can be put there, and leaves a tree that is no larger and no higher
 record Leaves (ms : List Term) (t : Plain) : Type 0 where
@@ -18,32 +18,31 @@ record Leaves (ms : List Term) (t : Plain) : Type 0 where
   pub size : tree_size after ≤ tree_size t
   pub height : tree_height after ≤ tree_height t
 
+-- where an undef can be put below, in the place of a child, it can be put through the term
+through : (m : Term) (ms : List Term) (f : Plain → Plain) (c t : Plain) → IsChange f c t
+    → ((w : Plain) → Walks ms undef c w → Walks (m ∷ ms) undef t (f w)) → Leaves ms c
+    → Leaves (m ∷ ms) t
+through m ms f c t change walks left = record {
+  after = f left.after;
+  walks = walks left.after left.walks;
+  size = omega (arith, change.size left.after, left.size);
+  height = omega (arith, change.height left.after, change.below, left.height);
+}
+
 module _ (ms : List Term) (s : Plain) (below : (c : Plain) → get ms c ≡ Some s → Leaves ms c) where
   at_field : (k : List ℕ) (fs : Fields) (c : Option Plain) → find_field k fs ≡ c
       → option_and_then (get ms) c ≡ Some s → Leaves (term.Key k ∷ ms) (dict fs)
   at_field k fs None is found = cc
   at_field k fs (Some c) is found =
-      let left = below c found in
-      let change = changes_field k c fs is in
-      record {
-        after = dict (put_field k left.after fs);
-        walks = field_walks ms undef k fs c left.after is left.walks;
-        size = omega (arith, change.size left.after, left.size);
-        height = omega (arith, change.height left.after, change.below, left.height);
-      }
+      through (term.Key k) ms (λ w. dict (put_field k w fs)) c (dict fs) (changes_field k c fs is)
+      (λ w. field_walks ms undef k fs c w is) (below c found)
 
   at_item : (i : ℕ) (ts : Items) (c : Option Plain) → item_at i ts ≡ c
       → option_and_then (get ms) c ≡ Some s → Leaves (term.Index i ∷ ms) (list ts)
   at_item i ts None is found = cc
   at_item i ts (Some c) is found =
-      let left = below c found in
-      let change = changes_item i c ts is in
-      record {
-        after = list (put_item i left.after ts);
-        walks = item_walks ms undef i ts c left.after is left.walks;
-        size = omega (arith, change.size left.after, left.size);
-        height = omega (arith, change.height left.after, change.below, left.height);
-      }
+      through (term.Index i) ms (λ w. list (put_item i w ts)) c (list ts) (changes_item i c ts is)
+      (λ w. item_walks ms undef i ts c w is) (below c found)
 
 leaves : (ms : List Term) (t s : Plain) → get ms t ≡ Some s → Leaves ms t
 leaves [] t s found = record {

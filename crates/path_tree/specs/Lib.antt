@@ -8,6 +8,7 @@ pub mod Put
 pub mod Remove
 pub mod Take
 pub mod Lists
+pub mod Dicts
 pub mod Values
 pub mod Same
 pub mod Refusals

@@ -2,6 +2,7 @@ ghost use Rattle.std.specs.Prelude.{◌≡◌, ◌≢◌, ◌↔◌, ◌<◌, �
 ghost use Rattle.std.specs.Str.{IsUtf8};
 ghost use Rattle.base.specs.Answers.{Gives};
 ghost use Rattle.base.specs.declared.limits.TheConstants.{MAX_TEXT_BYTES};
+ghost use Rattle.path_tree.specs.Dicts.{put_new};
 ghost use Rattle.path_tree.specs.Find.{boolean_of, child, child_at, child_count, get, key_at, kind_of, long_of, text_of};
 ghost use Rattle.path_tree.specs.Grammar.{is_key};
 ghost use Rattle.path_tree.specs.Lists.{is_null, list_of, pushed, pushed_front};
@@ -15,6 +16,7 @@ ghost use Rattle.path_tree.specs.Take.{IsTaken};
 ghost use Rattle.path_tree.specs.declared.path.Term.TheVariants as term;
 ghost use Rattle.path_tree.specs.declared.refused.Refused.TheVariants as refused;
 
+mod adding;
 mod comparing;
 mod dicts;
 mod lists;
@@ -450,6 +452,22 @@ impl Tree {
         self.admit(terms, &value)?;
         putting::put_in(alloc, self, terms, value)?;
         Ok(())
+    }
+
+    /// Puts a value at a key of a dict, in place, where the key is not there; else the dict stays
+    /// as it is. The key is looked for once. `BadArgument` where the tree is no dict, and then
+    /// `TooLarge` where the dict would be larger than `MAX_TREE_SIZE` or higher than
+    /// `MAX_TREE_HEIGHT`.
+    pub fn put_new(&mut self, alloc: Global, key: &Key, value: &Tree) -> Result<(), Refused>
+        requires { value.now ≢ plain.null }
+        ensures gives { Gives (λ _. self.new) refusal result
+            (put_new key.now value.now self.old) }
+        ensures before { OnErr result (self.new ≡ self.old) }
+    {
+        match &mut self.node {
+            Node::Dict(dict) => adding::put_new(alloc, dict, key, value),
+            _ => Err(Refused::BadArgument),
+        }
     }
 
     /// Removes what stands at a path. What is not there is left. Later items of a list move down.

@@ -1,11 +1,11 @@
 -- What the calls of a publication answered, and what they did to the shelf, in order.
-use Rattle.std.specs.Prelude.{◌≡◌, ℕ, Bool, List, [], ◌∷◌, ◌++◌, Option, Some, None, IfSome, is_some, if◌then◌else◌, flat_map, map, bytes_eq, ◌&&◌, ◌||◌, false}
+use Rattle.std.specs.Prelude.{◌≡◌, ◌≤◌, ℕ, Bool, List, [], ◌∷◌, ◌++◌, Option, Some, None, IfSome, IfOk, OnErr, Result, is_some, if◌then◌else◌, flat_map, map, bytes_eq, ◌&&◌, ◌||◌, false}
 use Rattle.std.specs.List.{list_any}
 use Rattle.std.specs.List.Sorted.{IsSorted}
 use Rattle.std.specs.Cmp.Lexicographic.{slice_cmp}
 use Rattle.std.specs.Ordering.{nat_cmp}
 use Rattle.std.specs.HashMap.{get}
-use Rattle.outside.specs.Cells.{Cell}
+use Rattle.outside.specs.Cells.{Cell, AllBut}
 use Rattle.outside.specs.declared.shelf.Change.{Change}
 use Rattle.outside.specs.declared.shelf.Change.TheVariants.{Put, Removed}
 use Rattle.publication.specs.declared.answer.Publication.{Publication}
@@ -18,7 +18,8 @@ use Rattle.publication.specs.declared.trouble.Which.TheVariants.{Json, Dep}
 use Rattle.publication.specs.declared.trouble.Call.{Call}
 use Rattle.publication.specs.declared.trouble.Call.TheVariants.{Remove}
 use Rattle.publication.specs.Changing.{done, holds, putting}
-use Rattle.publication.specs.Published.{one_or_none}
+use Rattle.publication.specs.Bounds.{removals_in}
+use Rattle.publication.specs.Published.{Brings, one_or_none}
 use Rattle.publication.specs.Troubles.{called, is_removal}
 use Rattle.publication.specs.Wants.{json_want, dep_want, wants_of, goes}
 
@@ -122,3 +123,15 @@ abbrev pub LogsPut : List ℕ → List ℕ → Option Call → Option (List Chan
     → Option (List ℕ) → Type 0
 LogsPut name bytes failed log log_now content =
     log_now ≡ done log (put_by failed name bytes (Some content))
+
+-- A name was to hold these bytes. Where memory was there it holds them, or a call failed, and the
+-- log tells what was put; where it was wanting, the name alone is open. No name was removed.
+pub record BringsBytes {E : Type 0} (name bytes : List ℕ) (before now : ℕ)
+    (old new : List ℕ → Cell) (changes changes_now : Option (List Change))
+    (result : Result (Option Call) E) : Type 0 where
+  pub ok : IfOk result (λ failed. Brings name bytes failed before now old new)
+  pub unsettles : OnErr result (AllBut old name new)
+  pub later : before ≤ now
+  pub removals : removals_in changes_now ≡ removals_in changes
+  pub log : IfOk result (λ failed. IfSome (old name)
+      (LogsPut name bytes failed changes changes_now))

@@ -12,10 +12,10 @@ ghost use Rattle.std.specs.List.{IsDistinct};
 ghost use Rattle.std.specs.Prelude.{◌+◌, ◌||◌, length};
 ghost use Rattle.publication.specs.Bounds.{Bounded, RemovesWithin, is_within, may_stand_after, removals_in, stays};
 ghost use Rattle.publication.specs.Changing.{done, holds, Tells};
-ghost use Rattle.publication.specs.Logs.{LoggedBy, Logged, LogsPut, Removes, Writes, put_of, removed};
+ghost use Rattle.publication.specs.Logs.{BringsBytes, LoggedBy, Logged, LogsPut, Removes, Writes, put_of, removed};
 ghost use Rattle.publication.specs.OwnNames.{is_own, json_name, dep_name};
 ghost use Rattle.publication.specs.Wants.{wants_of, proper, goes, wanted};
-ghost use Rattle.publication.specs.Published.{call_of, Knows, Came, Brings, BringsFile, BringsProfile, Partly, Placing, Clearing, Sweeps, Interrupted, InterruptedWithin, Holding, one_or_none, Covers, Names, Published, Drops, Dropping, Bringing, MayBring, may_stand_in};
+ghost use Rattle.publication.specs.Published.{call_of, Knows, Came, BringsFile, BringsProfile, Partly, Placing, Clearing, Sweeps, Interrupted, InterruptedWithin, Holding, one_or_none, Covers, Names, Published, Drops, Dropping, Bringing, MayBring, may_stand_in};
 ghost use Rattle.publication.specs.Listings.{Lists};
 ghost use Rattle.std.specs.HashSet.{contains};
 ghost use Rattle.std.specs.Prelude.{not, ◌&&◌, if◌then◌else◌};
@@ -53,14 +53,10 @@ fn put_other<H: Shelf>(shelf: &mut H, name: &str, bytes: &[u8]) -> Result<Option
     requires open { IsSome (H.opened shelf.old) }
     requires other { IfSome (H.cell shelf.old name.now)
         (λ content. false ≡ holds bytes.now (Some content)) }
-    ensures ok { IfOk result (λ failed. Brings name.now bytes.now failed (H.fault_count shelf.old)
-        (H.fault_count shelf.new) (H.cell shelf.old) (H.cell shelf.new)) }
-    ensures unsettles { OnErr result (AllBut (H.cell shelf.old) name.now (H.cell shelf.new)) }
-    ensures later { H.fault_count shelf.old ≤ H.fault_count shelf.new }
+    ensures brings { BringsBytes name.now bytes.now (H.fault_count shelf.old)
+        (H.fault_count shelf.new) (H.cell shelf.old) (H.cell shelf.new) (H.changes shelf.old)
+        (H.changes shelf.new) result }
     ensures opened { H.opened shelf.new ≡ H.opened shelf.old }
-    ensures removals { removals_in (H.changes shelf.new) ≡ removals_in (H.changes shelf.old) }
-    ensures log { IfOk result (λ failed. IfSome (H.cell shelf.old name.now)
-        (LogsPut name.now bytes.now failed (H.changes shelf.old) (H.changes shelf.new))) }
 {
     match shelf.put(name, bytes) {
         Ok(()) => Ok(None),
@@ -77,14 +73,10 @@ fn bring_unread<H: Shelf>(
     held: &mut Vec<u8>,
 ) -> Result<Option<Call>, AllocError>
     requires open { IsSome (H.opened shelf.old) }
-    ensures ok { IfOk result (λ failed. Brings name.now bytes.now failed (H.fault_count shelf.old)
-        (H.fault_count shelf.new) (H.cell shelf.old) (H.cell shelf.new)) }
-    ensures unsettles { OnErr result (AllBut (H.cell shelf.old) name.now (H.cell shelf.new)) }
-    ensures later { H.fault_count shelf.old ≤ H.fault_count shelf.new }
+    ensures brings { BringsBytes name.now bytes.now (H.fault_count shelf.old)
+        (H.fault_count shelf.new) (H.cell shelf.old) (H.cell shelf.new) (H.changes shelf.old)
+        (H.changes shelf.new) result }
     ensures opened { H.opened shelf.new ≡ H.opened shelf.old }
-    ensures removals { removals_in (H.changes shelf.new) ≡ removals_in (H.changes shelf.old) }
-    ensures log { IfOk result (λ failed. IfSome (H.cell shelf.old name.now)
-        (LogsPut name.now bytes.now failed (H.changes shelf.old) (H.changes shelf.new))) }
 {
     match holds(shelf, name, bytes, held) {
         Ok(true) => return Ok(None),
@@ -106,14 +98,10 @@ fn bring_name<H: Shelf>(
     requires open { IsSome (H.opened shelf.old) }
     requires absent { may_stand ≡ false → IfSome (H.cell shelf.old name.now)
         (λ content. content ≡ None) }
-    ensures ok { IfOk result (λ failed. Brings name.now bytes.now failed (H.fault_count shelf.old)
-        (H.fault_count shelf.new) (H.cell shelf.old) (H.cell shelf.new)) }
-    ensures unsettles { OnErr result (AllBut (H.cell shelf.old) name.now (H.cell shelf.new)) }
-    ensures later { H.fault_count shelf.old ≤ H.fault_count shelf.new }
+    ensures brings { BringsBytes name.now bytes.now (H.fault_count shelf.old)
+        (H.fault_count shelf.new) (H.cell shelf.old) (H.cell shelf.new) (H.changes shelf.old)
+        (H.changes shelf.new) result }
     ensures opened { H.opened shelf.new ≡ H.opened shelf.old }
-    ensures removals { removals_in (H.changes shelf.new) ≡ removals_in (H.changes shelf.old) }
-    ensures log { IfOk result (λ failed. IfSome (H.cell shelf.old name.now)
-        (LogsPut name.now bytes.now failed (H.changes shelf.old) (H.changes shelf.new))) }
 {
     if may_stand {
         return bring_unread(shelf, name, bytes, held);
@@ -276,19 +264,14 @@ impl Publisher {
         requires open { IsSome (H.opened shelf.old) }
         requires own { is_own name.now ≡ true }
         requires knows { Knows self.old (H.cell shelf.old) }
-        ensures ok { IfOk result (λ failed. Brings name.now bytes.now failed
-            (H.fault_count shelf.old) (H.fault_count shelf.new) (H.cell shelf.old)
-            (H.cell shelf.new)) }
+        ensures brings { BringsBytes name.now bytes.now (H.fault_count shelf.old)
+            (H.fault_count shelf.new) (H.cell shelf.old) (H.cell shelf.new) (H.changes shelf.old)
+            (H.changes shelf.new) result }
         ensures knows { OnOk result (Knows self.new (H.cell shelf.new)) }
-        ensures unsettles { OnErr result (AllBut (H.cell shelf.old) name.now (H.cell shelf.new)) }
-        ensures later { H.fault_count shelf.old ≤ H.fault_count shelf.new }
         ensures opened { H.opened shelf.new ≡ H.opened shelf.old }
         ensures keys { OnOk result ((n : List ℕ) → may_stand_in self.new n
             ≡ (bytes_eq name.now n || may_stand_in self.old n)) }
         ensures most { self.new.most ≡ self.old.most }
-        ensures removals { removals_in (H.changes shelf.new) ≡ removals_in (H.changes shelf.old) }
-        ensures log { IfOk result (λ failed. IfSome (H.cell shelf.old name.now)
-            (LogsPut name.now bytes.now failed (H.changes shelf.old) (H.changes shelf.new))) }
     {
         if self.is_known(name, bytes) {
             return Ok(None);

@@ -11,6 +11,7 @@ use crate::answers::{
 };
 use crate::found_objects::FoundObjects;
 use crate::renewing::take_picture;
+use crate::sharing::shared_texts;
 use crate::taking::TakeError;
 use base::{Seq, Steps, Text};
 use engine_turns::{Core, TurnError, Turned, step, turned_by};
@@ -37,17 +38,6 @@ pub struct Engine<R: Runner> {
     ghost ready: { is_ready core ≡ true },
     ghost low: { core.counter ≤ END_OF_NUMBERS },
     ghost few: { length core.rows.items ≤ MAX_OBJECTS },
-}
-
-/// The same texts, shared.
-fn shared(alloc: Global, texts: &[Text]) -> Result<Seq<Text>, AllocError>
-    ensures { IfOk result (λ same. same ≡ texts.now) }
-{
-    let mut same = Vec::with_capacity(alloc, texts.len())?;
-    for text in texts {
-        same.push(text.share()?)?;
-    }
-    Ok(Seq::from_vec(same))
 }
 
 impl<R: Runner> Engine<R> {
@@ -151,7 +141,7 @@ impl<R: Runner> Engine<R> {
         ensures spared { IsSound R.meaning self.old.core (asks self.old.index)
             → ∥ AreSpared R.meaning (value_of self.new.core) ∥₁ }
     {
-        let dirs = shared(alloc, self.core.dirs.as_slice())?;
+        let dirs = shared_texts(alloc, self.core.dirs.as_slice())?;
         take_picture(
             alloc,
             &mut self.core,

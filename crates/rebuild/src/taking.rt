@@ -4,10 +4,11 @@ ghost use Rattle.std.specs.Prelude.{◌≡◌, ◌≤◌, ◌+◌, IfOk, IfErr, 
 ghost use Rattle.asking.specs.declared.limits.TheConstants.{END_OF_NUMBERS};
 ghost use Rattle.object_names.specs.Objects.{are_rising};
 ghost use Rattle.engine_turns.specs.Places.{file_names};
-ghost use Rattle.rebuild.specs.Taking.{same_content, old_or_none, number_or, counter_or, with_number, numbered, counter_after};
+ghost use Rattle.rebuild.specs.Taking.{old_or_none, number_or, counter_or, with_number, numbered, counter_after};
 ghost use Rattle.rebuild.specs.Refused.{IsSpent};
 ghost use Rattle.rebuild.specs.declared.taking.TakeError.TheVariants.{Memory};
 
+use crate::sharing::{Share, same_content};
 use asking::limits::END_OF_NUMBERS;
 use base::Steps;
 use engine_turns::{FileRow, file_in};
@@ -36,27 +37,6 @@ impl<T: Drop> From<AllocFailed<T>> for TakeError {
 
     fn from(_e: AllocFailed<T>) -> TakeError {
         TakeError::Memory
-    }
-}
-
-/// Whether two contents are the same.
-pub(crate) fn same_content(a: &Content, b: &Content) -> bool
-    ensures { result ≡ same_content a.now b.now }
-{
-    match (a, b) {
-        (Content::Bytes(a), Content::Bytes(b)) => a.as_slice() == b.as_slice(),
-        (Content::TooLong, Content::TooLong) => true,
-        _ => false,
-    }
-}
-
-/// The same content.
-pub(crate) fn copy_content(content: &Content) -> Result<Content, AllocError>
-    ensures { IfOk result (λ c. c ≡ content.now) }
-{
-    match content {
-        Content::Bytes(bytes) => Ok(Content::Bytes(bytes.share()?)),
-        Content::TooLong => Ok(Content::TooLong),
     }
 }
 
@@ -112,7 +92,7 @@ fn number_file(old: &[FileRow], file: &PictureFile, counter: &mut u64) -> Result
         (counter_or counter.old (old_or_none old.now file.now.name file.now.content))) }
 {
     let name = file.name.share()?;
-    let content = copy_content(&file.content)?;
+    let content = file.content.shared()?;
     let number = give(counter, old_or_none(old, file))?;
     Ok(FileRow {
         name,

@@ -15,7 +15,7 @@ use Rattle.path_tree.specs.declared.path.Term.TheVariants as term
 use Rattle.questions.specs.declared.key.Key.{Key}
 use Rattle.questions.specs.declared.key.Key.TheVariants.{File, Under}
 use Rattle.kept_state.specs.declared.limits.TheConstants.{MAX_INDEX, MAX_TERMS}
-use Rattle.command_words.specs.declared.limits.TheConstants.{MAX_ITERATIONS, MAX_RECURSION}
+use Rattle.load_path.specs.declared.limits.TheConstants.{MAX_ITERATIONS, MAX_RECURSION}
 use Rattle.record_rows.specs.declared.format.Format.{Format}
 use Rattle.record_rows.specs.declared.format.Format.TheVariants.{First, Second, Third}
 use Rattle.record_rows.specs.Forms.{one_of, number32, number64, bytes_form, list, text}

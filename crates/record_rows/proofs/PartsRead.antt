@@ -4,7 +4,7 @@ use Rattle.std.specs.Prelude.{◌==◌}
 use Rattle.std.specs.Int.{w64}
 use Rattle.std.proofs.lemmas.Bool.{eqb-true}
 use Rattle.std.proofs.lemmas.List.{nil_from_length}
-use Rattle.command_words.specs.declared.limits.TheConstants.{MAX_ITERATIONS, MAX_RECURSION}
+use Rattle.load_path.specs.declared.limits.TheConstants.{MAX_ITERATIONS, MAX_RECURSION}
 use Rattle.record_rows.specs.declared.format.Format.{Format}
 use Rattle.record_rows.specs.Forms.{◌>>=◌, number_at, if_passes, if_ended, whole}
 use Rattle.record_rows.specs.Fields.{Header, built, verdict, trace_in, format_form, counter_number, limit_number, directories, header}

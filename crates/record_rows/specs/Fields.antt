@@ -23,7 +23,7 @@ use Rattle.questions.specs.declared.key.Key.TheVariants.{File, Under}
 use Rattle.read_sets.specs.declared.trace.Item.{Item}
 use Rattle.read_sets.specs.Items.{keys_in, are_once}
 use Rattle.kept_state.specs.declared.limits.TheConstants.{FIRST_NUMBER, MAX_ASKED_BYTES, MAX_INDEX, MAX_ITEMS, MAX_TERMS}
-use Rattle.command_words.specs.declared.limits.TheConstants.{MAX_PARTS, MAX_ITERATIONS, MAX_RECURSION}
+use Rattle.load_path.specs.declared.limits.TheConstants.{MAX_PARTS, MAX_ITERATIONS, MAX_RECURSION}
 use Rattle.asking.specs.declared.limits.TheConstants.{END_OF_NUMBERS}
 use Rattle.record_rows.specs.declared.format.Format.{Format}
 use Rattle.record_rows.specs.declared.format.Format.TheVariants.{First, Second, Third}

@@ -11,7 +11,7 @@ use Rattle.questions.specs.Laws.{is_circular}
 use Rattle.read_sets.specs.declared.trace.Item.{Item}
 use Rattle.kept_state.specs.declared.kept.KeptFile.{KeptFile}
 use Rattle.kept_state.specs.declared.kept.KeptObject.{KeptObject}
-use Rattle.command_words.specs.declared.limits.TheConstants.{DEFAULT_ITERATIONS, DEFAULT_RECURSION}
+use Rattle.load_path.specs.declared.limits.TheConstants.{DEFAULT_ITERATIONS, DEFAULT_RECURSION}
 use Rattle.kept_state.specs.declared.limits.TheConstants.{FIRST_NUMBER}
 use Rattle.kept_state.specs.Stored.{Stored, file_name, object_name}
 use Rattle.stored_rows.specs.declared.row.StoredRow.{StoredRow}

@@ -9,9 +9,9 @@ use crate::format::Format;
 use crate::reading::{read_byte, read_str, read_u32, read_u64};
 use asking::limits::END_OF_NUMBERS;
 use base::Text;
-use command_words::limits::{MAX_ITERATIONS, MAX_PARTS, MAX_RECURSION};
 use kept_state::limits::FIRST_NUMBER;
 use load_path::is_file_name;
+use load_path::limits::{MAX_ITERATIONS, MAX_PARTS, MAX_RECURSION};
 use pan_ast::Limits;
 use std::alloc::Global;
 

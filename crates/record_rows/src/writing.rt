@@ -1,5 +1,5 @@
 ghost use Rattle.std.specs.Prelude.{◌≡◌, ◌^◌, ◌++◌, ◌&&◌, OnOk, nat_lt, true};
-ghost use Rattle.command_words.specs.declared.limits.TheConstants.{MAX_ITERATIONS, MAX_RECURSION};
+ghost use Rattle.load_path.specs.declared.limits.TheConstants.{MAX_ITERATIONS, MAX_RECURSION};
 ghost use Rattle.std.specs.Int.{w32, w64, to_be_bytes};
 ghost use Rattle.record_rows.specs.Forms.{bytes_form, list, number32, number64, text};
 ghost use Rattle.record_rows.specs.Fields.{a_term, terms, key, item_in, trace_in, place, fault, built, verdict, content, directory, directories, header, file_text, name_text, detail_text, is_counter, is_limit};
@@ -16,10 +16,10 @@ use crate::tree_writing::put_whole_tree;
 use asking::limits::END_OF_NUMBERS;
 use base::Text;
 use base::limits::MAX_FILE_BYTES;
-use command_words::limits::{MAX_ITERATIONS, MAX_PARTS, MAX_RECURSION};
 use kept_state::limits::{FIRST_NUMBER, MAX_INDEX, MAX_ITEMS, MAX_TERMS};
 use kept_state::{Kept, KeptFile, KeptObject};
 use load_path::Content;
+use load_path::limits::{MAX_ITERATIONS, MAX_PARTS, MAX_RECURSION};
 use pan_ast::{Code, Fault, Limits, Place};
 use path_tree::{Name, Term, Tree};
 use questions::Key;

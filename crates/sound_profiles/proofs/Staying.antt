@@ -15,7 +15,8 @@ use Rattle.questions.specs.Contents as content
 use Rattle.questions.specs.Run.{Meter, Outcome, Done, Returned, Failed, Asks, Run, then, ◌>>=◌, give, fail_with, step, stepped, ask, answered, ended, scoped}
 use Rattle.dml_meaning.specs.Around.{Around}
 use Rattle.dml_meaning.specs.Lookups.{looked_under, look_at}
-use Rattle.dml_meaning.specs.Meaning.{Means as Opens, dml_run}
+use Rattle.dml_meaning.specs.Means.{Means as Opens}
+use Rattle.dml_meaning.specs.Structures.{dml_run}
 use Rattle.type_defs.specs.Bindings.{Bound, Valid}
 use Rattle.type_defs.specs.Resolved.{Resolved, Known, Shape, OfBase, Named, Ranged, ListOf, DictOf, Link, Record, Choice, Fields, none, more}
 use Rattle.validate.specs.Check.{visit, truth, condition_run, target_run, items_run, values_run, field_run, no_other, check, shape_run, fields_run}

@@ -12,7 +12,8 @@ use Rattle.pan_ast.specs.Syntax.{Item}
 use Rattle.pan_ast.specs.Templates.{Template, Statement, StatementForm}
 use Rattle.pan_ast.specs.Templates as statement
 use Rattle.dml_meaning.specs.Around.{Around}
-use Rattle.dml_meaning.specs.Meaning.{Means, dml_run, assign_value, assignment_run, relative_by, relative_terms, assign_by, Includes, include_by, include_value, statement_run, begin_statement, statements_from, included, created, create_named, create_run}
+use Rattle.dml_meaning.specs.Means.{Means}
+use Rattle.dml_meaning.specs.Structures.{dml_run, assign_value, assignment_run, relative_by, relative_terms, assign_by, Includes, include_by, include_value, statement_run, begin_statement, statements_from, included, created, create_named, create_run}
 use Rattle.sound_profiles.proofs.Steady.{Steady, steady_scoped, steady_still}
 use Rattle.sound_profiles.proofs.SteadyLeaves.{SteadyMeans, pieces, structure_steady}
 use Rattle.sound_profiles.proofs.SteadyValues.{assigned_steady, set_keys_steady, text_steady}

@@ -12,7 +12,12 @@ use Rattle.dml_meaning.specs.declared.words.Test.{Test}
 use Rattle.dml_meaning.specs.Run.{Run}
 use Rattle.dml_meaning.specs.Around.{Around, ValueCall}
 use Rattle.dml_meaning.specs.Lookups.{Looked, There}
-use Rattle.dml_meaning.specs.Meaning.{Means, Purpose, ToRead, ToDelete, ToChange, Reached, block_from, values_from, index_step, reach_from, start_run, started, reach_run, reference_in, condition_run, choose, body_turn, while_turn, and_step, for_turn, after_turn, while_turns, for_turns, pair_turn, pair_turns, each_of, body_run, function_run, value_found, path_exists_run, as_list, extend_list, extend_self, file_text, set_self, list_by, text_run, own_run, value_or_nothing, test_run, exists_by, delete_by, copy_extended, may_extend, extend_reached, reference_extended, extend_by, own_values_run, own_call_run, values_run, call_by, call_run, node_run, step_run, steps_run, set_run, assign_run, item_run, eval}
+use Rattle.dml_meaning.specs.Means.{Means, Purpose, ToRead, ToDelete, ToChange, Reached}
+use Rattle.dml_meaning.specs.References.{block_from, values_from, index_step, reach_from, start_run, started, reach_run, reference_in}
+use Rattle.dml_meaning.specs.Loops.{condition_run, choose, body_turn, while_turn, and_step, for_turn, after_turn, while_turns, for_turns, pair_turn, pair_turns, each_of}
+use Rattle.dml_meaning.specs.BuiltIns.{value_found, path_exists_run, as_list, extend_list, extend_self, file_text, set_self, list_by, text_run, own_run, value_or_nothing, test_run, exists_by, delete_by, copy_extended, may_extend, extend_reached, reference_extended, extend_by, own_values_run, own_call_run}
+use Rattle.dml_meaning.specs.Calls.{body_run, function_run, values_run, call_by, call_run}
+use Rattle.dml_meaning.specs.Meaning.{node_run, step_run, steps_run, set_run, assign_run, item_run, eval}
 use Rattle.sound_profiles.proofs.Steady.{Steady, steady_scoped, steady_still}
 use Rattle.sound_profiles.proofs.SteadyLeaves.{SteadyMeans, pieces, look_steady, looked_up_steady, bytes_steady}
 use Rattle.sound_profiles.proofs.SteadyValues.{about_steady, may_change_steady, change_steady, set_pair_steady, set_value_steady, refuse_steady, boolean_steady, literal_steady, name_steady, text_steady, apply_index_steady, apply_binary_steady, apply_unary_steady, both_steady, either_steady, open_call_steady}

@@ -16,7 +16,7 @@ use Rattle.questions.specs.Run.{Run}
 use Rattle.dml_meaning.specs.Run.{Look}
 use Rattle.dml_meaning.specs.Around.{Around}
 use Rattle.dml_meaning.specs.Lookups.{Present, Long, Whole, or_next, asked_file, tried, first_present, looked_up, on_bytes, or_fault, named_so, of_kind, template_named, structure_named, looked_under, look_at, look_by, look}
-use Rattle.dml_meaning.specs.Meaning.{Means, Purpose}
+use Rattle.dml_meaning.specs.Means.{Means, Purpose}
 use Rattle.sound_profiles.proofs.Steady.{Steady, steady_bind, steady_give, steady_return, steady_fail, steady_now, steady_become, steady_cond, steady_step, steady_ask}
 
 pub record SteadyMeans (go : Means) : Type 0 where

@@ -15,7 +15,12 @@ use Rattle.dml_meaning.specs.declared.words.Automatic.{Automatic}
 use Rattle.dml_meaning.specs.declared.words.Automatic.TheVariants as automatic
 use Rattle.dml_meaning.specs.Run.{Run}
 use Rattle.dml_meaning.specs.Around.{Around}
-use Rattle.dml_meaning.specs.Meaning.{or_fail_about, read, may_change_by, may_change, set_root, change, or_refuse, as_boolean, or_bad_index, literal_run, name_run, apply_index, apply_binary, apply_unary, apply_boolean, both, either, assign_name, set_pair, open_call, on_text_of, on_text, put_fault, assigned_at, set_key, set_keys, steps, set_value}
+use Rattle.dml_meaning.specs.Names.{or_fail_about, read, may_change_by, may_change, set_root, change}
+use Rattle.dml_meaning.specs.Leaves.{or_refuse, as_boolean, or_bad_index, literal_run, name_run, apply_index, apply_binary, apply_unary, apply_boolean, both, either, on_text_of, on_text}
+use Rattle.dml_meaning.specs.Loops.{assign_name, set_pair}
+use Rattle.dml_meaning.specs.Structures.{put_fault, assigned_at, set_key, set_keys}
+use Rattle.dml_meaning.specs.Calls.{open_call}
+use Rattle.dml_meaning.specs.Meaning.{steps, set_value}
 use Rattle.sound_profiles.proofs.Steady.{Steady}
 use Rattle.sound_profiles.proofs.SteadyLeaves.{pieces}
 

@@ -10,8 +10,8 @@ ghost use Rattle.sqlite_keeper.specs.declared.refusal.Refusal.TheVariants.{NotOp
 
 use crate::refusal::Refusal;
 use base::Text;
-use keepers::{Faults, Keeper};
-use outside::StoreError;
+use keepers::Keeper;
+use outside::{Faults, StoreError};
 use row_table::{make_ready, read_rows, write_rows};
 use sqlite::{Alter, Connection, Error, ErrorCode};
 use std::alloc::Global;

@@ -28,7 +28,8 @@ use Rattle.dml_meaning.specs.declared.words.Test.TheVariants as test
 use Rattle.dml_meaning.specs.Around.{found, is_function}
 use Rattle.dml_meaning.specs.Words.{automatic_of}
 use Rattle.dml_meaning.specs.Values.{is_nothing, is_list, passes}
-use Rattle.dml_meaning.specs.Meaning.{eval, dml_run}
+use Rattle.dml_meaning.specs.Structures.{dml_run}
+use Rattle.dml_meaning.specs.Meaning.{eval}
 use Rattle.dml_meaning.specs.Lookups.{template_named}
 use Rattle.assign_rules.specs.Profiles.{ProfileValue, may_assign, is_value, is_set, assigned}
 use Rattle.assign_rules.specs.Globals.{GlobalsValue, is_final, with_global}

@@ -1,5 +1,6 @@
 -- What bindings want at a path, as words.
 use Rattle.std.specs.Prelude.{ℕ, Bool, false, ◌==◌, ◌&&◌, List, [], ◌∷◌, bytes_eq, if◌then◌else◌, Option, Some, None, codes}
+use Rattle.std.specs.Option.{option_or}
 use Rattle.path_tree.specs.declared.path.Term.{Term}
 use Rattle.path_tree.specs.declared.path.Term.TheVariants as term
 use Rattle.pan_ast.specs.declared.place.Place.{Place}
@@ -19,10 +20,6 @@ behind [] ms = Some ms
 behind (x ∷ xs) [] = None
 behind (x ∷ xs) (y ∷ ys) = if term_eq x y then behind xs ys else None
 
-abbrev pub or_else : Option (List ℕ) → Option (List ℕ) → Option (List ℕ)
-or_else None other = other
-or_else (Some text) other = Some text
-
 abbrev pub wanted_at : Resolved → Option (List Term) → Option (List ℕ)
 wanted_at t None = None
 wanted_at t (Some ms) = wanted_in t ms
@@ -38,12 +35,12 @@ is_by place b = (b.place.line == place.line) && (b.place.column == place.column)
 -- what the first binding wants that says what it wants at the path: of a statement, and of any
 abbrev pub first_wanted : List Term → List Bound → Option (List ℕ)
 first_wanted ms [] = None
-first_wanted ms (b ∷ bs) = or_else (bound_wanted ms b) (first_wanted ms bs)
+first_wanted ms (b ∷ bs) = option_or (bound_wanted ms b) (first_wanted ms bs)
 
 abbrev pub wanted_by : Place → List Term → List Bound → Option (List ℕ)
 wanted_by place ms [] = None
 wanted_by place ms (b ∷ bs) =
-    if is_by place b then or_else (bound_wanted ms b) (wanted_by place ms bs)
+    if is_by place b then option_or (bound_wanted ms b) (wanted_by place ms bs)
     else wanted_by place ms bs
 
 abbrev pub text_or : List ℕ → Option (List ℕ) → List ℕ
@@ -53,4 +50,4 @@ text_or other (Some text) = text
 -- first by the statement at the place, then by any; and `a value` where no type says more
 abbrev pub wanted_text : Place → List Term → List Bound → List ℕ
 wanted_text place ms bs =
-    text_or (codes "a value") (or_else (wanted_by place ms bs) (first_wanted ms bs))
+    text_or (codes "a value") (option_or (wanted_by place ms bs) (first_wanted ms bs))

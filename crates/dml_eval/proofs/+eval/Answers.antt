@@ -5,17 +5,22 @@ use Rattle.pan_ast.specs.TemplatesSeen.{template_seen}
 use Rattle.pan_ast.proofs.Places.{item_place_seen}
 use Rattle.questions.proofs.Parts.{none_beyond}
 use Rattle.dml_meaning.proofs.Leaving.{leaving}
-use Rattle.dml_world.specs.Seen.{around_of, env, is_fixed, meter}
+use Rattle.dml_world.specs.Evaluations.{env_of, meter_of}
+use Rattle.dml_world.specs.Seen.{is_fixed}
+use Rattle.dml_eval.specs.Heres.{around_in}
 use Rattle.dml_world.proofs.Booleans.{others_both, others_either}
 use Rattle.dml_leaves.specs.References.{argument_of, indexes_back, purpose_of, reached_of}
 use Rattle.questions.specs.Run.{then}
 use Rattle.questions.specs.Told.{only}
 use Rattle.dml_eval.specs.Waits.{chain_run, in_role, resume, turn_run}
+use Rattle.dml_eval.proofs.Lists.{for_over, while_over}
 use Rattle.dml_eval.proofs.Owns.{extends, includes_on, statements, tests}
 use Rattle.dml_eval.proofs.Reaching.{reaches}
 use Rattle.dml_eval.proofs.Stopping.{applied_stops, assigned_leaves, block_stops, both_stop, chain_stops, condition_stops, copy_stops, delete_leaves, either_stops, exists_leaves, exists_stops, extended_stops, for_stops, include_stops, included_stops, index_stops, inner_leaves, keys_stop, made_leaves, operand_stops, pair_stops, reached_stops, reference_goes, reference_stops, right_stops, second_stops, sign_stops, spine_stops, start_stops, statements_stop, terms_stop, turn_stops, value_leaves, values_left, values_stop, while_stops, whole_stops}
 use Rattle.dml_eval.proofs.Waits.{resumed_ends, resumed_more, resumed_none, steps_end, steps_more, turns_leave}
-use Rattle.dml_meaning.specs.Meaning.{eval, node_run, pair_at, reference_in, second_run, step_run, steps_run}
+use Rattle.dml_meaning.specs.References.{reference_in}
+use Rattle.dml_meaning.specs.Loops.{pair_at}
+use Rattle.dml_meaning.specs.Meaning.{eval, node_run, second_run, step_run, steps_run}
 use Rattle.dml_eval.proofs.+eval.Goals as goal
 
 pub chains::run_chain-turns-init : goal.chains::run_chain-turns-init
@@ -29,6 +34,7 @@ chains::run_chain-turns-init g t c =
                 (let here = begun.1 told in grind (arith, here)),
           );
       counted = c.start.ensures.counted;
+      lent = c.start.ensures.lent;
     }
 
 pub chains::run_chain-returns-in-None-pop-clause-gives :
@@ -46,7 +52,7 @@ chains::run_chain-returns-in-None-pop-clause-gives g t c =
 
 pub creating::run_included-returns-clause-gives : goal.creating::run_included-returns-clause-gives
 creating::run_included-returns-clause-gives g t c =
-    let some : 0 < c.args.around.now.includes_left = omega (arith, c.if-around-eq0.false) in
+    let some : 0 < c.args.here.around.now.includes_left = omega (arith, c.if-here-eq0.false) in
     λ keys.
     let found = c.structure_named.ensures.gives keys in
     let inside = c.run_inside.ensures.gives keys in (
@@ -60,207 +66,208 @@ creating::run_included-returns-clause-gives g t c =
 pub built_in::exists_item-returns-in_err-argument-clause-gives :
     goal.built_in::exists_item-returns-in_err-argument-clause-gives
 built_in::exists_item-returns-in_err-argument-clause-gives g t c = λ keys.
-    let leaves = exists_leaves (around_of c.args.around.now g.W.World.reading g.W.World.calls)
-    g.W.World.plain c.args.room c.args.place.now (item_seen c.args.item.now)
+    let leaves = exists_leaves (around_in g.W.World c.args.here)
+    g.W.World.plain c.args.here.room c.args.place.now (item_seen c.args.item.now)
     (reference_in (item_seen c.args.item.now)) (only keys g.W.World.answers)
-    (env c.args.live.now) (meter c.args.live.now.work (g.W.World.asked c.args.world.now)) in
+    (env_of c.args.evaluation.now) (meter_of g.W.World c.args.evaluation.now) in
     grind (arith, leaves)
 
 pub built_in::exists_item-returns-in_err-value-clause-gives :
     goal.built_in::exists_item-returns-in_err-value-clause-gives
 built_in::exists_item-returns-in_err-value-clause-gives g t c = λ keys.
-    let stops = exists_stops (around_of c.args.around.now g.W.World.reading g.W.World.calls)
-    g.W.World.plain c.args.room c.in_err-value.field-0.0 c.args.place.now
-    (item_seen c.args.item.now) (only keys g.W.World.answers) (env c.args.live.now)
-    (env c.open_item.new.live) (meter c.args.live.now.work (g.W.World.asked c.args.world.now))
-    (meter c.open_item.new.live.work (g.W.World.asked c.open_item.new.world)) in
+    let stops = exists_stops (around_in g.W.World c.args.here)
+    g.W.World.plain c.args.here.room c.in_err-value.field-0.0 c.args.place.now
+    (item_seen c.args.item.now) (only keys g.W.World.answers) (env_of c.args.evaluation.now)
+    (env_of c.open_item.new.evaluation) (meter_of g.W.World c.args.evaluation.now)
+    (meter_of g.W.World c.open_item.new.evaluation) in
     grind (arith, stops)
 
 pub built_in::delete_item-returns-in_err-argument-clause-gives :
     goal.built_in::delete_item-returns-in_err-argument-clause-gives
 built_in::delete_item-returns-in_err-argument-clause-gives g t c = λ keys.
-    let leaves = delete_leaves (around_of c.args.around.now g.W.World.reading g.W.World.calls)
-    g.W.World.plain c.args.room c.args.place.now (item_seen c.args.item.now)
+    let leaves = delete_leaves (around_in g.W.World c.args.here)
+    g.W.World.plain c.args.here.room c.args.place.now (item_seen c.args.item.now)
     (reference_in (item_seen c.args.item.now)) (only keys g.W.World.answers)
-    (env c.args.live.now) (meter c.args.live.now.work (g.W.World.asked c.args.world.now)) in
+    (env_of c.args.evaluation.now) (meter_of g.W.World c.args.evaluation.now) in
     grind (arith, leaves)
 
 pub built_in::run_copy-returns-in_err-list-clause-gives :
     goal.built_in::run_copy-returns-in_err-list-clause-gives
 built_in::run_copy-returns-in_err-list-clause-gives g t c = λ keys.
-    let stops = copy_stops (around_of c.args.around.now g.W.World.reading g.W.World.calls)
-    g.W.World.plain c.args.room c.in_err-list.field-0.0 c.args.place.now c.args.side
+    let stops = copy_stops (around_in g.W.World c.args.here)
+    g.W.World.plain c.args.here.room c.in_err-list.field-0.0 c.args.place.now c.args.side
     (item_seen c.args.list.now) (item_seen c.args.value.now) (only keys g.W.World.answers)
-    (env c.args.live.now) (env c.open_item.new.live)
-    (meter c.args.live.now.work (g.W.World.asked c.args.world.now))
-    (meter c.open_item.new.live.work (g.W.World.asked c.open_item.new.world)) in
+    (env_of c.args.evaluation.now) (env_of c.open_item.new.evaluation)
+    (meter_of g.W.World c.args.evaluation.now)
+    (meter_of g.W.World c.open_item.new.evaluation) in
     grind (arith, stops)
 
 pub built_in::run_change-returns-in_err-reached-clause-gives :
     goal.built_in::run_change-returns-in_err-reached-clause-gives
 built_in::run_change-returns-in_err-reached-clause-gives g t c = λ keys.
-    let stops = reached_stops (around_of c.args.around.now g.W.World.reading g.W.World.calls)
-    g.W.World.plain c.args.room c.in_err-reached.field-0.0 c.args.place.now c.args.side
+    let stops = reached_stops (around_in g.W.World c.args.here)
+    g.W.World.plain c.args.here.room c.in_err-reached.field-0.0 c.args.place.now c.args.side
     c.args.at.now c.args.argument.place.now c.args.argument.name.now
     (indexes_back c.args.argument.indexes.items none) (item_seen c.args.value.now)
-    (only keys g.W.World.answers) (env c.args.live.now) (env c.open_reference.new.live)
-    (meter c.args.live.now.work (g.W.World.asked c.args.world.now))
-    (meter c.open_reference.new.live.work (g.W.World.asked c.open_reference.new.world)) in
+    (only keys g.W.World.answers) (env_of c.args.evaluation.now)
+    (env_of c.open_reference.new.evaluation)
+    (meter_of g.W.World c.args.evaluation.now)
+    (meter_of g.W.World c.open_reference.new.evaluation) in
     grind (arith, stops)
 
 pub built_in::run_change-returns-in_err-value-clause-gives :
     goal.built_in::run_change-returns-in_err-value-clause-gives
 built_in::run_change-returns-in_err-value-clause-gives g t c = λ keys.
-    let stops = extended_stops (around_of c.args.around.now g.W.World.reading g.W.World.calls)
-    g.W.World.plain c.args.room c.in_err-value.field-0.0 c.args.place.now c.args.side
+    let stops = extended_stops (around_in g.W.World c.args.here)
+    g.W.World.plain c.args.here.room c.in_err-value.field-0.0 c.args.place.now c.args.side
     c.args.at.now c.args.argument.place.now c.args.argument.name.now
     (indexes_back c.args.argument.indexes.items none) (item_seen c.args.value.now)
-    (reached_of c.in_ok-reached.reached) (only keys g.W.World.answers) (env c.args.live.now)
-    (env c.open_reference.new.live) (env c.open_item.new.live)
-    (meter c.args.live.now.work (g.W.World.asked c.args.world.now))
-    (meter c.open_item.new.live.work (g.W.World.asked c.open_item.new.world))
-    (meter c.open_reference.new.live.work (g.W.World.asked c.open_reference.new.world)) in
+    (reached_of c.in_ok-reached.reached) (only keys g.W.World.answers)
+    (env_of c.args.evaluation.now)
+    (env_of c.open_reference.new.evaluation) (env_of c.open_item.new.evaluation)
+    (meter_of g.W.World c.args.evaluation.now)
+    (meter_of g.W.World c.open_item.new.evaluation)
+    (meter_of g.W.World c.open_reference.new.evaluation) in
     grind (arith, stops)
 
 pub chains::start-returns-in_err-value-clause-gives :
     goal.chains::start-returns-in_err-value-clause-gives
 chains::start-returns-in_err-value-clause-gives g t c = λ keys.
-    let stops = spine_stops (around_of c.args.around.now g.W.World.reading g.W.World.calls)
-    g.W.World.plain c.args.room c.in_err-value.field-0.0 c.args.chain.place.now
+    let stops = spine_stops (around_in g.W.World c.args.here)
+    g.W.World.plain c.args.here.room c.in_err-value.field-0.0 c.args.chain.place.now
     (node_seen c.args.chain.first.now) (step_seen c.args.chain.step.now ∷ map step_seen
-    c.args.chain.rest.now) (only keys g.W.World.answers) (env c.args.live.now)
-    (env c.run_operand.new.live) (meter c.args.live.now.work (g.W.World.asked c.args.world.now))
-    (meter c.run_operand.new.live.work (g.W.World.asked c.run_operand.new.world)) in
+    c.args.chain.rest.now) (only keys g.W.World.answers) (env_of c.args.evaluation.now)
+    (env_of c.run_operand.new.evaluation) (meter_of g.W.World c.args.evaluation.now)
+    (meter_of g.W.World c.run_operand.new.evaluation) in
     grind (arith, stops)
 
 pub chains::take_up-returns-in_err-value-in-Right-clause-gives :
     goal.chains::take_up-returns-in_err-value-in-Right-clause-gives
 chains::take_up-returns-in_err-value-in-Right-clause-gives g t c = λ keys.
-    let stops = chain_stops (around_of c.args.around.now g.W.World.reading g.W.World.calls)
-    g.W.World.plain c.args.room c.in_err-value-in-Right.field-0.0 c.args.waiting.place.now
-    (map step_seen c.args.waiting.rest.now) (in_role (eval c.args.room)
-    (around_of c.args.around.now g.W.World.reading g.W.World.calls) c.args.waiting.place.now
-    c.args.waiting.role c.args.value) (only keys g.W.World.answers) (env c.args.live.now)
-    (env c.apply_binary.new.live) (meter c.args.live.now.work
-    (g.W.World.asked c.args.world.now)) (meter c.apply_binary.new.live.work
-    (g.W.World.asked c.args.world.now)) in
+    let stops = chain_stops (around_in g.W.World c.args.here)
+    g.W.World.plain c.args.here.room c.in_err-value-in-Right.field-0.0 c.args.waiting.place.now
+    (map step_seen c.args.waiting.rest.now) (in_role (eval c.args.here.room)
+    (around_in g.W.World c.args.here) c.args.waiting.place.now
+    c.args.waiting.role c.args.value) (only keys g.W.World.answers) (env_of c.args.evaluation.now)
+    (env_of c.apply_binary.new.evaluation) (meter_of g.W.World c.args.evaluation.now)
+    (meter_of g.W.World c.apply_binary.new.evaluation) in
     grind (arith, stops)
 
 pub chains::take_up-returns-in_err-value-in-Deciding-clause-gives :
     goal.chains::take_up-returns-in_err-value-in-Deciding-clause-gives
 chains::take_up-returns-in_err-value-in-Deciding-clause-gives g t c = λ keys.
-    let stops = chain_stops (around_of c.args.around.now g.W.World.reading g.W.World.calls)
-    g.W.World.plain c.args.room c.in_err-value-in-Deciding.field-0.0 c.args.waiting.place.now
-    (map step_seen c.args.waiting.rest.now) (in_role (eval c.args.room)
-    (around_of c.args.around.now g.W.World.reading g.W.World.calls) c.args.waiting.place.now
-    c.args.waiting.role c.args.value) (only keys g.W.World.answers) (env c.args.live.now)
-    (env c.apply_boolean.new.live) (meter c.args.live.now.work
-    (g.W.World.asked c.args.world.now)) (meter c.apply_boolean.new.live.work
-    (g.W.World.asked c.args.world.now)) in
+    let stops = chain_stops (around_in g.W.World c.args.here)
+    g.W.World.plain c.args.here.room c.in_err-value-in-Deciding.field-0.0 c.args.waiting.place.now
+    (map step_seen c.args.waiting.rest.now) (in_role (eval c.args.here.room)
+    (around_in g.W.World c.args.here) c.args.waiting.place.now
+    c.args.waiting.role c.args.value) (only keys g.W.World.answers) (env_of c.args.evaluation.now)
+    (env_of c.apply_boolean.new.evaluation) (meter_of g.W.World c.args.evaluation.now)
+    (meter_of g.W.World c.apply_boolean.new.evaluation) in
     grind (arith, stops)
 
 pub chains::run_binary-returns-in_err-value-clause-gives :
     goal.chains::run_binary-returns-in_err-value-clause-gives
 chains::run_binary-returns-in_err-value-clause-gives g t c = λ keys.
-    let inner = operand_stops (around_of c.args.around.now g.W.World.reading g.W.World.calls)
-    g.W.World.plain c.args.room c.in_err-value.field-0.0 c.args.place.now c.args.left c.args.op
-    (node_seen c.args.right.now) (only keys g.W.World.answers) (env c.args.live.now)
-    (env c.run_operand.new.live) (meter c.args.live.now.work (g.W.World.asked c.args.world.now))
-    (meter c.run_operand.new.live.work (g.W.World.asked c.run_operand.new.world)) in
-    let stops = chain_stops (around_of c.args.around.now g.W.World.reading g.W.World.calls)
-    g.W.World.plain c.args.room c.in_err-value.field-0.0 c.args.place.now
-    (map step_seen c.args.rest.now) (step_run (eval c.args.room)
-    (around_of c.args.around.now g.W.World.reading g.W.World.calls) c.args.place.now c.args.left
+    let inner = operand_stops (around_in g.W.World c.args.here)
+    g.W.World.plain c.args.here.room c.in_err-value.field-0.0 c.args.place.now c.args.left c.args.op
+    (node_seen c.args.right.now) (only keys g.W.World.answers) (env_of c.args.evaluation.now)
+    (env_of c.run_operand.new.evaluation) (meter_of g.W.World c.args.evaluation.now)
+    (meter_of g.W.World c.run_operand.new.evaluation) in
+    let stops = chain_stops (around_in g.W.World c.args.here)
+    g.W.World.plain c.args.here.room c.in_err-value.field-0.0 c.args.place.now
+    (map step_seen c.args.rest.now) (step_run (eval c.args.here.room)
+    (around_in g.W.World c.args.here) c.args.place.now c.args.left
     (AtBinary c.args.op (node_seen c.args.right.now))) (only keys g.W.World.answers)
-    (env c.args.live.now) (env c.run_operand.new.live)
-    (meter c.args.live.now.work (g.W.World.asked c.args.world.now))
-    (meter c.run_operand.new.live.work (g.W.World.asked c.run_operand.new.world)) in
+    (env_of c.args.evaluation.now) (env_of c.run_operand.new.evaluation)
+    (meter_of g.W.World c.args.evaluation.now)
+    (meter_of g.W.World c.run_operand.new.evaluation) in
     grind (arith, inner, stops)
 
 pub chains::run_binary-returns-in_err-value-in-Value-clause-gives :
     goal.chains::run_binary-returns-in_err-value-in-Value-clause-gives
 chains::run_binary-returns-in_err-value-in-Value-clause-gives g t c = λ keys.
-    let inner = applied_stops (around_of c.args.around.now g.W.World.reading g.W.World.calls)
-    g.W.World.plain c.args.room c.in_err-value-in-Value.field-0.0 c.args.place.now c.args.left
+    let inner = applied_stops (around_in g.W.World c.args.here)
+    g.W.World.plain c.args.here.room c.in_err-value-in-Value.field-0.0 c.args.place.now c.args.left
     c.in-Value.value c.args.op (node_seen c.args.right.now) (only keys g.W.World.answers)
-    (env c.args.live.now) (env c.run_operand.new.live) (env c.apply_binary.new.live)
-    (meter c.args.live.now.work (g.W.World.asked c.args.world.now))
-    (meter c.apply_binary.new.live.work (g.W.World.asked c.run_operand.new.world))
-    (meter c.run_operand.new.live.work (g.W.World.asked c.run_operand.new.world)) in
-    let stops = chain_stops (around_of c.args.around.now g.W.World.reading g.W.World.calls)
-    g.W.World.plain c.args.room c.in_err-value-in-Value.field-0.0 c.args.place.now
-    (map step_seen c.args.rest.now) (step_run (eval c.args.room)
-    (around_of c.args.around.now g.W.World.reading g.W.World.calls) c.args.place.now c.args.left
+    (env_of c.args.evaluation.now) (env_of c.run_operand.new.evaluation)
+    (env_of c.apply_binary.new.evaluation)
+    (meter_of g.W.World c.args.evaluation.now)
+    (meter_of g.W.World c.apply_binary.new.evaluation)
+    (meter_of g.W.World c.run_operand.new.evaluation) in
+    let stops = chain_stops (around_in g.W.World c.args.here)
+    g.W.World.plain c.args.here.room c.in_err-value-in-Value.field-0.0 c.args.place.now
+    (map step_seen c.args.rest.now) (step_run (eval c.args.here.room)
+    (around_in g.W.World c.args.here) c.args.place.now c.args.left
     (AtBinary c.args.op (node_seen c.args.right.now))) (only keys g.W.World.answers)
-    (env c.args.live.now) (env c.apply_binary.new.live)
-    (meter c.args.live.now.work (g.W.World.asked c.args.world.now))
-    (meter c.apply_binary.new.live.work (g.W.World.asked c.run_operand.new.world)) in
+    (env_of c.args.evaluation.now) (env_of c.apply_binary.new.evaluation)
+    (meter_of g.W.World c.args.evaluation.now)
+    (meter_of g.W.World c.apply_binary.new.evaluation) in
     grind (arith, inner, stops)
 
 pub chains::run_both-returns-in_err-value-in-Some-false-clause-gives :
     goal.chains::run_both-returns-in_err-value-in-Some-false-clause-gives
 chains::run_both-returns-in_err-value-in-Some-false-clause-gives g t c = λ keys.
-    let same = others_both c.args.place.now (node_run (eval c.args.room)
-    (around_of c.args.around.now g.W.World.reading g.W.World.calls)
+    let same = others_both c.args.place.now (node_run (eval c.args.here.room)
+    (around_in g.W.World c.args.here)
     (node_seen c.args.right.now)) c.args.left (only keys g.W.World.answers)
-    (env c.args.live.now) (meter c.args.live.now.work (g.W.World.asked c.args.world.now)) in
-    let inner = both_stop (around_of c.args.around.now g.W.World.reading g.W.World.calls)
-    g.W.World.plain c.args.room c.in_err-value-in-Some-false.field-0.0 c.args.place.now
-    c.args.left (node_seen c.args.right.now) (only keys g.W.World.answers) (env c.args.live.now)
-    (env c.apply_boolean.new.live) (meter c.args.live.now.work
-    (g.W.World.asked c.args.world.now)) (meter c.apply_boolean.new.live.work
-    (g.W.World.asked c.args.world.now)) in
-    let stops = chain_stops (around_of c.args.around.now g.W.World.reading g.W.World.calls)
-    g.W.World.plain c.args.room c.in_err-value-in-Some-false.field-0.0 c.args.place.now
-    (map step_seen c.args.rest.now) (step_run (eval c.args.room)
-    (around_of c.args.around.now g.W.World.reading g.W.World.calls) c.args.place.now c.args.left
-    (AtAnd (node_seen c.args.right.now))) (only keys g.W.World.answers) (env c.args.live.now)
-    (env c.apply_boolean.new.live) (meter c.args.live.now.work
-    (g.W.World.asked c.args.world.now)) (meter c.apply_boolean.new.live.work
-    (g.W.World.asked c.args.world.now)) in
+    (env_of c.args.evaluation.now) (meter_of g.W.World c.args.evaluation.now) in
+    let inner = both_stop (around_in g.W.World c.args.here)
+    g.W.World.plain c.args.here.room c.in_err-value-in-Some-false.field-0.0 c.args.place.now
+    c.args.left (node_seen c.args.right.now) (only keys g.W.World.answers)
+    (env_of c.args.evaluation.now)
+    (env_of c.apply_boolean.new.evaluation) (meter_of g.W.World c.args.evaluation.now)
+    (meter_of g.W.World c.apply_boolean.new.evaluation) in
+    let stops = chain_stops (around_in g.W.World c.args.here)
+    g.W.World.plain c.args.here.room c.in_err-value-in-Some-false.field-0.0 c.args.place.now
+    (map step_seen c.args.rest.now) (step_run (eval c.args.here.room)
+    (around_in g.W.World c.args.here) c.args.place.now c.args.left
+    (AtAnd (node_seen c.args.right.now))) (only keys g.W.World.answers)
+    (env_of c.args.evaluation.now)
+    (env_of c.apply_boolean.new.evaluation) (meter_of g.W.World c.args.evaluation.now)
+    (meter_of g.W.World c.apply_boolean.new.evaluation) in
     grind (arith, same, inner, stops)
 
 pub chains::run_either-returns-in_err-value-in-Some-true-clause-gives :
     goal.chains::run_either-returns-in_err-value-in-Some-true-clause-gives
 chains::run_either-returns-in_err-value-in-Some-true-clause-gives g t c = λ keys.
-    let same = others_either c.args.place.now (node_run (eval c.args.room)
-    (around_of c.args.around.now g.W.World.reading g.W.World.calls)
+    let same = others_either c.args.place.now (node_run (eval c.args.here.room)
+    (around_in g.W.World c.args.here)
     (node_seen c.args.right.now)) c.args.left (only keys g.W.World.answers)
-    (env c.args.live.now) (meter c.args.live.now.work (g.W.World.asked c.args.world.now)) in
-    let inner = either_stops (around_of c.args.around.now g.W.World.reading g.W.World.calls)
-    g.W.World.plain c.args.room c.in_err-value-in-Some-true.field-0.0 c.args.place.now
-    c.args.left (node_seen c.args.right.now) (only keys g.W.World.answers) (env c.args.live.now)
-    (env c.apply_boolean.new.live) (meter c.args.live.now.work
-    (g.W.World.asked c.args.world.now)) (meter c.apply_boolean.new.live.work
-    (g.W.World.asked c.args.world.now)) in
-    let stops = chain_stops (around_of c.args.around.now g.W.World.reading g.W.World.calls)
-    g.W.World.plain c.args.room c.in_err-value-in-Some-true.field-0.0 c.args.place.now
-    (map step_seen c.args.rest.now) (step_run (eval c.args.room)
-    (around_of c.args.around.now g.W.World.reading g.W.World.calls) c.args.place.now c.args.left
-    (AtOr (node_seen c.args.right.now))) (only keys g.W.World.answers) (env c.args.live.now)
-    (env c.apply_boolean.new.live) (meter c.args.live.now.work
-    (g.W.World.asked c.args.world.now)) (meter c.apply_boolean.new.live.work
-    (g.W.World.asked c.args.world.now)) in
+    (env_of c.args.evaluation.now) (meter_of g.W.World c.args.evaluation.now) in
+    let inner = either_stops (around_in g.W.World c.args.here)
+    g.W.World.plain c.args.here.room c.in_err-value-in-Some-true.field-0.0 c.args.place.now
+    c.args.left (node_seen c.args.right.now) (only keys g.W.World.answers)
+    (env_of c.args.evaluation.now)
+    (env_of c.apply_boolean.new.evaluation) (meter_of g.W.World c.args.evaluation.now)
+    (meter_of g.W.World c.apply_boolean.new.evaluation) in
+    let stops = chain_stops (around_in g.W.World c.args.here)
+    g.W.World.plain c.args.here.room c.in_err-value-in-Some-true.field-0.0 c.args.place.now
+    (map step_seen c.args.rest.now) (step_run (eval c.args.here.room)
+    (around_in g.W.World c.args.here) c.args.place.now c.args.left
+    (AtOr (node_seen c.args.right.now))) (only keys g.W.World.answers)
+    (env_of c.args.evaluation.now)
+    (env_of c.apply_boolean.new.evaluation) (meter_of g.W.World c.args.evaluation.now)
+    (meter_of g.W.World c.apply_boolean.new.evaluation) in
     grind (arith, same, inner, stops)
 
 pub chains::run_second-returns-in_err-value-in-Value-clause-gives :
     goal.chains::run_second-returns-in_err-value-in-Value-clause-gives
 chains::run_second-returns-in_err-value-in-Value-clause-gives g t c = λ keys.
-    let inner = second_stops (around_of c.args.around.now g.W.World.reading g.W.World.calls)
-    g.W.World.plain c.args.room c.in_err-value-in-Value.field-0.0 c.args.place.now
+    let inner = second_stops (around_in g.W.World c.args.here)
+    g.W.World.plain c.args.here.room c.in_err-value-in-Value.field-0.0 c.args.place.now
     c.in-Value.value (node_seen c.args.right.now) (only keys g.W.World.answers)
-    (env c.args.live.now) (env c.run_operand.new.live) (env c.apply_boolean.new.live)
-    (meter c.args.live.now.work (g.W.World.asked c.args.world.now))
-    (meter c.apply_boolean.new.live.work (g.W.World.asked c.run_operand.new.world))
-    (meter c.run_operand.new.live.work (g.W.World.asked c.run_operand.new.world)) in
-    let stops = chain_stops (around_of c.args.around.now g.W.World.reading g.W.World.calls)
-    g.W.World.plain c.args.room c.in_err-value-in-Value.field-0.0 c.args.place.now
-    (map step_seen c.args.rest.now) (second_run (eval c.args.room)
-    (around_of c.args.around.now g.W.World.reading g.W.World.calls) c.args.place.now
-    (node_seen c.args.right.now)) (only keys g.W.World.answers) (env c.args.live.now)
-    (env c.apply_boolean.new.live) (meter c.args.live.now.work
-    (g.W.World.asked c.args.world.now)) (meter c.apply_boolean.new.live.work
-    (g.W.World.asked c.run_operand.new.world)) in
+    (env_of c.args.evaluation.now) (env_of c.run_operand.new.evaluation)
+    (env_of c.apply_boolean.new.evaluation)
+    (meter_of g.W.World c.args.evaluation.now)
+    (meter_of g.W.World c.apply_boolean.new.evaluation)
+    (meter_of g.W.World c.run_operand.new.evaluation) in
+    let stops = chain_stops (around_in g.W.World c.args.here)
+    g.W.World.plain c.args.here.room c.in_err-value-in-Value.field-0.0 c.args.place.now
+    (map step_seen c.args.rest.now) (second_run (eval c.args.here.room)
+    (around_in g.W.World c.args.here) c.args.place.now
+    (node_seen c.args.right.now)) (only keys g.W.World.answers) (env_of c.args.evaluation.now)
+    (env_of c.apply_boolean.new.evaluation) (meter_of g.W.World c.args.evaluation.now)
+    (meter_of g.W.World c.apply_boolean.new.evaluation) in
     grind (arith, inner, stops)
 
 pub chains::run_chain-returns-in_err-push-in-Inner-clause-gives :
@@ -269,35 +276,34 @@ chains::run_chain-returns-in_err-push-in-Inner-clause-gives g t c = λ keys.
     let done = c.turns.invariant.gives keys in (
       done.0,
       λ told.
-          let leaves = turns_leave (around_of c.args.around.now g.W.World.reading g.W.World.calls)
-          g.W.World.plain c.args.room (only keys g.W.World.answers) c.turns.waiting.items
-          c.turns.turn (env c.turns.live) (meter c.turns.live.work
-          (g.W.World.asked c.turns.world)) (chain_run (eval c.args.room)
-          (around_of c.args.around.now g.W.World.reading g.W.World.calls) c.args.chain
-          (only keys g.W.World.answers) (env c.args.live.now)
-          (meter c.args.live.now.work (g.W.World.asked c.args.world.now))) (done.1 told) in
+          let leaves = turns_leave (around_in g.W.World c.args.here)
+          g.W.World.plain c.args.here.room (only keys g.W.World.answers) c.turns.waiting.items
+          c.turns.turn (env_of c.turns.evaluation) (meter_of g.W.World c.turns.evaluation)
+          (chain_run (eval c.args.here.room)
+          (around_in g.W.World c.args.here) c.args.chain
+          (only keys g.W.World.answers) (env_of c.args.evaluation.now)
+          (meter_of g.W.World c.args.evaluation.now)) (done.1 told) in
           grind (arith, leaves),
     )
 
 pub chains::run_chain-returns-in_err-turn-in-Inner-clause-gives :
     goal.chains::run_chain-returns-in_err-turn-in-Inner-clause-gives
 chains::run_chain-returns-in_err-turn-in-Inner-clause-gives g t c = λ keys.
-    let more = resumed_more (eval c.args.room) (around_of c.args.around.now g.W.World.reading
-    g.W.World.calls) (only keys g.W.World.answers) c.turns.waiting.items c.in-Inner.outer
-    (chain_run (eval c.args.room) (around_of c.args.around.now g.W.World.reading
-    g.W.World.calls) c.in-Inner.inner (only keys g.W.World.answers) (env c.turns.live)
-    (meter c.turns.live.work (g.W.World.asked c.turns.world))) in
-    let ends = resumed_ends (around_of c.args.around.now g.W.World.reading g.W.World.calls)
-    g.W.World.plain c.args.room (only keys g.W.World.answers)
+    let more = resumed_more (eval c.args.here.room) (around_in g.W.World c.args.here)
+    (only keys g.W.World.answers) c.turns.waiting.items c.in-Inner.outer
+    (chain_run (eval c.args.here.room) (around_in g.W.World c.args.here) c.in-Inner.inner
+    (only keys g.W.World.answers) (env_of c.turns.evaluation)
+    (meter_of g.W.World c.turns.evaluation)) in
+    let ends = resumed_ends (around_in g.W.World c.args.here)
+    g.W.World.plain c.args.here.room (only keys g.W.World.answers)
     (c.turns.waiting.items ++ c.in-Inner.outer ∷ []) c.in_err-turn-in-Inner.field-0.0
-    (env c.start-in-Inner.new.live) (meter c.start-in-Inner.new.live.work
-    (g.W.World.asked c.start-in-Inner.new.world))
-    (chain_run (eval c.args.room) (around_of c.args.around.now g.W.World.reading
-    g.W.World.calls) c.in-Inner.inner (only keys g.W.World.answers) (env c.turns.live)
-    (meter c.turns.live.work (g.W.World.asked c.turns.world)))
-    (chain_run (eval c.args.room) (around_of c.args.around.now g.W.World.reading
-    g.W.World.calls) c.args.chain (only keys g.W.World.answers) (env c.args.live.now)
-    (meter c.args.live.now.work (g.W.World.asked c.args.world.now))) in
+    (env_of c.start-in-Inner.new.evaluation) (meter_of g.W.World c.start-in-Inner.new.evaluation)
+    (chain_run (eval c.args.here.room) (around_in g.W.World c.args.here) c.in-Inner.inner
+    (only keys g.W.World.answers) (env_of c.turns.evaluation)
+    (meter_of g.W.World c.turns.evaluation))
+    (chain_run (eval c.args.here.room) (around_in g.W.World c.args.here) c.args.chain
+    (only keys g.W.World.answers) (env_of c.args.evaluation.now)
+    (meter_of g.W.World c.args.evaluation.now)) in
     let done = c.turns.invariant.gives keys in
     let here = c.start-in-Inner.ensures.gives keys in
     grind (arith, more, ends, done, here)
@@ -305,21 +311,21 @@ chains::run_chain-returns-in_err-turn-in-Inner-clause-gives g t c = λ keys.
 pub chains::run_chain-returns-in_err-turn-in-Some-clause-gives :
     goal.chains::run_chain-returns-in_err-turn-in-Some-clause-gives
 chains::run_chain-returns-in_err-turn-in-Some-clause-gives g t c = λ keys.
-    let first = steps_more (eval c.args.room) (around_of c.args.around.now g.W.World.reading
-    g.W.World.calls) c.in-Steps.place.now (map step_seen c.in-Steps.rest.now)
+    let first = steps_more (eval c.args.here.room) (around_in g.W.World c.args.here)
+    c.in-Steps.place.now (map step_seen c.in-Steps.rest.now)
     (map step_seen c.in-Some.rest.now) (step_seen c.in-Some.step.now) c.in-Steps.value
-    (only keys g.W.World.answers) (env c.turns.live)
-    (meter c.turns.live.work (g.W.World.asked c.turns.world)) in
-    let ends = resumed_ends (around_of c.args.around.now g.W.World.reading g.W.World.calls)
-    g.W.World.plain c.args.room (only keys g.W.World.answers) c.turns.waiting.items
-    c.in_err-turn-in-Some.field-0.0 (env c.run_step.new.live)
-    (meter c.run_step.new.live.work (g.W.World.asked c.run_step.new.world))
-    (turn_run (eval c.args.room) (around_of c.args.around.now g.W.World.reading g.W.World.calls)
-    c.turns.turn (only keys g.W.World.answers) (env c.turns.live)
-    (meter c.turns.live.work (g.W.World.asked c.turns.world)))
-    (chain_run (eval c.args.room) (around_of c.args.around.now g.W.World.reading
-    g.W.World.calls) c.args.chain (only keys g.W.World.answers) (env c.args.live.now)
-    (meter c.args.live.now.work (g.W.World.asked c.args.world.now))) in
+    (only keys g.W.World.answers) (env_of c.turns.evaluation)
+    (meter_of g.W.World c.turns.evaluation) in
+    let ends = resumed_ends (around_in g.W.World c.args.here)
+    g.W.World.plain c.args.here.room (only keys g.W.World.answers) c.turns.waiting.items
+    c.in_err-turn-in-Some.field-0.0 (env_of c.run_step.new.evaluation)
+    (meter_of g.W.World c.run_step.new.evaluation)
+    (turn_run (eval c.args.here.room) (around_in g.W.World c.args.here)
+    c.turns.turn (only keys g.W.World.answers) (env_of c.turns.evaluation)
+    (meter_of g.W.World c.turns.evaluation))
+    (chain_run (eval c.args.here.room) (around_in g.W.World c.args.here) c.args.chain
+    (only keys g.W.World.answers) (env_of c.args.evaluation.now)
+    (meter_of g.W.World c.args.evaluation.now)) in
     let done = c.turns.invariant.gives keys in
     let here = c.run_step.ensures.gives keys in
     grind (arith, first, ends, done, here)
@@ -327,27 +333,27 @@ chains::run_chain-returns-in_err-turn-in-Some-clause-gives g t c = λ keys.
 pub chains::run_chain-returns-in_err-turn-in-Some-pop-clause-gives :
     goal.chains::run_chain-returns-in_err-turn-in-Some-pop-clause-gives
 chains::run_chain-returns-in_err-turn-in-Some-pop-clause-gives g t c = λ keys.
-    let end = steps_end (eval c.args.room) (around_of c.args.around.now g.W.World.reading
-    g.W.World.calls) c.in-Steps.place.now (map step_seen c.in-Steps.rest.now) c.in-Steps.value
-    (only keys g.W.World.answers) (env c.turns.live)
-    (meter c.turns.live.work (g.W.World.asked c.turns.world)) in
-    let more = resumed_more (eval c.args.room) (around_of c.args.around.now g.W.World.reading
-    g.W.World.calls) (only keys g.W.World.answers) c.pop.new.self.items c.in-Some-pop.outer
-    (turn_run (eval c.args.room) (around_of c.args.around.now g.W.World.reading g.W.World.calls)
-    c.turns.turn (only keys g.W.World.answers) (env c.turns.live)
-    (meter c.turns.live.work (g.W.World.asked c.turns.world))) in
-    let ends = resumed_ends (around_of c.args.around.now g.W.World.reading g.W.World.calls)
-    g.W.World.plain c.args.room (only keys g.W.World.answers) c.pop.new.self.items
-    c.in_err-turn-in-Some-pop.field-0.0 (env c.take_up.new.live)
-    (meter c.take_up.new.live.work (g.W.World.asked c.take_up.new.world))
-    (then (turn_run (eval c.args.room) (around_of c.args.around.now g.W.World.reading
-    g.W.World.calls) c.turns.turn (only keys g.W.World.answers) (env c.turns.live)
-    (meter c.turns.live.work (g.W.World.asked c.turns.world)))
-    (λ u. resume (eval c.args.room) (around_of c.args.around.now g.W.World.reading
-    g.W.World.calls) c.in-Some-pop.outer u (only keys g.W.World.answers)))
-    (chain_run (eval c.args.room) (around_of c.args.around.now g.W.World.reading
-    g.W.World.calls) c.args.chain (only keys g.W.World.answers) (env c.args.live.now)
-    (meter c.args.live.now.work (g.W.World.asked c.args.world.now))) in
+    let end = steps_end (eval c.args.here.room) (around_in g.W.World c.args.here)
+    c.in-Steps.place.now (map step_seen c.in-Steps.rest.now) c.in-Steps.value
+    (only keys g.W.World.answers) (env_of c.turns.evaluation)
+    (meter_of g.W.World c.turns.evaluation) in
+    let more = resumed_more (eval c.args.here.room) (around_in g.W.World c.args.here)
+    (only keys g.W.World.answers) c.pop.new.self.items c.in-Some-pop.outer
+    (turn_run (eval c.args.here.room) (around_in g.W.World c.args.here)
+    c.turns.turn (only keys g.W.World.answers) (env_of c.turns.evaluation)
+    (meter_of g.W.World c.turns.evaluation)) in
+    let ends = resumed_ends (around_in g.W.World c.args.here)
+    g.W.World.plain c.args.here.room (only keys g.W.World.answers) c.pop.new.self.items
+    c.in_err-turn-in-Some-pop.field-0.0 (env_of c.take_up.new.evaluation)
+    (meter_of g.W.World c.take_up.new.evaluation)
+    (then (turn_run (eval c.args.here.room) (around_in g.W.World c.args.here) c.turns.turn
+    (only keys g.W.World.answers) (env_of c.turns.evaluation)
+    (meter_of g.W.World c.turns.evaluation))
+    (λ u. resume (eval c.args.here.room) (around_in g.W.World c.args.here) c.in-Some-pop.outer u
+    (only keys g.W.World.answers)))
+    (chain_run (eval c.args.here.room) (around_in g.W.World c.args.here) c.args.chain
+    (only keys g.W.World.answers) (env_of c.args.evaluation.now)
+    (meter_of g.W.World c.args.evaluation.now)) in
     let done = c.turns.invariant.gives keys in
     let here = c.take_up.ensures.gives keys in
     grind (arith, end, more, ends, done, here)
@@ -355,265 +361,278 @@ chains::run_chain-returns-in_err-turn-in-Some-pop-clause-gives g t c = λ keys.
 pub creating::run_created-returns-in_err-share-clause-gives :
     goal.creating::run_created-returns-in_err-share-clause-gives
 creating::run_created-returns-in_err-share-clause-gives g t c = λ keys.
-    let leaves = made_leaves (around_of c.args.around.now g.W.World.reading g.W.World.calls)
-    g.W.World.plain c.args.room c.args.place.now c.args.name.now
+    let leaves = made_leaves (around_in g.W.World c.args.here)
+    g.W.World.plain c.args.here.room c.args.place.now c.args.name.now
     (template_seen c.in_ok-template.template.value) (only keys g.W.World.answers)
-    (env c.args.live.now) (env c.structure_named.new.live)
-    (meter c.args.live.now.work (g.W.World.asked c.args.world.now))
-    (meter c.structure_named.new.live.work (g.W.World.asked c.structure_named.new.world)) in
+    (env_of c.args.evaluation.now) (env_of c.structure_named.new.evaluation)
+    (meter_of g.W.World c.args.evaluation.now)
+    (meter_of g.W.World c.structure_named.new.evaluation) in
     grind (arith, leaves)
 
 pub creating::run_statements-returns-in_err-made-clause-gives :
     goal.creating::run_statements-returns-in_err-made-clause-gives
 creating::run_statements-returns-in_err-made-clause-gives g t c = λ keys.
-    let stops = statements_stop (around_of c.args.around.now g.W.World.reading g.W.World.calls)
-    g.W.World.plain c.args.room c.in_err-made.field-0.0 c.args.around.now.includes_left
+    let stops = statements_stop (around_in g.W.World c.args.here)
+    g.W.World.plain c.args.here.room c.in_err-made.field-0.0 c.args.here.around.now.includes_left
     c.args.statements.now c.statements.statement-index c.statement-item.result c.statements.made
-    (only keys g.W.World.answers) (env c.statements.live) (env c.run_statement.new.live)
-    (meter c.statements.live.work (g.W.World.asked c.statements.world))
-    (meter c.run_statement.new.live.work (g.W.World.asked c.run_statement.new.world))
+    (only keys g.W.World.answers) (env_of c.statements.evaluation)
+    (env_of c.run_statement.new.evaluation)
+    (meter_of g.W.World c.statements.evaluation)
+    (meter_of g.W.World c.run_statement.new.evaluation)
     c.statements-test.true c.statement-item.is in
     grind (arith, stops)
 
 pub creating::run_assignment-returns-in_err-terms-clause-gives :
     goal.creating::run_assignment-returns-in_err-terms-clause-gives
 creating::run_assignment-returns-in_err-terms-clause-gives g t c = λ keys.
-    let stops = terms_stop (around_of c.args.around.now g.W.World.reading g.W.World.calls)
-    g.W.World.plain c.args.room c.in_err-terms.field-0.0 c.args.place.now c.args.path.now
-    c.args.conditional (item_seen c.args.item.now) c.args.made (only keys g.W.World.answers)
-    (env c.args.live.now) (env c.args.live.now) (meter c.args.live.now.work
-    (g.W.World.asked c.args.world.now)) (meter c.args.live.now.work
-    (g.W.World.asked c.args.world.now)) in
+    let stops = terms_stop (around_in g.W.World c.args.here)
+    g.W.World.plain c.args.here.room c.in_err-terms.field-0.0 c.args.assignment.place.now
+    c.args.assignment.path.now
+    c.args.conditional (item_seen c.args.assignment.item.now) c.args.made
+    (only keys g.W.World.answers)
+    (env_of c.args.evaluation.now) (env_of c.args.evaluation.now)
+    (meter_of g.W.World c.args.evaluation.now) (meter_of g.W.World c.args.evaluation.now) in
     grind (arith, stops)
 
 pub creating::run_assigned-returns-in_err-present-clause-gives :
     goal.creating::run_assigned-returns-in_err-present-clause-gives
 creating::run_assigned-returns-in_err-present-clause-gives g t c = λ keys.
-    let leaves = assigned_leaves (around_of c.args.around.now g.W.World.reading g.W.World.calls)
-    g.W.World.plain c.args.room c.args.place.now c.args.path.now c.args.terms.now
-    (item_seen c.args.item.now) c.args.made (only keys g.W.World.answers) (env c.args.live.now)
-    (meter c.args.live.now.work (g.W.World.asked c.args.world.now)) in
+    let leaves = assigned_leaves (around_in g.W.World c.args.here)
+    g.W.World.plain c.args.here.room c.args.assignment.place.now c.args.assignment.path.now
+    c.args.terms.now
+    (item_seen c.args.assignment.item.now) c.args.made (only keys g.W.World.answers)
+    (env_of c.args.evaluation.now)
+    (meter_of g.W.World c.args.evaluation.now) in
     grind (arith, leaves)
 
 pub creating::run_include-returns-in_err-value-clause-gives :
     goal.creating::run_include-returns-in_err-value-clause-gives
 creating::run_include-returns-in_err-value-clause-gives g t c = λ keys.
-    let stops = include_stops (around_of c.args.around.now g.W.World.reading g.W.World.calls)
-    g.W.World.plain c.args.room c.in_err-value.field-0.0 c.args.around.now.includes_left
+    let stops = include_stops (around_in g.W.World c.args.here)
+    g.W.World.plain c.args.here.room c.in_err-value.field-0.0 c.args.here.around.now.includes_left
     c.args.place.now (item_seen c.args.item.now) c.args.made (only keys g.W.World.answers)
-    (env c.args.live.now) (env c.run_inner.new.live)
-    (meter c.args.live.now.work (g.W.World.asked c.args.world.now))
-    (meter c.run_inner.new.live.work (g.W.World.asked c.run_inner.new.world)) in
+    (env_of c.args.evaluation.now) (env_of c.run_inner.new.evaluation)
+    (meter_of g.W.World c.args.evaluation.now)
+    (meter_of g.W.World c.run_inner.new.evaluation) in
     grind (arith, stops)
 
 pub creating::run_included-returns-in_err-template-clause-gives :
     goal.creating::run_included-returns-in_err-template-clause-gives
 creating::run_included-returns-in_err-template-clause-gives g t c = λ keys.
-    let stops = included_stops (around_of c.args.around.now g.W.World.reading g.W.World.calls)
-    g.W.World.plain c.args.room c.args.around.now.includes_left c.in_err-template.field-0.0
+    let stops = included_stops (around_in g.W.World c.args.here)
+    g.W.World.plain c.args.here.room c.args.here.around.now.includes_left
+    c.in_err-template.field-0.0
     c.args.place.now c.args.name.now c.args.made (only keys g.W.World.answers)
-    (env c.args.live.now) (env c.structure_named.new.live)
-    (meter c.args.live.now.work (g.W.World.asked c.args.world.now))
-    (meter c.structure_named.new.live.work (g.W.World.asked c.structure_named.new.world)) in
+    (env_of c.args.evaluation.now) (env_of c.structure_named.new.evaluation)
+    (meter_of g.W.World c.args.evaluation.now)
+    (meter_of g.W.World c.structure_named.new.evaluation) in
     grind (arith, stops)
 
 pub creating::run_inner-returns-in_err-share_called-clause-gives :
     goal.creating::run_inner-returns-in_err-share_called-clause-gives
 creating::run_inner-returns-in_err-share_called-clause-gives g t c = λ keys.
-    let leaves = inner_leaves (around_of c.args.around.now g.W.World.reading g.W.World.calls)
-    g.W.World.plain c.args.room (is_fixed c.args.self_use) c.args.self_value
-    (item_seen c.args.item.now) (only keys g.W.World.answers) (env c.args.live.now)
-    (meter c.args.live.now.work (g.W.World.asked c.args.world.now)) in
+    let leaves = inner_leaves (around_in g.W.World c.args.here)
+    g.W.World.plain c.args.here.room (is_fixed c.args.self_use) c.args.self_value
+    (item_seen c.args.item.now) (only keys g.W.World.answers) (env_of c.args.evaluation.now)
+    (meter_of g.W.World c.args.evaluation.now) in
     grind (arith, leaves)
 
 pub items::run_block-returns-in_err-last-clause-gives :
     goal.items::run_block-returns-in_err-last-clause-gives
 items::run_block-returns-in_err-last-clause-gives g t c = λ keys.
-    let stops = block_stops (around_of c.args.around.now g.W.World.reading g.W.World.calls)
-    g.W.World.plain c.args.room c.in_err-last.field-0.0 c.args.items.now c.items.item-index
-    c.item-item.result c.items.last (only keys g.W.World.answers) (env c.items.live)
-    (env c.open_item.new.live) (meter c.items.live.work (g.W.World.asked c.items.world))
-    (meter c.open_item.new.live.work (g.W.World.asked c.open_item.new.world)) c.items-test.true
+    let stops = block_stops (around_in g.W.World c.args.here)
+    g.W.World.plain c.args.here.room c.in_err-last.field-0.0 c.args.items.now c.items.item-index
+    c.item-item.result c.items.last (only keys g.W.World.answers) (env_of c.items.evaluation)
+    (env_of c.open_item.new.evaluation) (meter_of g.W.World c.items.evaluation)
+    (meter_of g.W.World c.open_item.new.evaluation) c.items-test.true
     c.item-item.is in
     grind (arith, stops)
 
 pub items::open_values-returns-in_err-value-clause-gives :
     goal.items::open_values-returns-in_err-value-clause-gives
 items::open_values-returns-in_err-value-clause-gives g t c = λ keys.
-    let stops = values_stop (around_of c.args.around.now g.W.World.reading g.W.World.calls)
-    g.W.World.plain c.args.room c.in_err-value.field-0.0 c.args.items.now c.items.item-index
-    c.item-item.result c.items.values.items (only keys g.W.World.answers) (env c.items.live)
-    (env c.open_item.new.live) (meter c.items.live.work (g.W.World.asked c.items.world))
-    (meter c.open_item.new.live.work (g.W.World.asked c.open_item.new.world)) c.items-test.true
+    let stops = values_stop (around_in g.W.World c.args.here)
+    g.W.World.plain c.args.here.room c.in_err-value.field-0.0 c.args.items.now c.items.item-index
+    c.item-item.result c.items.values.items (only keys g.W.World.answers)
+    (env_of c.items.evaluation)
+    (env_of c.open_item.new.evaluation) (meter_of g.W.World c.items.evaluation)
+    (meter_of g.W.World c.open_item.new.evaluation) c.items-test.true
     c.item-item.is in
     grind (arith, stops)
 
 pub items::open_values-returns-in_err-push-clause-gives :
     goal.items::open_values-returns-in_err-push-clause-gives
 items::open_values-returns-in_err-push-clause-gives g t c = λ keys.
-    let leaves = values_left (around_of c.args.around.now g.W.World.reading g.W.World.calls)
-    g.W.World.plain c.args.room c.args.items.now c.items.item-index c.item-item.result
-    c.items.values.items c.in_ok-value.value (only keys g.W.World.answers) (env c.items.live)
-    (env c.open_item.new.live) (meter c.items.live.work (g.W.World.asked c.items.world))
-    (meter c.open_item.new.live.work (g.W.World.asked c.open_item.new.world)) c.items-test.true
+    let leaves = values_left (around_in g.W.World c.args.here)
+    g.W.World.plain c.args.here.room c.args.items.now c.items.item-index c.item-item.result
+    c.items.values.items c.in_ok-value.value (only keys g.W.World.answers)
+    (env_of c.items.evaluation)
+    (env_of c.open_item.new.evaluation) (meter_of g.W.World c.items.evaluation)
+    (meter_of g.W.World c.open_item.new.evaluation) c.items-test.true
     c.item-item.is in
     grind (arith, leaves)
 
 pub items::run_set-returns-in_err-keys-clause-gives :
     goal.items::run_set-returns-in_err-keys-clause-gives
 items::run_set-returns-in_err-keys-clause-gives g t c = λ keys.
-    let stops = keys_stop (around_of c.args.around.now g.W.World.reading g.W.World.calls)
-    g.W.World.plain c.args.room c.in_err-keys.field-0.0 c.args.place.now c.args.name.now
+    let stops = keys_stop (around_in g.W.World c.args.here)
+    g.W.World.plain c.args.here.room c.in_err-keys.field-0.0 c.args.place.now c.args.name.now
     (items_seen c.args.indexes.now) (item_seen c.args.right.now) (only keys g.W.World.answers)
-    (env c.args.live.now) (env c.open_values.new.live)
-    (meter c.args.live.now.work (g.W.World.asked c.args.world.now))
-    (meter c.open_values.new.live.work (g.W.World.asked c.open_values.new.world)) in
+    (env_of c.args.evaluation.now) (env_of c.open_values.new.evaluation)
+    (meter_of g.W.World c.args.evaluation.now)
+    (meter_of g.W.World c.open_values.new.evaluation) in
     grind (arith, stops)
 
 pub items::run_set-returns-in_err-value-clause-gives :
     goal.items::run_set-returns-in_err-value-clause-gives
 items::run_set-returns-in_err-value-clause-gives g t c = λ keys.
-    let stops = right_stops (around_of c.args.around.now g.W.World.reading g.W.World.calls)
-    g.W.World.plain c.args.room c.in_err-value.field-0.0 c.args.place.now c.args.name.now
+    let stops = right_stops (around_in g.W.World c.args.here)
+    g.W.World.plain c.args.here.room c.in_err-value.field-0.0 c.args.place.now c.args.name.now
     (items_seen c.args.indexes.now) (item_seen c.args.right.now) c.in_ok-keys.keys.items
-    (only keys g.W.World.answers) (env c.args.live.now) (env c.open_values.new.live)
-    (env c.open_item.new.live) (meter c.args.live.now.work (g.W.World.asked c.args.world.now))
-    (meter c.open_item.new.live.work (g.W.World.asked c.open_item.new.world))
-    (meter c.open_values.new.live.work (g.W.World.asked c.open_values.new.world)) in
+    (only keys g.W.World.answers) (env_of c.args.evaluation.now)
+    (env_of c.open_values.new.evaluation)
+    (env_of c.open_item.new.evaluation) (meter_of g.W.World c.args.evaluation.now)
+    (meter_of g.W.World c.open_item.new.evaluation)
+    (meter_of g.W.World c.open_values.new.evaluation) in
     grind (arith, stops)
 
 pub items::run_whole-returns-in_err-value-clause-gives :
     goal.items::run_whole-returns-in_err-value-clause-gives
 items::run_whole-returns-in_err-value-clause-gives g t c = λ keys.
-    let stops = whole_stops (around_of c.args.around.now g.W.World.reading g.W.World.calls)
-    g.W.World.plain c.args.room c.in_err-value.field-0.0 c.args.place.now c.args.name.now
-    (item_seen c.args.right.now) (only keys g.W.World.answers) (env c.args.live.now)
-    (env c.open_item.new.live) (meter c.args.live.now.work (g.W.World.asked c.args.world.now))
-    (meter c.open_item.new.live.work (g.W.World.asked c.open_item.new.world)) in
+    let stops = whole_stops (around_in g.W.World c.args.here)
+    g.W.World.plain c.args.here.room c.in_err-value.field-0.0 c.args.place.now c.args.name.now
+    (item_seen c.args.right.now) (only keys g.W.World.answers) (env_of c.args.evaluation.now)
+    (env_of c.open_item.new.evaluation) (meter_of g.W.World c.args.evaluation.now)
+    (meter_of g.W.World c.open_item.new.evaluation) in
     grind (arith, stops)
 
 pub loops::turn_for-returns-in_err-turned-clause-gives :
     goal.loops::turn_for-returns-in_err-turned-clause-gives
 loops::turn_for-returns-in_err-turned-clause-gives g t c = λ keys.
-    let stops = turn_stops (around_of c.args.around.now g.W.World.reading g.W.World.calls)
-    g.W.World.plain c.args.room c.in_err-turned.field-0.0 c.args.left c.args.place.now
-    (item_seen c.args.condition.now) (item_seen c.args.step.now) (item_seen c.args.body.now)
-    (only keys g.W.World.answers) (env c.args.live.now) (env c.turn_while.new.live)
-    (meter c.args.live.now.work (g.W.World.asked c.args.world.now))
-    (meter c.turn_while.new.live.work (g.W.World.asked c.turn_while.new.world)) in
+    let stops = turn_stops (around_in g.W.World c.args.here)
+    g.W.World.plain c.args.here.room c.in_err-turned.field-0.0 c.args.left c.args.looped.place.now
+    (item_seen c.args.looped.condition.now) (item_seen c.args.step.now)
+    (item_seen c.args.looped.body.now)
+    (only keys g.W.World.answers) (env_of c.args.evaluation.now)
+    (env_of c.turn_while.new.evaluation)
+    (meter_of g.W.World c.args.evaluation.now)
+    (meter_of g.W.World c.turn_while.new.evaluation) in
     grind (arith, stops)
 
 pub loops::turns_for-returns-in_err-value-clause-gives :
     goal.loops::turns_for-returns-in_err-value-clause-gives
 loops::turns_for-returns-in_err-value-clause-gives g t c = λ keys.
-    let stops = for_stops (around_of c.args.around.now g.W.World.reading g.W.World.calls)
-    g.W.World.plain c.args.room c.turns.left c.in_err-value.field-0.0 c.args.place.now
-    (item_seen c.args.condition.now) (item_seen c.args.step.now) (item_seen c.args.body.now)
-    c.turns.last (only keys g.W.World.answers) (env c.turns.live) (env c.turn_for.new.live)
-    (meter c.turns.live.work (g.W.World.asked c.turns.world))
-    (meter c.turn_for.new.live.work (g.W.World.asked c.turn_for.new.world)) in
+    let stops = for_stops (around_in g.W.World c.args.here)
+    g.W.World.plain c.args.here.room c.turns.left c.in_err-value.field-0.0 c.args.looped.place.now
+    (item_seen c.args.looped.condition.now) (item_seen c.args.step.now)
+    (item_seen c.args.looped.body.now)
+    c.turns.last (only keys g.W.World.answers) (env_of c.turns.evaluation)
+    (env_of c.turn_for.new.evaluation)
+    (meter_of g.W.World c.turns.evaluation)
+    (meter_of g.W.World c.turn_for.new.evaluation) in
     grind (arith, stops)
 
 pub loops::turn_pair-returns-in_err-set_pair-clause-gives :
     goal.loops::turn_pair-returns-in_err-set_pair-clause-gives
 loops::turn_pair-returns-in_err-set_pair-clause-gives g t c = λ keys.
-    let stops = pair_stops (around_of c.args.around.now g.W.World.reading g.W.World.calls)
-    g.W.World.plain c.args.room (c.args.around.now.frame.now.max_iteration - c.args.i)
-    c.in_err-set_pair.field-0.0 c.args.place.now c.args.key.now c.args.value.now
-    (item_seen c.args.body.now) (pair_at c.args.i c.args.walked.now)
-    (only keys g.W.World.answers) (env c.args.live.now) (env c.set_pair.new.live)
-    (meter c.args.live.now.work (g.W.World.asked c.args.world.now))
-    (meter c.set_pair.new.live.work (g.W.World.asked c.args.world.now)) in
+    let stops = pair_stops (around_in g.W.World c.args.here)
+    g.W.World.plain c.args.here.room (c.args.here.around.now.frame.now.max_iteration - c.args.i)
+    c.in_err-set_pair.field-0.0 c.args.looped.place.now c.args.looped.key.now
+    c.args.looped.value.now
+    (item_seen c.args.looped.body.now) (pair_at c.args.i c.args.walked.now)
+    (only keys g.W.World.answers) (env_of c.args.evaluation.now) (env_of c.set_pair.new.evaluation)
+    (meter_of g.W.World c.args.evaluation.now)
+    (meter_of g.W.World c.set_pair.new.evaluation) in
     grind (arith, stops)
 
 pub loops::turn_while-returns-in_err-holds-clause-gives :
     goal.loops::turn_while-returns-in_err-holds-clause-gives
 loops::turn_while-returns-in_err-holds-clause-gives g t c = λ keys.
-    let stops = condition_stops (around_of c.args.around.now g.W.World.reading g.W.World.calls)
-    g.W.World.plain c.args.room c.in_err-holds.field-0.0 c.args.left c.args.place.now
-    (item_seen c.args.condition.now) (item_seen c.args.body.now) (only keys g.W.World.answers)
-    (env c.args.live.now) (env c.holds.new.live) (meter c.args.live.now.work
-    (g.W.World.asked c.args.world.now)) (meter c.holds.new.live.work
-    (g.W.World.asked c.holds.new.world)) in
+    let stops = condition_stops (around_in g.W.World c.args.here)
+    g.W.World.plain c.args.here.room c.in_err-holds.field-0.0 c.args.left c.args.looped.place.now
+    (item_seen c.args.looped.condition.now) (item_seen c.args.looped.body.now)
+    (only keys g.W.World.answers)
+    (env_of c.args.evaluation.now) (env_of c.holds.new.evaluation)
+    (meter_of g.W.World c.args.evaluation.now) (meter_of g.W.World c.holds.new.evaluation) in
     grind (arith, stops)
 
 pub loops::run_while-returns-in_err-value-clause-gives :
     goal.loops::run_while-returns-in_err-value-clause-gives
 loops::run_while-returns-in_err-value-clause-gives g t c = λ keys.
-    let stops = while_stops (around_of c.args.around.now g.W.World.reading g.W.World.calls)
-    g.W.World.plain c.args.room c.turns.left c.in_err-value.field-0.0 c.args.place.now
-    (item_seen c.args.condition.now) (item_seen c.args.body.now) c.turns.last
-    (only keys g.W.World.answers) (env c.turns.live) (env c.turn_while.new.live)
-    (meter c.turns.live.work (g.W.World.asked c.turns.world))
-    (meter c.turn_while.new.live.work (g.W.World.asked c.turn_while.new.world)) in
+    let stops = while_stops (around_in g.W.World c.args.here)
+    g.W.World.plain c.args.here.room c.turns.left c.in_err-value.field-0.0 c.args.looped.place.now
+    (item_seen c.args.looped.condition.now) (item_seen c.args.looped.body.now) c.turns.last
+    (only keys g.W.World.answers) (env_of c.turns.evaluation) (env_of c.turn_while.new.evaluation)
+    (meter_of g.W.World c.turns.evaluation)
+    (meter_of g.W.World c.turn_while.new.evaluation) in
     grind (arith, stops)
 
 pub nodes::open_sign-returns-in_err-value-clause-gives :
     goal.nodes::open_sign-returns-in_err-value-clause-gives
 nodes::open_sign-returns-in_err-value-clause-gives g t c = λ keys.
-    let stops = sign_stops (around_of c.args.around.now g.W.World.reading g.W.World.calls)
-    g.W.World.plain c.args.room c.in_err-value.field-0.0 c.args.place.now c.args.op
-    (node_seen c.args.operand.now) (only keys g.W.World.answers) (env c.args.live.now)
-    (env c.run_node.new.live) (meter c.args.live.now.work (g.W.World.asked c.args.world.now))
-    (meter c.run_node.new.live.work (g.W.World.asked c.run_node.new.world)) in
+    let stops = sign_stops (around_in g.W.World c.args.here)
+    g.W.World.plain c.args.here.room c.in_err-value.field-0.0 c.args.place.now c.args.op
+    (node_seen c.args.operand.now) (only keys g.W.World.answers) (env_of c.args.evaluation.now)
+    (env_of c.run_node.new.evaluation) (meter_of g.W.World c.args.evaluation.now)
+    (meter_of g.W.World c.run_node.new.evaluation) in
     grind (arith, stops)
 
 pub references::value_or_nothing-returns-in_err-argument-clause-gives :
     goal.references::value_or_nothing-returns-in_err-argument-clause-gives
 references::value_or_nothing-returns-in_err-argument-clause-gives g t c = λ keys.
-    let leaves = value_leaves (around_of c.args.around.now g.W.World.reading g.W.World.calls)
-    g.W.World.plain c.args.room (item_seen c.args.item.now)
+    let leaves = value_leaves (around_in g.W.World c.args.here)
+    g.W.World.plain c.args.here.room (item_seen c.args.item.now)
     (reference_in (item_seen c.args.item.now)) (only keys g.W.World.answers)
-    (env c.args.live.now) (meter c.args.live.now.work (g.W.World.asked c.args.world.now)) in
+    (env_of c.args.evaluation.now) (meter_of g.W.World c.args.evaluation.now) in
     grind (arith, leaves)
 
 pub references::open_reference-returns-in_err-take_step-clause-gives :
     goal.references::open_reference-returns-in_err-take_step-clause-gives
 references::open_reference-returns-in_err-take_step-clause-gives g t c = λ keys.
-    let stops = reference_stops (around_of c.args.around.now g.W.World.reading g.W.World.calls)
-    g.W.World.plain c.args.room c.in_err-take_step.field-0.0 (purpose_of c.args.purpose.now)
+    let stops = reference_stops (around_in g.W.World c.args.here)
+    g.W.World.plain c.args.here.room c.in_err-take_step.field-0.0 (purpose_of c.args.purpose.now)
     c.args.place.now (argument_of c.args.argument) (only keys g.W.World.answers)
-    (env c.args.live.now) (env c.take_step.new.live)
-    (meter c.args.live.now.work (g.W.World.asked c.args.world.now))
-    (meter c.take_step.new.live.work (g.W.World.asked c.args.world.now)) in
+    (env_of c.args.evaluation.now) (env_of c.take_step.new.evaluation)
+    (meter_of g.W.World c.args.evaluation.now)
+    (meter_of g.W.World c.take_step.new.evaluation) in
     grind (arith, stops)
 
 pub references::open_reference-returns-in_err-value-clause-gives :
     goal.references::open_reference-returns-in_err-value-clause-gives
 references::open_reference-returns-in_err-value-clause-gives g t c = λ keys.
-    let stops = start_stops (around_of c.args.around.now g.W.World.reading g.W.World.calls)
-    g.W.World.plain c.args.room c.in_err-value.field-0.0 (purpose_of c.args.purpose.now)
+    let stops = start_stops (around_in g.W.World c.args.here)
+    g.W.World.plain c.args.here.room c.in_err-value.field-0.0 (purpose_of c.args.purpose.now)
     c.args.place.now c.args.argument.place.now c.args.argument.name.now
     (indexes_back c.args.argument.indexes.items none) (only keys g.W.World.answers)
-    (env c.args.live.now) (env c.take_step.new.live) (env c.start_reference.new.live)
-    (meter c.args.live.now.work (g.W.World.asked c.args.world.now))
-    (meter c.start_reference.new.live.work (g.W.World.asked c.args.world.now))
-    (meter c.take_step.new.live.work (g.W.World.asked c.args.world.now)) in
+    (env_of c.args.evaluation.now) (env_of c.take_step.new.evaluation)
+    (env_of c.start_reference.new.evaluation)
+    (meter_of g.W.World c.args.evaluation.now)
+    (meter_of g.W.World c.start_reference.new.evaluation)
+    (meter_of g.W.World c.take_step.new.evaluation) in
     grind (arith, stops)
 
 pub references::open_reference-returns-clause-gives :
     goal.references::open_reference-returns-clause-gives
 references::open_reference-returns-clause-gives g t c = λ keys.
-    let goes = reference_goes (around_of c.args.around.now g.W.World.reading g.W.World.calls)
-    g.W.World.plain c.args.room (purpose_of c.args.purpose.now) c.args.place.now
+    let goes = reference_goes (around_in g.W.World c.args.here)
+    g.W.World.plain c.args.here.room (purpose_of c.args.purpose.now) c.args.place.now
     c.args.argument.place.now c.args.argument.name.now
     (indexes_back c.args.argument.indexes.items none) c.in_ok-value.value
-    (only keys g.W.World.answers) (env c.args.live.now) (env c.take_step.new.live)
-    (env c.start_reference.new.live) (meter c.args.live.now.work
-    (g.W.World.asked c.args.world.now)) (meter c.start_reference.new.live.work
-    (g.W.World.asked c.args.world.now)) (meter c.take_step.new.live.work
-    (g.W.World.asked c.args.world.now)) in
+    (only keys g.W.World.answers) (env_of c.args.evaluation.now) (env_of c.take_step.new.evaluation)
+    (env_of c.start_reference.new.evaluation) (meter_of g.W.World c.args.evaluation.now)
+    (meter_of g.W.World c.start_reference.new.evaluation)
+    (meter_of g.W.World c.take_step.new.evaluation) in
     grind (arith, goes)
 
 pub references::reach_from-returns-in_err-key-clause-gives :
     goal.references::reach_from-returns-in_err-key-clause-gives
 references::reach_from-returns-in_err-key-clause-gives g t c = λ keys.
-    let stops = index_stops (around_of c.args.around.now g.W.World.reading g.W.World.calls)
-    g.W.World.plain c.args.room c.in_err-key.field-0.0 c.args.all c.args.place.now
+    let stops = index_stops (around_in g.W.World c.args.here)
+    g.W.World.plain c.args.here.room c.in_err-key.field-0.0 c.args.all c.args.place.now
     c.indexes.indexes.items c.pop.new.self.items c.in-Some.index c.indexes.keys.items
-    c.indexes.value (only keys g.W.World.answers) (env c.indexes.live)
-    (env c.open_item.new.live) (meter c.indexes.live.work (g.W.World.asked c.indexes.world))
-    (meter c.open_item.new.live.work (g.W.World.asked c.open_item.new.world)) in
+    c.indexes.value (only keys g.W.World.answers) (env_of c.indexes.evaluation)
+    (env_of c.open_item.new.evaluation) (meter_of g.W.World c.indexes.evaluation)
+    (meter_of g.W.World c.open_item.new.evaluation) in
     grind (arith, stops)
 
 pub built_in::run_test-returns-clause-gives : goal.built_in::run_test-returns-clause-gives
@@ -638,7 +657,7 @@ built_in::run_extend-returns-then-not-is_changed-clause-gives g t c = λ keys. l
 pub calls::run_function-run_called-end-requires : goal.calls::run_function-run_called-end-requires
 calls::run_function-run_called-end-requires g t c =
     let opened = (c.open_call.ensures (λ k. true)).1 (none_beyond _) in
-    let some : 0 < c.args.around.now.calls_left = grind (arith, opened) in
+    let some : 0 < c.args.here.around.now.calls_left = grind (arith, opened) in
     search (rules, some)
 
 pub creating::run_statement-returns-in-Assign-clause-gives :
@@ -659,3 +678,33 @@ references::reach_from-returns-in_err-value-clause-gives g t c = λ keys.
 pub chains::take_up-returns-clause-gives : goal.chains::take_up-returns-clause-gives
 chains::take_up-returns-clause-gives g t c = λ keys. let here =
     c.apply_boolean.ensures.gives keys in grind (arith, here)
+
+pub loops::run_while-returns-clause-gives : goal.loops::run_while-returns-clause-gives
+loops::run_while-returns-clause-gives g t c = λ keys.
+    let done = c.turns.invariant.gives keys in
+    let turned = c.turn_while.ensures.gives keys in
+    let over = while_over c.turns.left (eval c.args.here.room) (around_in g.W.World c.args.here)
+    c.args.looped.place.now (item_seen c.args.looped.condition.now)
+    (item_seen c.args.looped.body.now) c.turns.last (only keys g.W.World.answers)
+    (env_of c.turns.evaluation) (env_of c.turn_while.new.evaluation)
+    (meter_of g.W.World c.turns.evaluation) (meter_of g.W.World c.turn_while.new.evaluation) in
+    grind (arith, done, turned, over)
+
+pub loops::turns_for-returns-clause-gives : goal.loops::turns_for-returns-clause-gives
+loops::turns_for-returns-clause-gives g t c = λ keys.
+    let done = c.turns.invariant.gives keys in
+    let turned = c.turn_for.ensures.gives keys in
+    let over = for_over c.turns.left (eval c.args.here.room) (around_in g.W.World c.args.here)
+    c.args.looped.place.now (item_seen c.args.looped.condition.now) (item_seen c.args.step.now)
+    (item_seen c.args.looped.body.now) c.turns.last (only keys g.W.World.answers)
+    (env_of c.turns.evaluation) (env_of c.turn_for.new.evaluation)
+    (meter_of g.W.World c.turns.evaluation) (meter_of g.W.World c.turn_for.new.evaluation) in
+    grind (arith, done, turned, over)
+
+pub references::reach_from-returns-in_err-push-clause-gives :
+    goal.references::reach_from-returns-in_err-push-clause-gives
+references::reach_from-returns-in_err-push-clause-gives g t c = λ keys.
+    let done = c.indexes.invariant.gives keys in
+    let key = c.open_item.ensures.gives keys in
+    let here = c.reach_index.ensures.gives keys in
+    grind (arith, reaches, leaving, done, key, here)

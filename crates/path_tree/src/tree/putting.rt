@@ -122,7 +122,7 @@ fn change_field(
 }
 
 // The key would stand at this index.
-fn add_field(
+pub(super) fn add_field(
     alloc: Global,
     dict: &mut Dict,
     at: usize,

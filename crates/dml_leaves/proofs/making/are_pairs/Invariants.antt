@@ -1,5 +1,5 @@
 use Rattle.std.proofs.Common.{◌≡◌, length}
-use Rattle.dml_meaning.specs.Meaning.{are_pairs}
+use Rattle.dml_meaning.specs.Structures.{are_pairs}
 use Rattle.dml_leaves.proofs.making.are_pairs.Given as goal
 
 abbrev pub invariant-pairs : goal.invariant-pairs

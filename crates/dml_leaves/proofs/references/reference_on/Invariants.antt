@@ -1,7 +1,7 @@
 use Rattle.std.proofs.Common.{◌≡◌}
 use Rattle.pan_ast.specs.Seen.{node_seen}
 use Rattle.pan_ast.specs.Syntax.{none}
-use Rattle.dml_meaning.specs.Meaning.{reference_on}
+use Rattle.dml_meaning.specs.References.{reference_on}
 use Rattle.dml_leaves.specs.References.{indexes_back}
 use Rattle.dml_leaves.specs.Weights.{node_weight}
 use Rattle.dml_leaves.proofs.references.reference_on.Given as goal

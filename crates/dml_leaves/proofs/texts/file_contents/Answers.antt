@@ -1,5 +1,5 @@
 use Rattle.std.proofs.Common.{arith}
-use Rattle.dml_meaning.specs.Meaning.{text_run}
+use Rattle.dml_meaning.specs.BuiltIns.{text_run}
 use Rattle.dml_world.proofs.Ends.{stops}
 use Rattle.dml_leaves.proofs.texts.file_contents.Goals as goal
 
@@ -12,5 +12,5 @@ pub returns-clause-gives : goal.returns-clause-gives
 unfolding text_run
 returns-clause-gives g c = λ keys.
     let found = c.find_file.ensures.gives keys in
-    let text = c.found_text.ensures keys in
+    let text = c.found_text.ensures.gives keys in
     grind (arith, found, text)

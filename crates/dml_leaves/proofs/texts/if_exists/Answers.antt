@@ -1,5 +1,5 @@
 use Rattle.std.proofs.Common.{arith}
-use Rattle.dml_meaning.specs.Meaning.{text_run}
+use Rattle.dml_meaning.specs.BuiltIns.{text_run}
 use Rattle.dml_world.proofs.Ends.{stops}
 use Rattle.dml_leaves.proofs.texts.if_exists.Goals as goal
 
