@@ -65,7 +65,8 @@ fn build_next<R: Runner, L: Ledger>(
     ensures went { IsFaithful R.meaning works.old → IfOk result (λ step. (dirs : List (List ℕ))
         (limits : Limits) (s : Here R.Rest) (start : Counts) → IsAt dirs limits s
         works.old.engine.core start (counts (R.runs_of works.old.runner) steps.old)
-        → source.old.coming ≡ s.coming → s.text ≡ [] → Goes (compiler (R.meaning dirs limits) dirs) dirs limits s step line.new.items
+        → source.old.coming ≡ s.coming → s.text ≡ []
+        → Goes (compiler (R.meaning dirs limits) dirs) dirs limits s step line.new.items
         has_faults.new works.new.engine.core source.new.coming start
         (counts (R.runs_of works.new.runner) steps.new)) }
     ensures cut { IsFaithful R.meaning works.old → OnErr result ((dirs : List (List ℕ))
@@ -114,13 +115,15 @@ fn play<R: Runner, O: Sink, L: Ledger>(
 ) -> Result<Ended, End>
     requires { IsSome source.old.root }
     ensures ok { IsFaithful R.meaning works.old → IfOk result (λ how. (dirs : List (List ℕ))
-        (limits : Limits) (e : Compiled R.Rest) (ps : List (List MemFile)) → IsIn dirs limits works.old.engine.core e
+        (limits : Limits) (e : Compiled R.Rest) (ps : List (List MemFile))
+        → IsIn dirs limits works.old.engine.core e
         → source.old.coming ≡ ps
         → Ends (builds (compiler (R.meaning dirs limits) dirs) 4 (started e ps [])) how
         (counts (R.runs_of works.old.runner) steps.old) (counts (R.runs_of works.new.runner)
         steps.new) (O.held out.old) (O.held out.new)) }
     ensures err { IsFaithful R.meaning works.old → OnErr result ((dirs : List (List ℕ))
-        (limits : Limits) (e : Compiled R.Rest) (ps : List (List MemFile)) → IsIn dirs limits works.old.engine.core e
+        (limits : Limits) (e : Compiled R.Rest) (ps : List (List MemFile))
+        → IsIn dirs limits works.old.engine.core e
         → source.old.coming ≡ ps
         → Breaks (builds (compiler (R.meaning dirs limits) dirs) 4 (started e ps []))
         (counts (R.runs_of works.old.runner) steps.old) (counts (R.runs_of works.new.runner)

@@ -1,5 +1,9 @@
 -- What waits, when one more does, and how much is left to do.
 use Rattle.std.proofs.Common.{◌≡◌, ◌∙◌, ap, subst, sym, refl, ℕ, ◌+◌, List, [], ◌∷◌, ◌++◌, length, map, arith}
+use std.Path.{fun_ext}
+use Rattle.std.specs.declared.vec.Vec.{Vec}
+use Rattle.std.specs.declared.boxed.Box.{Box}
+use Rattle.std.specs.declared.alloc.Global.{Global}
 use Rattle.path_tree.specs.Plain.{Plain}
 use Rattle.pan_ast.specs.declared.fault.Fault.{Fault}
 use Rattle.questions.specs.declared.key.Key.{Key}
@@ -12,11 +16,15 @@ use Rattle.questions.specs.Told.{LeavesAtMost}
 use Rattle.questions.proofs.Lawful.{Lawful}
 use Rattle.questions.proofs.Runs.{Leaves, left_within}
 use Rattle.pan_ast.specs.declared.place.Place.{Place}
-use Rattle.pan_ast.specs.Seen.{step_seen}
+use Rattle.pan_ast.specs.Seen.{node_seen, step_seen}
 use Rattle.pan_ast.specs.Syntax.{Step}
+use Rattle.pan_ast.specs.declared.syntax.Node.{Node as RNode}
+use Rattle.pan_ast.specs.declared.syntax.Step.{Step as RStep}
+use Rattle.pan_ast.specs.declared.syntax.Form.TheVariants as form
 use Rattle.dml_meaning.specs.Laws.{IsReading}
 use Rattle.dml_meaning.specs.Means.{Means}
-use Rattle.dml_meaning.specs.Meaning.{eval, step_run, steps_run}
+use Rattle.dml_meaning.specs.Meaning.{eval, node_run, spine_run, step_run, steps_run}
+use Rattle.dml_meaning.proofs.Chains.{at_spine}
 use Rattle.dml_meaning.proofs.Leaves.{Fits, LawfulMeans, pieces}
 use Rattle.dml_meaning.proofs.Values.{apply_binary_lawful, apply_boolean_lawful}
 use Rattle.dml_meaning.proofs.Items.{node_lawful, step_lawful, chain_lawful, eval_lawful}
@@ -30,7 +38,22 @@ use Rattle.dml_world.specs.declared.stop.Exit.{Exit}
 use Rattle.dml_world.specs.declared.stop.Exit.TheVariants as exit
 use Rattle.dml_eval.specs.declared.chains.Waiting.{Waiting}
 use Rattle.dml_world.specs.Exits.{Ends}
-use Rattle.dml_eval.specs.Waits.{in_role, resume, resumed, turn_run, with_steps, waiting_weight, waits_weight}
+use Rattle.dml_leaves.proofs.Weights.{weight_spine}
+use Rattle.dml_eval.specs.Waits.{IsOperand, in_role, resume, resumed, turn_run, with_steps, waiting_weight, waits_weight}
+
+-- a chain in memory means its left operand, and then its steps
+pub spine_is : (n : RNode) (x : Box RNode Global) (s : Box RStep Global) (ss : Vec RStep Global)
+    → n.form ≡ form.Spine x s ss → (go : Means) (a : Around) → node_run go a (node_seen n)
+    ≡ spine_run go a n.place (node_seen x.value) (step_seen s.value ∷ map step_seen ss.items)
+spine_is n x s ss is go a =
+    fun_ext (λ o. fun_ext (λ e. fun_ext (λ m. at_spine go a n x s ss o e m is)))
+
+-- and is no operand
+pub no_operand : (n : RNode) (x : Box RNode Global) (s : Box RStep Global) (ss : Vec RStep Global)
+    → n.form ≡ form.Spine x s ss → IsOperand n → ⊥
+no_operand n x s ss is none =
+    let heavy = weight_spine n x s ss is in
+    omega (arith, heavy, none)
 
 -- one more that waits is the first to go on
 pub resumed_more : (go : Means) (a : Around) (answers : Answers) (ws : List Waiting) (w : Waiting)

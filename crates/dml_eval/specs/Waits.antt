@@ -1,23 +1,22 @@
 -- Chains whose operands are chains: what is next, what waits for its value, and what is left to do.
-use Rattle.std.specs.Prelude.{◌≡◌, ℕ, ◌+◌, List, [], ◌∷◌, map, Result, Ok, Err}
+use Rattle.std.specs.Prelude.{◌≡◌, ℕ, ◌+◌, ◌≤◌, List, [], ◌∷◌, map, Result, Ok, Err}
 use Rattle.path_tree.specs.Plain.{Plain}
 use Rattle.pan_ast.specs.declared.place.Place.{Place}
 use Rattle.pan_ast.specs.Syntax.{Step}
+use Rattle.pan_ast.specs.declared.syntax.Node.{Node}
 use Rattle.pan_ast.specs.Seen.{node_seen, step_seen}
 use Rattle.questions.specs.Contents.{Answers}
-use Rattle.questions.specs.Run.{Meter, Outcome, then, ◌>>=◌, give}
+use Rattle.questions.specs.Run.{Meter, Outcome, then, ◌>>=◌}
 use Rattle.questions.specs.Told.{ToldEnough}
 use Rattle.dml_meaning.specs.Run.{Env, Run}
 use Rattle.dml_meaning.specs.Around.{Around}
 use Rattle.dml_meaning.specs.Means.{Means}
 use Rattle.dml_meaning.specs.Leaves.{apply_binary, apply_boolean}
-use Rattle.dml_meaning.specs.Meaning.{spine_run, step_run, steps_run}
+use Rattle.dml_meaning.specs.Meaning.{node_run, spine_run, step_run, steps_run}
 use Rattle.dml_world.specs.declared.stop.Exit.{Exit}
 use Rattle.dml_world.specs.declared.evaluation.Evaluation.{Evaluation}
 use Rattle.dml_world.specs.declared.world.World as world
 use Rattle.dml_leaves.specs.Weights.{node_weight, step_weight, steps_weight}
-use Rattle.dml_eval.specs.declared.nodes.Operand.{Operand}
-use Rattle.dml_eval.specs.declared.nodes.Operand.TheVariants as operand
 use Rattle.dml_eval.specs.declared.chains.Chain.{Chain}
 use Rattle.dml_eval.specs.declared.chains.Role.{Role}
 use Rattle.dml_eval.specs.declared.chains.Role.TheVariants as role
@@ -32,10 +31,6 @@ use Rattle.dml_world.specs.Exits.{Ends}
 abbrev pub chain_run : Means → Around → Chain → Run Plain
 chain_run go a c = spine_run go a c.place.now (node_seen c.first.now) (step_seen c.step.now
     ∷ map step_seen c.rest.now)
-
-abbrev pub operand_run : Means → Around → Operand → Run Plain
-operand_run go a (operand.Value t) = give t
-operand_run go a (operand.Chain c) = chain_run go a c
 
 -- a run, and then the steps to its right
 abbrev pub with_steps : Means → Around → Place → List Step → Run Plain → Run Plain
@@ -83,9 +78,14 @@ abbrev pub chain_weight : Chain → ℕ
 chain_weight c = 1 + node_weight (node_seen c.first.now) + step_weight (step_seen c.step.now)
     + steps_weight (map step_seen c.rest.now)
 
-abbrev pub operand_weight : Operand → ℕ
-operand_weight (operand.Value t) = 0
-operand_weight (operand.Chain c) = chain_weight c
+-- a node in memory that is no chain has no operator to its right
+abbrev pub IsOperand : Node → Type 0
+IsOperand n = node_weight (node_seen n) ≡ 0
+
+-- a node in memory that is a chain means what the chain does, and is no lighter
+abbrev pub IsChainOf : Node → Chain → Type 0
+IsChainOf n c = ((go : Means) (a : Around) → node_run go a (node_seen n) ≡ chain_run go a c)
+    × (chain_weight c ≤ node_weight (node_seen n))
 
 abbrev pub role_weight : Role → ℕ
 role_weight (role.Left s) = step_weight (step_seen s.now)

@@ -9,7 +9,7 @@ ghost use Rattle.pan_ast.specs.Syntax.{AtAnd, AtBinary, AtIndex, AtOr};
 
 use crate::here::Here;
 use crate::items::open_item;
-use crate::nodes::{Operand, run_operand};
+use crate::nodes::{chain_of, run_operand};
 use base::Steps;
 use dml_leaves::indexes::apply_index;
 use dml_world::leaf::{apply_binary, apply_boolean};
@@ -121,9 +121,8 @@ fn start<'a, W: World, L: Ledger>(
         step,
         rest,
     } = chain;
-    match run_operand(first, here, evaluation)? {
-        Operand::Value(value) => run_step(place, value, step, rest, here, evaluation),
-        Operand::Chain(inner) => Ok(Turn::Inner(
+    match chain_of(first) {
+        Some(inner) => Ok(Turn::Inner(
             inner,
             Waiting {
                 place,
@@ -131,6 +130,10 @@ fn start<'a, W: World, L: Ledger>(
                 rest,
             },
         )),
+        None => {
+            let value = run_operand(first, here, evaluation)?;
+            run_step(place, value, step, rest, here, evaluation)
+        }
     }
 }
 
@@ -242,20 +245,19 @@ fn run_binary<'a, W: World, L: Ledger>(
     ensures lighter { IfOk result (λ t. turn_weight t < (2 + node_weight (node_seen right.now))
         + steps_weight (map step_seen rest.now)) }
 {
-    match run_operand(right, here, evaluation)? {
-        Operand::Value(value) => {
-            let value = apply_binary(place, op, &left, &value, evaluation)?;
-            Ok(Turn::Steps(value, place, rest))
-        }
-        Operand::Chain(inner) => {
-            Ok(Turn::Inner(
-                inner,
-                Waiting {
-                    place,
-                    role: Role::Right(op, left),
-                    rest,
-                },
-            ))
+    match chain_of(right) {
+        Some(inner) => Ok(Turn::Inner(
+            inner,
+            Waiting {
+                place,
+                role: Role::Right(op, left),
+                rest,
+            },
+        )),
+        None => {
+            let value = run_operand(right, here, evaluation)?;
+            let joined = apply_binary(place, op, &left, &value, evaluation)?;
+            Ok(Turn::Steps(joined, place, rest))
         }
     }
 }
@@ -340,20 +342,19 @@ fn run_second<'a, W: World, L: Ledger>(
     ensures lighter { IfOk result (λ t. turn_weight t < (2 + node_weight (node_seen right.now))
         + steps_weight (map step_seen rest.now)) }
 {
-    match run_operand(right, here, evaluation)? {
-        Operand::Value(value) => {
-            let value = apply_boolean(place, &value, evaluation)?;
-            Ok(Turn::Steps(value, place, rest))
-        }
-        Operand::Chain(inner) => {
-            Ok(Turn::Inner(
-                inner,
-                Waiting {
-                    place,
-                    role: Role::Deciding,
-                    rest,
-                },
-            ))
+    match chain_of(right) {
+        Some(inner) => Ok(Turn::Inner(
+            inner,
+            Waiting {
+                place,
+                role: Role::Deciding,
+                rest,
+            },
+        )),
+        None => {
+            let value = run_operand(right, here, evaluation)?;
+            let decided = apply_boolean(place, &value, evaluation)?;
+            Ok(Turn::Steps(decided, place, rest))
         }
     }
 }

@@ -1,8 +1,7 @@
-ghost use Rattle.std.specs.Prelude.{◌≡◌, ◌+◌, ◌≤◌, IfOk};
+ghost use Rattle.std.specs.Prelude.{◌≡◌, ◌+◌, MatchOption};
 ghost use Rattle.dml_eval.specs.Heres.{around_in};
 ghost use Rattle.dml_world.specs.Evaluations.{Evaluates, KeepsLoans, total};
-ghost use Rattle.dml_eval.specs.Waits.{Leads, operand_run, operand_weight};
-ghost use Rattle.dml_leaves.specs.Weights.{node_weight};
+ghost use Rattle.dml_eval.specs.Waits.{IsChainOf, IsOperand};
 ghost use Rattle.dml_meaning.specs.Meaning.{eval, node_run};
 ghost use Rattle.pan_ast.specs.Seen.{node_seen};
 
@@ -17,11 +16,22 @@ use pan_ast::{Code, Form, Node, Place};
 use path_tree::{Tree, UnaryOp};
 use std::sync::ledger::Ledger;
 
-/// What an operand is: a value, which was evaluated, or a chain, which was not.
-#[derive(Drop)]
-pub(crate) enum Operand<'a> {
-    Value(Tree),
-    Chain(Chain<'a>),
+/// The chain that a node is; none where it is no chain.
+#[inline(always)]
+#[tactic(auto, using(pan_ast::proofs::Forms::nodes, crate::proofs::Waits::spine_is, dml_leaves::proofs::Weights::weight_spine))]
+pub(crate) fn chain_of(node: &Node) -> Option<Chain<'_>>
+    ensures { MatchOption result (IsOperand node.now) (IsChainOf node.now) }
+{
+    match &node.form {
+        Form::Spine(first, step, rest) => Some(Chain {
+            place: &node.place,
+            first,
+            step,
+            rest,
+        }),
+        Form::Long(_) | Form::Text(_) | Form::Boolean(_) | Form::Undef | Form::Null => None,
+        Form::Name(_) | Form::Call(..) | Form::Inside(_) | Form::Unary(..) => None,
+    }
 }
 
 /// An operand, or a chain.
@@ -38,48 +48,40 @@ pub(crate) fn run_node<W: World, L: Ledger>(
     ensures counted { total evaluation.new ≡ total evaluation.old }
     ensures lent { KeepsLoans evaluation.old evaluation.new }
 {
-    match run_operand(node, here, evaluation)? {
-        Operand::Value(value) => Ok(value),
-        Operand::Chain(chain) => run_chain(chain, here, evaluation),
+    match chain_of(node) {
+        Some(chain) => run_chain(chain, here, evaluation),
+        None => run_operand(node, here, evaluation),
     }
 }
 
-/// An operand, where it is no chain.
+/// An operand that is no chain.
 #[cycle(eval)]
-#[tactic(auto, using(pan_ast::proofs::Forms::nodes, dml_meaning::proofs::Chains::at_spine, dml_leaves::proofs::Weights::weight_spine), unfolding(dml_meaning::specs::Meaning::node_run))]
-pub(crate) fn run_operand<'a, W: World, L: Ledger>(
-    node: &'a Node,
+#[tactic(auto, using(pan_ast::proofs::Forms::nodes, dml_leaves::proofs::Weights::weight_spine), unfolding(dml_meaning::specs::Meaning::node_run))]
+pub(crate) fn run_operand<W: World, L: Ledger>(
+    node: &Node,
     here: Here<'_>,
     evaluation: &mut Evaluation<'_, '_, W, L>,
-) -> Result<Operand<'a>, Exit>
-    ensures gives { Leads (operand_run (eval here.entry.room) (around_in W.World here.entry)) result
-        W.World evaluation.old evaluation.new
-        (node_run (eval here.entry.room) (around_in W.World here.entry) (node_seen node.now)) }
+) -> Result<Tree, Exit>
+    requires operand { IsOperand node.now }
+    ensures gives { Evaluates (λ t. t) result W.World evaluation.old evaluation.new
+        (node_run (eval here.entry.room) (around_in W.World here.entry)
+        (node_seen node.now)) }
     ensures counted { total evaluation.new ≡ total evaluation.old }
     ensures lent { KeepsLoans evaluation.old evaluation.new }
-    ensures lighter { IfOk result (λ o. operand_weight o ≤ node_weight (node_seen node.now)) }
 {
     let place = &node.place;
-    let value = match &node.form {
-        Form::Long(number) => literal(place, Tree::long(*number), evaluation)?,
-        Form::Text(text) => literal(place, text_value(text)?, evaluation)?,
-        Form::Boolean(holds) => literal(place, Tree::boolean(*holds), evaluation)?,
-        Form::Undef => literal(place, Tree::undef(), evaluation)?,
-        Form::Null => literal(place, Tree::null(), evaluation)?,
-        Form::Name(name) => run_name(place, name, here.around, evaluation)?,
-        Form::Call(name, arguments) => run_call(place, name, arguments, here, evaluation)?,
-        Form::Inside(item) => open_item(item, here, evaluation)?,
-        Form::Unary(op, operand) => open_sign(place, *op, operand, here, evaluation)?,
-        Form::Spine(first, step, rest) => {
-            return Ok(Operand::Chain(Chain {
-                place,
-                first,
-                step,
-                rest,
-            }));
-        }
-    };
-    Ok(Operand::Value(value))
+    match &node.form {
+        Form::Long(number) => literal(place, Tree::long(*number), evaluation),
+        Form::Text(text) => literal(place, text_value(text)?, evaluation),
+        Form::Boolean(holds) => literal(place, Tree::boolean(*holds), evaluation),
+        Form::Undef => literal(place, Tree::undef(), evaluation),
+        Form::Null => literal(place, Tree::null(), evaluation),
+        Form::Name(name) => run_name(place, name, here.around, evaluation),
+        Form::Call(name, arguments) => run_call(place, name, arguments, here, evaluation),
+        Form::Inside(item) => open_item(item, here, evaluation),
+        Form::Unary(op, operand) => open_sign(place, *op, operand, here, evaluation),
+        Form::Spine(..) => unreachable!(),
+    }
 }
 
 /// An operator before its operand, where `room` more may be open.

@@ -9,14 +9,13 @@ ghost use Rattle.engine_turns.specs.Places.{names};
 ghost use Rattle.rebuild.specs.Engines.{value_of};
 ghost use Rattle.engine_rows.specs.Storing.{kept_file, kept_parts, kept_in, kept_rows, kept_of};
 
-use base::Text;
 use engine_turns::{CheckRecord, Core, FileRow, Last, Row};
 use kept_state::{Kept, KeptFile, KeptObject};
-use load_path::Content;
 use pan_ast::Fault;
 use path_numbers::share_terms;
 use path_tree::{Name, Tree};
 use read_sets::{Item, Key, Trace};
+use rebuild::{Share, share_all};
 use std::alloc::{AllocError, Global};
 
 /// The same key.
@@ -90,33 +89,12 @@ fn copy_verdict(verdict: &Option<Fault>) -> Result<Option<Fault>, AllocError>
     }
 }
 
-/// The same texts, shared.
-fn shared_texts(alloc: Global, texts: &[Text]) -> Result<Vec<Text>, AllocError>
-    ensures { IfOk result (λ same. same.items ≡ texts.now) }
-{
-    let mut same = Vec::with_capacity(alloc, texts.len())?;
-    for text in texts {
-        same.push(text.share()?)?;
-    }
-    Ok(same)
-}
-
-/// The same content.
-fn copy_content(content: &Content) -> Result<Content, AllocError>
-    ensures { IfOk result (λ same. same ≡ content.now) }
-{
-    match content {
-        Content::Bytes(bytes) => Ok(Content::Bytes(bytes.share()?)),
-        Content::TooLong => Ok(Content::TooLong),
-    }
-}
-
 /// A file with its number.
 fn kept_file(file: &FileRow) -> Result<KeptFile, AllocError>
     ensures { IfOk result (λ made. made ≡ kept_file file.now) }
 {
     let name = file.name.share()?;
-    let content = copy_content(&file.content)?;
+    let content = file.content.shared()?;
     Ok(KeptFile {
         name,
         number: file.number,
@@ -203,7 +181,7 @@ pub fn kept<T>(alloc: Global, core: &Core<T>) -> Result<Kept, AllocError>
     requires { are_rising (names core.now.rows.items) ≡ true }
     ensures { IfOk result (λ kept. stored kept ≡ kept_of (value_of core.now)) }
 {
-    let dirs = shared_texts(alloc, core.dirs.as_slice())?;
+    let dirs = share_all(alloc, core.dirs.as_slice())?;
     let files = kept_files(alloc, &core.files)?;
     let objects = kept_objects(alloc, &core.rows)?;
     Ok(Kept {

@@ -9,20 +9,9 @@ use crate::works::Works;
 use base::{Seq, Text};
 use load_path::Picture;
 use pan_ast::Limits;
-use rebuild::Engine;
+use rebuild::{Engine, shared_texts};
 use runner::Runner;
 use std::alloc::{AllocError, Global};
-
-/// The same texts, shared.
-fn shared(alloc: Global, texts: &[Text]) -> Result<Seq<Text>, AllocError>
-    ensures { IfOk result (λ same. same ≡ texts.now) }
-{
-    let mut same = Vec::with_capacity(alloc, texts.len())?;
-    for text in texts {
-        same.push(text.share()?)?;
-    }
-    Ok(Seq::from_vec(same))
-}
 
 /// An engine without directories, which has taken no picture, and its runner.
 pub fn new_works<R: Runner>(alloc: Global, runner: R) -> Works<R>
@@ -77,9 +66,9 @@ pub fn start<R: Runner>(
     ensures faithful { OnOk result (IsFaithful R.meaning works.new) }
     ensures runs { R.runs_of works.new.runner ≡ R.runs_of works.old.runner }
 {
-    let of_engine = shared(alloc, dirs)?;
-    let of_runner = shared(alloc, dirs)?;
-    let directories = shared(alloc, dirs)?;
+    let of_engine = shared_texts(alloc, dirs)?;
+    let of_runner = shared_texts(alloc, dirs)?;
+    let directories = shared_texts(alloc, dirs)?;
     renew(
         alloc,
         &mut works.engine,

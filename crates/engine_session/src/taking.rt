@@ -35,7 +35,8 @@ fn take<R: Runner, L: Ledger>(
 ) -> Result<Took, AllocError>
     ensures took { IsBegun R.meaning works.old → IfOk result (λ how. (dirs : List (List ℕ))
         (limits : Limits) (s : Here R.Rest) (start : Counts) → IsAt dirs limits s
-        works.old.engine.core start (counts (R.runs_of works.old.runner) steps.old) → Takes (compiler (R.meaning dirs limits)
+        works.old.engine.core start (counts (R.runs_of works.old.runner) steps.old)
+        → Takes (compiler (R.meaning dirs limits)
         dirs) dirs limits picture s how works.new.engine.core start (counts (R.runs_of
         works.new.runner) steps.new)) }
     ensures begun { IsBegun R.meaning works.old
@@ -64,7 +65,8 @@ pub fn take_next<R: Runner, S: Source, L: Ledger>(
     requires open { IsSome (S.opened source.old) }
     ensures took { IsBegun R.meaning works.old → IfOk result (λ how. (dirs : List (List ℕ))
         (limits : Limits) (s : Here R.Rest) (start : Counts) → IsAt dirs limits s
-        works.old.engine.core start (counts (R.runs_of works.old.runner) steps.old) → S.coming source.old ≡ Some s.coming
+        works.old.engine.core start (counts (R.runs_of works.old.runner) steps.old)
+        → S.coming source.old ≡ Some s.coming
         → TakesNext (compiler (R.meaning dirs limits) dirs) dirs limits s how works.new.engine.core
         start (counts (R.runs_of works.new.runner) steps.new) (S.coming source.new)
         (S.fault_count source.old) (S.fault_count source.new)) }

@@ -25,7 +25,8 @@ fn make_turn<R: Runner, L: Ledger>(
         (counts (R.runs_of works.new.runner) steps.new)) }
     ensures cut { IsFaithful R.meaning works.old → OnErr result ((dirs : List (List ℕ))
         (limits : Limits) (s : Here R.Rest) (start : Counts) → IsAt dirs limits s
-        works.old.engine.core start (counts (R.runs_of works.old.runner) steps.old) → let machine = compiler (R.meaning dirs
+        works.old.engine.core start (counts (R.runs_of works.old.runner) steps.old)
+        → let machine = compiler (R.meaning dirs
         limits) dirs in HasSpentAtMost (worked machine (machine.turn s.engine) s) start
         (counts (R.runs_of works.new.runner) steps.new)) }
     ensures faithful { IsFaithful R.meaning works.old → IsFaithful R.meaning works.new }

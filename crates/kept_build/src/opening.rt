@@ -38,7 +38,8 @@ fn load_rows<K: Keeper>(alloc: Global, keeper: &mut K, file: &str) -> Result<Loa
     ensures rows { IfOk result (λ l. Loads l.rows.items (stored l.kept) (K.cell keeper.new)) }
     ensures bad { IfErr result (λ e. e ≡ BadRows → HoldsBadRows (K.cell keeper.new)) }
     ensures opened { OnOk result (K.opened keeper.new ≡ Some file.now) }
-    ensures at { IfErr result (λ e. StoreAt e file.now (K.opened keeper.old) (K.opened keeper.new)) }
+    ensures at { IfErr result (λ e. StoreAt e file.now (K.opened keeper.old)
+        (K.opened keeper.new)) }
     ensures same { Follows unchanged (K.cell keeper.old) (K.cell keeper.new) }
     ensures kind { IfErr result IsLoading }
     ensures cause { Caused IsKeeperFailure (K.fault_count keeper.old) (K.fault_count keeper.new)

@@ -12,20 +12,9 @@ use engine_session::{Works, start};
 use kept_state::Kept;
 use load_path::Picture;
 use pan_ast::Limits;
-use rebuild::Engine;
+use rebuild::{Engine, shared_texts};
 use runner::Runner;
 use std::alloc::{AllocError, Global};
-
-/// The same texts, shared.
-fn shared(alloc: Global, texts: &[Text]) -> Result<Seq<Text>, AllocError>
-    ensures { IfOk result (λ same. same ≡ texts.now) }
-{
-    let mut same = Vec::with_capacity(alloc, texts.len())?;
-    for text in texts {
-        same.push(text.share()?)?;
-    }
-    Ok(Seq::from_vec(same))
-}
 
 /// Whether it was kept under these limits and directories.
 fn is_under(kept: &Kept, limits: Limits, dirs: &[Text]) -> bool
@@ -63,8 +52,8 @@ fn resume<R: Runner>(
 {
     let core = engine.core();
     let picture = picture_of(alloc, &core.files)?;
-    let of_runner = shared(alloc, core.dirs.as_slice())?;
-    let directories = shared(alloc, core.dirs.as_slice())?;
+    let of_runner = shared_texts(alloc, core.dirs.as_slice())?;
+    let directories = shared_texts(alloc, core.dirs.as_slice())?;
     replace(
         &mut works.engine,
         &mut works.runner,

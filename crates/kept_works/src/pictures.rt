@@ -5,18 +5,9 @@ ghost use Rattle.engine_turns.specs.Places.{file_names};
 ghost use Rattle.engine_turns.specs.States.{pictured};
 
 use engine_turns::FileRow;
-use load_path::{Content, Picture};
+use load_path::Picture;
+use rebuild::Share;
 use std::alloc::{AllocError, Global};
-
-/// The same content, shared.
-fn shared_content(content: &Content) -> Result<Content, AllocError>
-    ensures { IfOk result (λ same. same ≡ content.now) }
-{
-    match content {
-        Content::Bytes(bytes) => Ok(Content::Bytes(bytes.share()?)),
-        Content::TooLong => Ok(Content::TooLong),
-    }
-}
 
 /// Adds a file with a new name to a picture.
 fn add_file(picture: &mut Picture, file: &FileRow) -> Result<(), AllocError>
@@ -25,7 +16,7 @@ fn add_file(picture: &mut Picture, file: &FileRow) -> Result<(), AllocError>
     ensures { OnOk result (picture.new ≡ with_file file.now.name file.now.content picture.old) }
 {
     let name = file.name.share()?;
-    let content = shared_content(&file.content)?;
+    let content = file.content.shared()?;
     picture.add(name, content)
 }
 

@@ -5,7 +5,6 @@
 ghost use Rattle.std.specs.Prelude.{◌≡◌, ◌<◌};
 
 mod aside;
-mod causes;
 mod notes;
 
 use crate::aside::Aside;

@@ -1,4 +1,3 @@
-use crate::causes::{cause_in, explained};
 use base::limits::MAX_FILE_BYTES;
 use base::{Bytes, Steps, Text};
 use command_words::{Command, read_command};
@@ -8,6 +7,7 @@ use fault_notes::{
     Cause, Colours, Repeated, compiler_lines, file_in, json_lines, note_of, report_of, rest_of,
     setter_file,
 };
+use known_causes::{cause_in, explained};
 use object_run::Library;
 use outside::Trouble;
 use pan_top::Status;

@@ -54,7 +54,8 @@ fn carry_out_build<R: Runner, S: Source, H: Shelf, K: Keeper, N: Lines, O: Sink,
     requires store_closed { K.opened keeper ≡ None }
     ensures { CallOf R.meaning (Some (Build work.now)) result.status
         (scene R.Runner S.Source H.Shelf N.Lines O.Sink works.runner devices steps.old)
-        (scene R.Runner S.Source H.Shelf N.Lines O.Sink result.works.runner result.devices steps.new)
+        (scene R.Runner S.Source H.Shelf N.Lines O.Sink result.works.runner result.devices
+        steps.new)
         (store_of K.Keeper keeper) (store_of K.Keeper result.keeper) }
 {
     let mut works = works;
@@ -86,7 +87,8 @@ fn carry_out<R: Runner, S: Source, H: Shelf, K: Keeper, N: Lines, O: Sink, L: Le
     requires store_closed { K.opened keeper ≡ None }
     ensures { CallOf R.meaning (command_of words.now) result.status
         (scene R.Runner S.Source H.Shelf N.Lines O.Sink runner devices steps.old)
-        (scene R.Runner S.Source H.Shelf N.Lines O.Sink result.works.runner result.devices steps.new)
+        (scene R.Runner S.Source H.Shelf N.Lines O.Sink result.works.runner result.devices
+        steps.new)
         (store_of K.Keeper keeper) (store_of K.Keeper result.keeper) }
 {
     let mut works = new_works(alloc, runner);
@@ -145,7 +147,8 @@ pub fn pan<R: Runner, S: Source, H: Shelf, K: Keeper, N: Lines, O: Sink, L: Ledg
     requires store_closed { K.opened keeper ≡ None }
     ensures call { CallOf R.meaning (command_of words.now) result.status
         (scene R.Runner S.Source H.Shelf N.Lines O.Sink runner devices steps.old)
-        (scene R.Runner S.Source H.Shelf N.Lines O.Sink result.works.runner result.devices steps.new)
+        (scene R.Runner S.Source H.Shelf N.Lines O.Sink result.works.runner result.devices
+        steps.new)
         (store_of K.Keeper keeper) (store_of K.Keeper result.keeper) }
     ensures unkept { (work : Work) (found : Stored) → Give [] found
         → IsSoundStart R.meaning work found }

@@ -155,7 +155,8 @@ fn play_all<R: Runner, S: Source, H: Shelf, K: Keeper, N: Lines, O: Sink, L: Led
     })
         result.status
         (scene R.Runner S.Source H.Shelf N.Lines O.Sink works.runner devices.devices steps.old)
-        (scene R.Runner S.Source H.Shelf N.Lines O.Sink result.works.runner result.devices steps.new)
+        (scene R.Runner S.Source H.Shelf N.Lines O.Sink result.works.runner result.devices
+        steps.new)
         (store_of K.Keeper devices.keeper) (store_of K.Keeper result.keeper) }
 {
     let KeptDevices { devices, keeper } = devices;
@@ -237,7 +238,8 @@ fn watch_unkept<R: Runner, S: Source, H: Shelf, K: Keeper, N: Lines, O: Sink, L:
     requires shelf_closed { H.opened devices.shelf ≡ None }
     ensures call { WatchCall R.meaning work.now result.status
         (scene R.Runner S.Source H.Shelf N.Lines O.Sink works.runner devices steps.old)
-        (scene R.Runner S.Source H.Shelf N.Lines O.Sink result.works.runner result.devices steps.new)
+        (scene R.Runner S.Source H.Shelf N.Lines O.Sink result.works.runner result.devices
+        steps.new)
         (store_of K.Keeper keeper) }
     ensures store { store_of K.Keeper result.keeper ≡ store_of K.Keeper keeper }
 {
@@ -299,7 +301,8 @@ fn watch_kept<R: Runner, S: Source, H: Shelf, K: Keeper, N: Lines, O: Sink, L: L
     requires store_closed { K.opened devices.keeper ≡ None }
     ensures { KeptWatchCall R.meaning request.now.work.now request.now.file.now result.status
         (scene R.Runner S.Source H.Shelf N.Lines O.Sink works.runner devices.devices steps.old)
-        (scene R.Runner S.Source H.Shelf N.Lines O.Sink result.works.runner result.devices steps.new)
+        (scene R.Runner S.Source H.Shelf N.Lines O.Sink result.works.runner result.devices
+        steps.new)
         (store_of K.Keeper devices.keeper) (store_of K.Keeper result.keeper) }
 {
     let mut works = works;
@@ -334,7 +337,8 @@ pub fn watch<R: Runner, S: Source, H: Shelf, K: Keeper, N: Lines, O: Sink, L: Le
     requires store_closed { K.opened keeper ≡ None }
     ensures { CallOf R.meaning (Some (Watch work.now)) result.status
         (scene R.Runner S.Source H.Shelf N.Lines O.Sink works.runner devices steps.old)
-        (scene R.Runner S.Source H.Shelf N.Lines O.Sink result.works.runner result.devices steps.new)
+        (scene R.Runner S.Source H.Shelf N.Lines O.Sink result.works.runner result.devices
+        steps.new)
         (store_of K.Keeper keeper) (store_of K.Keeper result.keeper) }
 {
     let Some(file) = &work.state else {

@@ -12,6 +12,7 @@ use Rattle.publication.specs.declared.want.Want.{Want}
 use Rattle.publication.specs.OwnNames.{is_own}
 use Rattle.publication.specs.Wants.{goes, wanted}
 use Rattle.publication.specs.Halves.{swept}
+use Rattle.publication.specs.Listings.{IsAbsentUnless}
 use Rattle.publication.specs.Changing.{holds, removal, putting, name_of, is_changed, is_next, done, stand, Made, Begun, Tells}
 
 pub done_none : (before : Option (List Change)) → before ≡ done before []
@@ -195,6 +196,17 @@ pending_on cell ws rest w made ok p = record {
       let here : is_some (wanted (w ∷ rest) n) ≡ true = rw other some in
       p.same n here ∙ rw other refl;
 }
+
+-- what is still to be put stays as absent as it was
+pub still_absent : (may_stand : List ℕ → Bool) (w : Want) (rest : List Want)
+    (now new : List ℕ → Cell) → wanted rest w.name ≡ None → Sets now w.name (Some w.bytes) new
+    → ((n : List ℕ) → is_some (wanted (w ∷ rest) n) ≡ true → IsAbsentUnless (may_stand n) (now n))
+    → (n : List ℕ) → is_some (wanted rest n) ≡ true → IsAbsentUnless (may_stand n) (new n)
+still_absent may_stand w rest now new ok sets known n some =
+    let other = beside w rest n ok some in
+    let here : is_some (wanted (w ∷ rest) n) ≡ true = rw other some in
+    let same : new n ≡ now n = rw other at (sets n) in
+    subst (λ c. IsAbsentUnless (may_stand n) c) (sym same) (known n here)
 
 pub pending_all : (ws : List Want) → Pending ws ws []
 pending_all ws = record { fresh = λ n some. refl; same = λ n some. refl }

@@ -15,7 +15,7 @@ use Rattle.publication.specs.OwnNames.{is_own, is_file_of}
 use Rattle.publication.specs.Wants.{wanted, proper, goes}
 use Rattle.publication.specs.Halves.{brought, swept, cleared, put_where, placed, LeavesAs, LeftAs, Underway}
 use Rattle.publication.specs.Leavings.{Leaves, Left, IsEndAt}
-use Rattle.publication.specs.Listings.{Lists}
+use Rattle.publication.specs.Listings.{IsAbsentUnless, Lists}
 use Rattle.publication.specs.Stands.{Meets, untouched}
 use Rattle.publication.specs.Troubles.{published}
 use Rattle.publication.proofs.Proper.{proper_own, proper_rest}
@@ -91,6 +91,12 @@ names_step true true bytes rest = refl
 names_step true false bytes rest = refl
 names_step false held bytes rest = refl
 
+-- the set of names grows with each
+pub set_step : (b held rest : Bool) → (cond b true held || rest) ≡ (held || (b || rest))
+set_step true true rest = refl
+set_step true false rest = refl
+set_step false held rest = refl
+
 -- clearing
 sweep_twice : (b a g : Bool) (c : Cell) → (if a
     && g then with_content None (if b && g then with_content None c else c) else
@@ -144,6 +150,29 @@ pub cleared_keeps : (names : List (List ℕ)) (ws : List Want) (n : List ℕ) (c
     ≡ false → cleared names ws n c ≡ c
 cleared_keeps names ws n c other =
     keeps_by (list_any (λ k. bytes_eq k n) names) (is_own n) (not (is_some (wanted ws n))) c other
+
+absent_in : (listed : Bool) (c : Cell) → IfSome c (λ content. is_some content ≡ listed)
+    → IsAbsentUnless listed c
+absent_in listed None lists none = tt
+absent_in listed (Some None) lists none = refl
+absent_in listed (Some (Some b)) lists none = let f : true ≡ false = lists ∙ none in cc
+
+absent_still : (gone : Bool) (c : Cell) → IfSome c (λ content. content ≡ None)
+    → IfSome (if gone then with_content None c else c) (λ content. content ≡ None)
+absent_still true None absent = tt
+absent_still true (Some content) absent = refl
+absent_still false c absent = absent
+
+-- what is not among the names is absent also when they were cleared
+pub cleared_absent : (names : List (List ℕ)) (ws : List Want) (may_stand : List ℕ → Bool)
+    (old new : List ℕ → Cell) → Lists names old
+    → ((n : List ℕ) → may_stand n ≡ list_any (λ m. bytes_eq m n) names)
+    → ((n : List ℕ) → new n ≡ cleared names ws n (old n)) → (n : List ℕ)
+    → IsAbsentUnless (may_stand n) (new n)
+cleared_absent names ws may_stand old new lists set clear n none =
+    subst (λ c. IfSome c (λ content. content ≡ None)) (sym (clear n))
+    (absent_still (list_any (λ m. bytes_eq m n) names && goes ws n) (old n)
+    (absent_in (list_any (λ m. bytes_eq m n) names) (old n) (lists n) (sym (set n) ∙ none)))
 
 -- placing
 place_twice : (b : Bool) (bytes : List ℕ) (rest : Option (List ℕ)) (c : Cell)

@@ -16,7 +16,7 @@ ghost use Rattle.publication.specs.Logs.{BringsBytes, LoggedBy, Logged, LogsPut,
 ghost use Rattle.publication.specs.OwnNames.{is_own, json_name, dep_name};
 ghost use Rattle.publication.specs.Wants.{wants_of, proper, goes, wanted};
 ghost use Rattle.publication.specs.Published.{call_of, Knows, Came, BringsFile, BringsProfile, Partly, Placing, Clearing, Sweeps, Interrupted, InterruptedWithin, Holding, one_or_none, Covers, Names, Published, Drops, Dropping, Bringing, MayBring, may_stand_in};
-ghost use Rattle.publication.specs.Listings.{Lists};
+ghost use Rattle.publication.specs.Listings.{IsAbsentUnless, Lists};
 ghost use Rattle.std.specs.HashSet.{contains};
 ghost use Rattle.std.specs.Prelude.{not, ◌&&◌, if◌then◌else◌};
 ghost use Rattle.publication.specs.Troubles.{name_of};
@@ -65,29 +65,7 @@ fn put_other<H: Shelf>(shelf: &mut H, name: &str, bytes: &[u8]) -> Result<Option
     }
 }
 
-/// The name gets the bytes, or gives the call that failed.
-fn bring_unread<H: Shelf>(
-    shelf: &mut H,
-    name: &str,
-    bytes: &[u8],
-    held: &mut Vec<u8>,
-) -> Result<Option<Call>, AllocError>
-    requires open { IsSome (H.opened shelf.old) }
-    ensures brings { BringsBytes name.now bytes.now (H.fault_count shelf.old)
-        (H.fault_count shelf.new) (H.cell shelf.old) (H.cell shelf.new) (H.changes shelf.old)
-        (H.changes shelf.new) result }
-    ensures opened { H.opened shelf.new ≡ H.opened shelf.old }
-{
-    match holds(shelf, name, bytes, held) {
-        Ok(true) => return Ok(None),
-        Ok(false) => {}
-        Err(StoreError::Failed) => return Ok(Some(Call::Read)),
-        Err(StoreError::Memory) => return Err(AllocError),
-    }
-    put_other(shelf, name, bytes)
-}
-
-/// The same; where the name is known to be absent it is not read.
+/// The name gets the bytes, or gives the call that failed. One that is known to be absent is not read.
 fn bring_name<H: Shelf>(
     shelf: &mut H,
     name: &str,
@@ -96,15 +74,17 @@ fn bring_name<H: Shelf>(
     may_stand: bool,
 ) -> Result<Option<Call>, AllocError>
     requires open { IsSome (H.opened shelf.old) }
-    requires absent { may_stand ≡ false → IfSome (H.cell shelf.old name.now)
-        (λ content. content ≡ None) }
+    requires absent { IsAbsentUnless may_stand (H.cell shelf.old name.now) }
     ensures brings { BringsBytes name.now bytes.now (H.fault_count shelf.old)
         (H.fault_count shelf.new) (H.cell shelf.old) (H.cell shelf.new) (H.changes shelf.old)
         (H.changes shelf.new) result }
     ensures opened { H.opened shelf.new ≡ H.opened shelf.old }
 {
-    if may_stand {
-        return bring_unread(shelf, name, bytes, held);
+    match holds(shelf, name, bytes, held, may_stand) {
+        Ok(true) => return Ok(None),
+        Ok(false) => {}
+        Err(StoreError::Failed) => return Ok(Some(Call::Read)),
+        Err(StoreError::Memory) => return Err(AllocError),
     }
     put_other(shelf, name, bytes)
 }

@@ -4,6 +4,7 @@ ghost use Rattle.outside.specs.Cells.{Sets, AllBut, AreSame};
 ghost use Rattle.outside.specs.declared.shelf.Change.TheVariants.{Put};
 ghost use Rattle.publication.specs.Changing.{holds, putting, done, Made, Begun, Tells};
 ghost use Rattle.publication.specs.Halves.{placed};
+ghost use Rattle.publication.specs.Listings.{IsAbsentUnless};
 ghost use Rattle.publication.specs.Puts.{are_apart, PutsLeft, IsPutAt, IsPutOf, IsPutFailure};
 ghost use Rattle.publication.specs.declared.puts.PutError.TheVariants.{Memory};
 
@@ -38,14 +39,16 @@ impl<T: Drop> From<AllocFailed<T>> for PutError {
     }
 }
 
-/// The name gets the bytes, where it does not hold them.
+/// The name gets the bytes, where it does not hold them. One that is known to be absent is not read.
 pub(crate) fn put_one<H: Shelf>(
     shelf: &mut H,
     name: &str,
     bytes: &[u8],
     held: &mut Vec<u8>,
+    may_stand: bool,
 ) -> Result<(), StoreError>
     requires open { IsSome (H.opened shelf.old) }
+    requires absent { IsAbsentUnless may_stand (H.cell shelf.old name.now) }
     ensures ok { OnOk result (Sets (H.cell shelf.old) name.now (Some bytes.now)
         (H.cell shelf.new)) }
     ensures err { OnErr result (AllBut (H.cell shelf.old) name.now (H.cell shelf.new)) }
@@ -58,7 +61,7 @@ pub(crate) fn put_one<H: Shelf>(
     ensures opened { H.opened shelf.new ≡ H.opened shelf.old }
     ensures cause { HasCause (H.fault_count shelf.old) (H.fault_count shelf.new) result }
 {
-    match holds(shelf, name, bytes, held) {
+    match holds(shelf, name, bytes, held, may_stand) {
         Ok(true) => return Ok(()),
         Ok(false) => {}
         Err(error) => return Err(error),
@@ -88,7 +91,7 @@ fn put_want<H: Shelf>(shelf: &mut H, want: &Want, held: &mut Vec<u8>) -> Result<
 {
     // (ahead of the calls, so that one that fails has its name where memory is wanting then)
     let name = want.name.share()?;
-    match put_one(shelf, want.name.as_str(), want.bytes.as_slice(), held) {
+    match put_one(shelf, want.name.as_str(), want.bytes.as_slice(), held, true) {
         Ok(()) => Ok(()),
         Err(StoreError::Memory) => Err(PutError::Memory),
         Err(StoreError::Failed) => Err(PutError::Failed(name)),

@@ -1,4 +1,6 @@
 ghost use Rattle.std.specs.Prelude.{◌≡◌, ◌∷◌, [], ℕ, List, flat_map, if◌then◌else◌, IfOk, OnOk, OnErr, IfErr, IfSome, IsSome, Option, Some, None, true, false, bytes_eq};
+ghost use Rattle.std.specs.HashSet.{contains};
+ghost use Rattle.std.specs.List.{list_any};
 ghost use Rattle.std.specs.List.Sorted.{IsSorted};
 ghost use Rattle.std.specs.Cmp.Lexicographic.{slice_cmp};
 ghost use Rattle.std.specs.Ordering.{nat_cmp};
@@ -9,7 +11,7 @@ ghost use Rattle.publication.specs.Bounds.{answer_over, granted, removals_over, 
 ghost use Rattle.publication.specs.Changing.{holds, removal, putting, planned, done, Made, Begun, Makes, Begins, MadeOver, BegunOver, Tells};
 ghost use Rattle.publication.specs.Halves.{swept, cleared, placed, brought, LeftAs};
 ghost use Rattle.publication.specs.Leavings.{Left, IsEndAt, IsFailure};
-ghost use Rattle.publication.specs.Listings.{Lists};
+ghost use Rattle.publication.specs.Listings.{IsAbsentUnless, Lists, NoOther};
 ghost use Rattle.publication.specs.OwnNames.{is_own};
 ghost use Rattle.publication.specs.Published.{Names};
 ghost use Rattle.publication.specs.Stands.{Stands, untouched};
@@ -64,16 +66,18 @@ fn ended(error: StoreError, object: Text) -> PublishError
     }
 }
 
-/// The name holds the bytes.
+/// The name holds the bytes. Where it is known to be absent it is not read.
 fn bring<H: Shelf>(
     alloc: Global,
     shelf: &mut H,
     name: &str,
     bytes: &[u8],
     held: &mut Vec<u8>,
+    may_stand: bool,
 ) -> Result<(), PublishError>
     requires open { IsSome (H.opened shelf.old) }
     requires own { is_own name.now ≡ true }
+    requires absent { IsAbsentUnless may_stand (H.cell shelf.old name.now) }
     ensures ok { OnOk result (Sets (H.cell shelf.old) name.now (Some bytes.now)
         (H.cell shelf.new)) }
     ensures err { OnErr result (AllBut (H.cell shelf.old) name.now (H.cell shelf.new)) }
@@ -89,7 +93,7 @@ fn bring<H: Shelf>(
 {
     // (ahead of the calls, so that one that fails has its object where memory is wanting then)
     let object = object_of(alloc, name)?;
-    match put_one(shelf, name, bytes, held) {
+    match put_one(shelf, name, bytes, held, may_stand) {
         Ok(()) => Ok(()),
         Err(error) => Err(ended(error, object)),
     }
@@ -104,6 +108,18 @@ fn wanted_names(alloc: Global, wants: &[Want]) -> Result<HashSet<Text>, AllocErr
         names.insert(want.name.share()?)?;
     }
     Ok(names)
+}
+
+/// The set of these names.
+fn set_of(alloc: Global, names: &[Text]) -> Result<HashSet<Text>, AllocError>
+    ensures { IfOk result (λ set. (n : List ℕ) → contains bytes_eq set n
+        ≡ list_any (λ m. bytes_eq m n) names.now) }
+{
+    let mut set = HashSet::with_capacity(alloc, names.len())?;
+    for name in names {
+        set.insert(name.share()?)?;
+    }
+    Ok(set)
 }
 
 /// An own name that no profile wants goes.
@@ -167,10 +183,16 @@ fn clear<H: Shelf>(
     Ok(())
 }
 
-/// Each wanted name gets its bytes, in the order of the list.
-fn place<H: Shelf>(alloc: Global, shelf: &mut H, wants: &[Want]) -> Result<(), PublishError>
+/// Each wanted name gets its bytes, in the order of the list. One that is none of those that may be there is not read.
+fn place<H: Shelf>(
+    alloc: Global,
+    shelf: &mut H,
+    there: &HashSet<Text>,
+    wants: &[Want],
+) -> Result<(), PublishError>
     requires open { IsSome (H.opened shelf.old) }
     requires proper { proper wants.now ≡ true }
+    requires absent { NoOther there.now (H.cell shelf.old) }
     ensures ok { OnOk result ((n : List ℕ) → H.cell shelf.new n
         ≡ placed wants.now n (H.cell shelf.old n)) }
     ensures err { IfErr result (λ e. LeftAs e (placed wants.now) (H.cell shelf.old)
@@ -186,12 +208,14 @@ fn place<H: Shelf>(alloc: Global, shelf: &mut H, wants: &[Want]) -> Result<(), P
 {
     let mut held = Vec::new(alloc);
     for want in wants {
+        let may_stand = there.contains(&want.name);
         bring(
             alloc,
             shelf,
             want.name.as_str(),
             want.bytes.as_slice(),
             &mut held,
+            may_stand,
         )?;
     }
     Ok(())
@@ -241,8 +265,10 @@ fn bring_all<H: Shelf>(
     ensures opened { H.opened shelf.new ≡ H.opened shelf.old }
     ensures cause { Caused IsFailure (H.fault_count shelf.old) (H.fault_count shelf.new) result }
 {
+    // (ahead of the calls, so that nothing is changed where memory is wanting for it)
+    let there = set_of(alloc, listed)?;
     clear(alloc, shelf, listed, names, wants)?;
-    place(alloc, shelf, wants)
+    place(alloc, shelf, &there, wants)
 }
 
 /// Publishes wants on a shelf on which these names are.
@@ -328,8 +354,9 @@ fn publish_within<H: Shelf>(
 }
 
 /// Publishes profiles on a shelf on which these names are: first each own name that no profile wants is removed, in
-/// the order of the list, and then each file of theirs is read, and put where its bytes differ. The first call that
-/// fails ends it. Where more of the names were to go than `most`, no call is made, and it gives how many.
+/// the order of the list, and then each file of theirs is put: one that is among the names is read before, and put only
+/// where its bytes differ; one that is not is put without being read. The first call that fails ends it. Where more of
+/// the names were to go than `most`, no call is made, and it gives how many.
 pub fn publish_until_failure<H: Shelf>(
     alloc: Global,
     shelf: &mut H,

@@ -147,7 +147,8 @@ fn put_item(out: &mut Vec<u8>, counter: u64, item: &Item) -> Result<(), AllocErr
 }
 
 fn put_items(out: &mut Vec<u8>, counter: u64, items: &[Item]) -> Result<(), AllocError>
-    ensures bytes { OnOk result (out.new.items ≡ out.old.items ++ (list (item_in Third counter)).spell items.now) }
+    ensures bytes { OnOk result (out.new.items
+        ≡ out.old.items ++ (list (item_in Third counter)).spell items.now) }
     ensures fits { OnOk result ((list (item_in Third counter)).fits items.now ≡ true) }
 {
     put_count(out, items.len())?;

@@ -1,10 +1,11 @@
 -- How a run ends where a part of it does: with what the part ends with, and at want of memory as
 -- what
 -- goes on behind it leaves no more work.
-use Rattle.std.proofs.Common.{◌≡◌, ap, refl, ℕ, ◌+◌, ◌-◌, ◌<◌, nat_eq, Bool, true, false, cond, List, ◌∷◌, [], ◌++◌, map, length, drop, get_or}
+use Rattle.std.proofs.Common.{◌≡◌, ap, refl, ℕ, ◌+◌, ◌-◌, ◌<◌, nat_eq, Bool, true, false, cond, List, ◌∷◌, [], ◌++◌, Option, Some, None, map, length, drop, get_or, arith}
 use Rattle.std.specs.Borrow.{Bor}
 use Rattle.path_tree.specs.Plain.{Plain}
 use Rattle.pan_ast.specs.declared.place.Place.{Place}
+use Rattle.pan_ast.specs.declared.fault.Code.{Code}
 use Rattle.pan_ast.specs.declared.fault.Code.TheVariants as code
 use Rattle.pan_ast.specs.declared.syntax.Item.{Item as RItem}
 use Rattle.pan_ast.specs.declared.template.Statement.{Statement as RStatement}
@@ -26,7 +27,7 @@ use Rattle.dml_world.specs.declared.stop.Stop.TheVariants as stop
 use Rattle.dml_world.specs.Exits.{Stops}
 use Rattle.dml_world.proofs.Ends.{beside_leaves, stops_then}
 use Rattle.template_meaning.specs.Program.{Site, Program, Inside, around_in, at_top, no_program}
-use Rattle.template_meaning.specs.Statements.{Prefixed, default_run, defaults_run, form_run, included, may_stand, named_in, statement_run, statements_run, template_run}
+use Rattle.template_meaning.specs.Statements.{Prefixed, default_run, defaults_run, form_run, included, may_stand, named_in, or_fail_about, statement_run, statements_run, template_run}
 use Rattle.template_meaning.specs.Objects.{object_run, run_top, top_place}
 use Rattle.template_meaning.proofs.EachStatement.{form_lawful, included_lawful, statements_lawful}
 use Rattle.template_meaning.proofs.OfObjects.{suits}
@@ -45,6 +46,12 @@ step_beside : (b : Bool) (p : Place) (s : Program) (m : Meter) → stepped b p s
     ≡ beside s (stepped b p tt m)
 step_beside true p s m = refl
 step_beside false p s m = refl
+
+-- what is there, or a fault
+pub sought_leaves : {X : Type 0} → (c : Code) (p : Place) (d : List ℕ) (o : Option X)
+    → Leaves (or_fail_about c p d o)
+sought_leaves c p d (Some x) o s m = omega arith
+sought_leaves c p d None o s m = omega arith
 
 module _ (site : Site) (w : IsReading site.reading) where
   pub named_leaves : (n : Inside) (p : Place) (name : List ℕ) (o : Answers) (s : Program)

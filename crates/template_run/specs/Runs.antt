@@ -17,12 +17,6 @@ abbrev pub Comes : {X Y : Type 0} → (X → Y) → Result X Stop → Program �
 Comes view (Ok x) s m o = o ≡ Done (view x) s m
 Comes view (Err x) s m o = Stops x m o
 
--- told the answers, from a program and a meter to those that there are then
-abbrev pub Runs : {X Y : Type 0} → (X → Y) → Result X Stop → Answers → Program → Meter → Program
-    → Meter → Run Y → Type 0
-Runs view r answers before m after n run = ToldEnough answers m.asked n.asked (λ told.
-    Comes view r after n (run told before m))
-
 abbrev pub Makes : Result Made Stop → Meter → Outcome Program Place → Type 0
 Makes (Ok x) m o = o ≡ Done x.header (program_of x.program) m
 Makes (Err x) m o = Stops x m o

@@ -7,10 +7,12 @@ use Rattle.pan_ast.specs.declared.syntax.Item.{Item as RItem}
 use Rattle.pan_ast.specs.declared.fault.Fault.{Fault}
 use Rattle.pan_ast.specs.Templates.{Template}
 use Rattle.dml_meaning.specs.Around.{ValueCalls}
+use Rattle.dml_world.specs.declared.world.World as world
 use Rattle.dml_world.specs.Seen.{functions_of}
 use Rattle.type_defs.specs.Tables.{known}
 use Rattle.type_defs.specs.BindingsSeen.{bindings_seen, valid_seen}
 use Rattle.template_meaning.specs.Program.{Site, Program, Inside}
+use Rattle.template_meaning.specs.Statements.{Includes, included}
 use Rattle.template_run.specs.declared.site.Site.{Site as RSite}
 use Rattle.template_run.specs.declared.site.Inside.{Inside as RInside}
 use Rattle.template_run.specs.declared.program.Program.{Program as RProgram}
@@ -27,6 +29,14 @@ site_of s reading calls = record {
 abbrev pub inside_of : RInside → Inside
 inside_of n =
     record { kind = n.kind; template = n.template; includes_left = n.includes_left }
+
+-- what a run is about, in a world, seen from inside a template
+abbrev pub site_in : {W C : Type 0} → world.Ghosts W C → RInside → Site
+site_in M n = site_of n.site.now M.reading M.calls
+
+-- how a statement inside it includes templates
+abbrev pub includes_in : {W C : Type 0} → world.Ghosts W C → RInside → Includes
+includes_in M n = included n.includes_left (site_in M n)
 
 abbrev pub program_of : RProgram → Program
 program_of p = record {

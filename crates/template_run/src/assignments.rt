@@ -1,23 +1,23 @@
-ghost use Rattle.std.specs.Prelude.{◌≡◌, ◌+◌, IfOk};
+ghost use Rattle.std.specs.Prelude.{◌≡◌, IfOk};
 ghost use Rattle.dml_world.specs.Exits.{IsStop};
-ghost use Rattle.dml_world.specs.Seen.{meter};
 ghost use Rattle.pan_ast.specs.Detail.{fault_with};
 ghost use Rattle.pan_ast.specs.declared.fault.Code.TheVariants as code;
 ghost use Rattle.pan_ast.specs.Seen.{item_seen};
 ghost use Rattle.template_meaning.specs.Statements.{absolute, assign_run, assign_terms, present, put_run};
+ghost use Rattle.template_run.specs.Executions.{Executes, KeepsLoans, total};
 ghost use Rattle.template_run.specs.Refusals.{IsUnassigned};
-ghost use Rattle.template_run.specs.Runs.{Runs};
-ghost use Rattle.template_run.specs.Seen.{inside_of, program_of, site_of};
+ghost use Rattle.template_run.specs.Seen.{inside_of, program_of, site_in};
 
 use crate::dml::run_in;
+use crate::execution::Execution;
 use crate::paths::{Prefix, absolute, path_terms};
 use crate::program::Program;
-use crate::site::{Inside, Site};
+use crate::site::Inside;
 use assign_rules::AssignError;
-use base::{Steps, Text};
+use base::Text;
 use dml_world::leaf::stop_on;
 use dml_world::{SelfUse, Stop, World};
-use pan_ast::{Code, Item, Place, Work};
+use pan_ast::{Code, Item, Place};
 use path_tree::{PutError, Term, Tree};
 use std::alloc::{AllocError, Global};
 use std::sync::ledger::Ledger;
@@ -30,6 +30,33 @@ pub(crate) struct Assignment<'a> {
     pub path: &'a Text,
     pub conditional: bool,
     pub item: &'a Item,
+}
+
+impl<'a> Assignment<'a> {
+    /// An assignment, of its parts.
+    pub(crate) fn new(
+        place: &'a Place,
+        last: bool,
+        path: &'a Text,
+        conditional: bool,
+        item: &'a Item,
+    ) -> Assignment<'a>
+        ensures { result ≡ record {
+          place = place.entry;
+          last = last;
+          path = path.entry;
+          conditional = conditional;
+          item = item.entry;
+        } }
+    {
+        Assignment {
+            place,
+            last,
+            path,
+            conditional,
+            item,
+        }
+    }
 }
 
 /// The fault of an assignment that is refused.
@@ -49,25 +76,21 @@ fn unassigned(alloc: Global, place: &Place, path: &Text, error: AssignError) -> 
 
 /// Puts a value at terms.
 #[tactic(auto, using(crate::proofs::Refused::unassigned_comes), unfolding(template_meaning::specs::Statements::put_run))]
-fn put_at<W: World>(
-    alloc: Global,
+fn put_at<W: World, L: Ledger>(
     assignment: Assignment<'_>,
     terms: &[Term],
     value: Tree,
-    program: &mut Program,
-    world: &W,
-    work: &Work,
+    execution: &mut Execution<'_, '_, '_, W, L>,
 ) -> Result<(), Stop>
-    ensures { Runs (λ u. u) result W.answers (program_of program.old)
-        (meter work.now (W.asked world.now)) (program_of program.new)
-        (meter work.now (W.asked world.now)) (put_run assignment.entry.place.now
-        assignment.entry.path.now assignment.entry.last terms.now value) }
+    ensures gives { Executes (λ u. u) result W.World execution.old execution.new
+        (put_run assignment.entry.place.now assignment.entry.path.now assignment.entry.last
+        terms.now value) }
+    ensures counted { total execution.new ≡ total execution.old }
+    ensures lent { KeepsLoans execution.old execution.new }
 {
-    let place = assignment.place;
-    match program
-        .profile
-        .assign(alloc, place, terms, assignment.last, value)
-    {
+    let (alloc, place) = (execution.alloc, assignment.place);
+    let profile = &mut execution.program.profile;
+    match profile.assign(alloc, place, terms, assignment.last, value) {
         Ok(()) => Ok(()),
         Err(error) => Err(unassigned(alloc, place, assignment.path, error)),
     }
@@ -96,85 +119,47 @@ fn is_final(alloc: Global, place: &Place, terms: &[Term]) -> Stop
 /// An assignment to terms.
 #[tactic(auto, using(template_meaning::proofs::Leaving::leaving), unfolding(template_meaning::specs::Statements::assign_terms))]
 fn assign_at<W: World, L: Ledger>(
-    alloc: Global,
     assignment: Assignment<'_>,
     terms: &[Term],
-    site: &Site<'_>,
-    inside: &Inside,
-    program: &mut Program,
-    world: &mut W,
-    work: &mut Work,
-    steps: &mut Steps<L>,
+    inside: &Inside<'_>,
+    execution: &mut Execution<'_, '_, '_, W, L>,
 ) -> Result<(), Stop>
-    ensures gives { Runs (λ u. u) result W.answers (program_of program.old)
-        (meter work.old (W.asked world.old)) (program_of program.new)
-        (meter work.new (W.asked world.new)) (assign_terms
-        (site_of site.now W.reading W.calls) (inside_of inside.now) assignment.entry.place.now
-        assignment.entry.last assignment.entry.path.now assignment.entry.conditional
-        (item_seen assignment.entry.item.now) terms.now) }
-    ensures counted { steps.new + work.new.left ≡ steps.old + work.old.left }
+    ensures gives { Executes (λ u. u) result W.World execution.old execution.new
+        (assign_terms (site_in W.World inside.now) (inside_of inside.now)
+        assignment.entry.place.now assignment.entry.last assignment.entry.path.now
+        assignment.entry.conditional (item_seen assignment.entry.item.now) terms.now) }
+    ensures counted { total execution.new ≡ total execution.old }
+    ensures lent { KeepsLoans execution.old execution.new }
 {
+    let program = &execution.program;
     if !program.profile.may_assign(terms) {
-        return Err(is_final(alloc, assignment.place, terms));
+        return Err(is_final(execution.alloc, assignment.place, terms));
     }
     if assignment.conditional && program.profile.is_set(terms) {
         return Ok(());
     }
-    let value = run_in(
-        alloc,
-        assignment.item,
-        SelfUse::Changeable,
-        present(program, terms)?,
-        site,
-        inside,
-        program,
-        world,
-        work,
-        steps,
-    )?;
-    put_at(alloc, assignment, terms, value, program, world, work)
+    let self_value = present(program, terms)?;
+    let item = assignment.item;
+    let value = run_in(item, SelfUse::Changeable, self_value, inside, execution)?;
+    put_at(assignment, terms, value, execution)
 }
 
 /// An assignment (Pan Book, "Statements"): its path, whether that is final, whether it is set
 /// already, its DML, and the change.
 #[tactic(auto, using(template_meaning::proofs::Leaving::leaving), unfolding(template_meaning::specs::Statements::assign_run))]
 pub(crate) fn assign<W: World, L: Ledger>(
-    alloc: Global,
     assignment: Assignment<'_>,
     prefix: &Prefix,
-    site: &Site<'_>,
-    inside: &Inside,
-    program: &mut Program,
-    world: &mut W,
-    work: &mut Work,
-    steps: &mut Steps<L>,
+    inside: &Inside<'_>,
+    execution: &mut Execution<'_, '_, '_, W, L>,
 ) -> Result<(), Stop>
-    ensures gives { Runs (λ u. u) result W.answers (program_of program.old)
-        (meter work.old (W.asked world.old)) (program_of program.new)
-        (meter work.new (W.asked world.new)) (assign_run
-        (site_of site.now W.reading W.calls) (inside_of inside.now) prefix.now
+    ensures gives { Executes (λ u. u) result W.World execution.old execution.new
+        (assign_run (site_in W.World inside.now) (inside_of inside.now) prefix.now
         assignment.entry.place.now assignment.entry.last assignment.entry.path.now
         assignment.entry.conditional (item_seen assignment.entry.item.now)) }
-    ensures counted { steps.new + work.new.left ≡ steps.old + work.old.left }
+    ensures counted { total execution.new ≡ total execution.old }
+    ensures lent { KeepsLoans execution.old execution.new }
 {
-    let terms = path_terms(
-        alloc,
-        prefix,
-        assignment.place,
-        assignment.path,
-        program,
-        world,
-        work,
-    )?;
-    assign_at(
-        alloc,
-        assignment,
-        terms.as_slice(),
-        site,
-        inside,
-        program,
-        world,
-        work,
-        steps,
-    )
+    let terms = path_terms(prefix, assignment.place, assignment.path, execution)?;
+    assign_at(assignment, terms.as_slice(), inside, execution)
 }

@@ -1,48 +1,44 @@
-ghost use Rattle.std.specs.Prelude.{◌≡◌, ◌+◌};
-ghost use Rattle.dml_world.specs.Seen.{meter};
+ghost use Rattle.std.specs.Prelude.{◌≡◌};
 ghost use Rattle.pan_ast.specs.Seen.{item_seen};
 ghost use Rattle.pan_ast.specs.TypesSeen.{full_seen};
 ghost use Rattle.template_meaning.specs.Statements.{bind_run, bind_type, define_run, function_run, name_type, valid_run, want_valid};
-ghost use Rattle.template_run.specs.Runs.{Runs};
-ghost use Rattle.template_run.specs.Seen.{inside_of, program_of, site_of};
+ghost use Rattle.template_run.specs.Executions.{Executes, KeepsLoans, total};
+ghost use Rattle.template_run.specs.Seen.{inside_of, site_in};
 ghost use Rattle.type_defs.specs.ResolvedSeen.{resolved_seen};
 
+use crate::execution::Execution;
 use crate::paths::{Prefix, path_terms};
-use crate::program::Program;
-use crate::site::{Inside, Site};
+use crate::site::Inside;
 use crate::written_types::run_type;
-use base::{Seq, Steps, Text};
+use base::{Seq, Text};
 use dml_world::leaf::stop_on;
 use dml_world::{DefineError, Stop, World};
-use pan_ast::{Code, FullType, Item, Place, Work};
+use pan_ast::{Code, FullType, Item, Place};
 use path_tree::Term;
-use std::alloc::Global;
 use std::rc::Rc;
 use std::sync::ledger::Ledger;
 use type_defs::{Bound, SharedType, Valid};
 
 /// A function statement (Pan Book, "Functions"): the name is not taken yet.
 #[tactic(auto, using(crate::proofs::Refused::defined_ends, template_meaning::proofs::Leaving::leaving), unfolding(template_meaning::specs::Statements::function_run))]
-pub(crate) fn define_function<W: World>(
-    alloc: Global,
+pub(crate) fn define_function<W: World, L: Ledger>(
     place: &Place,
     name: &Text,
     body: &Rc<Item>,
-    site: &Site<'_>,
-    program: &mut Program,
-    world: &W,
-    work: &Work,
+    inside: &Inside<'_>,
+    execution: &mut Execution<'_, '_, '_, W, L>,
 ) -> Result<(), Stop>
-    ensures { Runs (λ u. u) result W.answers (program_of program.old)
-        (meter work.now (W.asked world.now)) (program_of program.new)
-        (meter work.now (W.asked world.now)) (function_run (site_of site.now W.reading W.calls)
-        place.now name.now (item_seen body.now.value)) }
+    ensures gives { Executes (λ u. u) result W.World execution.old execution.new
+        (function_run (site_in W.World inside.now) place.now name.now (item_seen body.now.value)) }
+    ensures counted { total execution.new ≡ total execution.old }
+    ensures lent { KeepsLoans execution.old execution.new }
 {
     let body = body.clone()?;
-    match program.functions.define(name, body, world) {
+    let functions = &mut execution.program.functions;
+    match functions.define(name, body, &*execution.world) {
         Ok(()) => Ok(()),
         Err(DefineError::Redefined) => {
-            Err(stop_on(alloc, Code::Redefined, place, name.as_str()))
+            Err(stop_on(execution.alloc, Code::Redefined, place, name.as_str()))
         }
         Err(DefineError::Memory) => Err(Stop::Memory),
     }
@@ -50,18 +46,17 @@ pub(crate) fn define_function<W: World>(
 
 /// Gives a type a name that is not taken.
 #[tactic(auto, using(crate::proofs::Programs::same_types))]
-fn name_type<W: World>(
+fn name_type<W: World, L: Ledger>(
     name: &Text,
     resolved: SharedType,
-    program: &mut Program,
-    world: &W,
-    work: &Work,
+    execution: &mut Execution<'_, '_, '_, W, L>,
 ) -> Result<(), Stop>
-    ensures { Runs (λ u. u) result W.answers (program_of program.old)
-        (meter work.now (W.asked world.now)) (program_of program.new)
-        (meter work.now (W.asked world.now)) (name_type name.now (resolved_seen resolved)) }
+    ensures gives { Executes (λ u. u) result W.World execution.old execution.new
+        (name_type name.now (resolved_seen resolved)) }
+    ensures counted { total execution.new ≡ total execution.old }
+    ensures lent { KeepsLoans execution.old execution.new }
 {
-    match program.types.define(name, resolved) {
+    match execution.program.types.define(name, resolved) {
         Ok(()) => Ok(()),
         Err(type_defs::DefineError::Redefined | type_defs::DefineError::Memory) => Err(
             Stop::Memory,
@@ -72,98 +67,81 @@ fn name_type<W: World>(
 /// A type statement (Pan Book, "Types").
 #[tactic(auto, using(template_meaning::proofs::Leaving::leaving), unfolding(template_meaning::specs::Statements::define_run))]
 pub(crate) fn define_type<W: World, L: Ledger>(
-    alloc: Global,
     place: &Place,
     name: &Text,
     full: &FullType,
-    site: &Site<'_>,
-    inside: &Inside,
-    program: &mut Program,
-    world: &mut W,
-    work: &mut Work,
-    steps: &mut Steps<L>,
+    inside: &Inside<'_>,
+    execution: &mut Execution<'_, '_, '_, W, L>,
 ) -> Result<(), Stop>
-    ensures gives { Runs (λ u. u) result W.answers (program_of program.old)
-        (meter work.old (W.asked world.old)) (program_of program.new)
-        (meter work.new (W.asked world.new)) (define_run (site_of site.now W.reading W.calls)
-        (inside_of inside.now) place.now name.now (full_seen full.now)) }
-    ensures counted { steps.new + work.new.left ≡ steps.old + work.old.left }
+    ensures gives { Executes (λ u. u) result W.World execution.old execution.new
+        (define_run (site_in W.World inside.now) (inside_of inside.now) place.now name.now
+        (full_seen full.now)) }
+    ensures counted { total execution.new ≡ total execution.old }
+    ensures lent { KeepsLoans execution.old execution.new }
 {
-    if program.types.taken(name) {
-        return Err(stop_on(alloc, Code::Redefined, place, name.as_str()));
+    if execution.program.types.taken(name) {
+        return Err(stop_on(execution.alloc, Code::Redefined, place, name.as_str()));
     }
-    let resolved = run_type(
-        alloc, full, place, site, inside, program, world, work, steps,
-    )?;
-    name_type(name, resolved, program, world, work)
+    let resolved = run_type(full, place, inside, execution)?;
+    name_type(name, resolved, execution)
 }
 
 /// Binds a type to terms.
 #[tactic(auto, using(template_meaning::proofs::Leaving::leaving))]
-fn bind_type<W: World>(
+fn bind_type<W: World, L: Ledger>(
     place: &Place,
     terms: Seq<Term>,
     resolved: SharedType,
-    program: &mut Program,
-    world: &W,
-    work: &Work,
+    execution: &mut Execution<'_, '_, '_, W, L>,
 ) -> Result<(), Stop>
-    ensures { Runs (λ u. u) result W.answers (program_of program.old)
-        (meter work.now (W.asked world.now)) (program_of program.new)
-        (meter work.now (W.asked world.now)) (bind_type place.now terms (resolved_seen resolved)) }
+    ensures gives { Executes (λ u. u) result W.World execution.old execution.new
+        (bind_type place.now terms (resolved_seen resolved)) }
+    ensures counted { total execution.new ≡ total execution.old }
+    ensures lent { KeepsLoans execution.old execution.new }
 {
     let bound = Bound {
         terms,
         resolved,
         place: place.share()?,
     };
-    program.bindings.add(bound)?;
+    execution.program.bindings.add(bound)?;
     Ok(())
 }
 
 /// A bind statement (Pan Book, "Binding").
 #[tactic(auto, using(template_meaning::proofs::Leaving::leaving), unfolding(template_meaning::specs::Statements::bind_run))]
 pub(crate) fn bind<W: World, L: Ledger>(
-    alloc: Global,
     place: &Place,
     path: &Text,
     full: &FullType,
     prefix: &Prefix,
-    site: &Site<'_>,
-    inside: &Inside,
-    program: &mut Program,
-    world: &mut W,
-    work: &mut Work,
-    steps: &mut Steps<L>,
+    inside: &Inside<'_>,
+    execution: &mut Execution<'_, '_, '_, W, L>,
 ) -> Result<(), Stop>
-    ensures gives { Runs (λ u. u) result W.answers (program_of program.old)
-        (meter work.old (W.asked world.old)) (program_of program.new)
-        (meter work.new (W.asked world.new)) (bind_run (site_of site.now W.reading W.calls)
-        (inside_of inside.now) prefix.now place.now path.now (full_seen full.now)) }
-    ensures counted { steps.new + work.new.left ≡ steps.old + work.old.left }
+    ensures gives { Executes (λ u. u) result W.World execution.old execution.new
+        (bind_run (site_in W.World inside.now) (inside_of inside.now) prefix.now place.now path.now
+        (full_seen full.now)) }
+    ensures counted { total execution.new ≡ total execution.old }
+    ensures lent { KeepsLoans execution.old execution.new }
 {
-    let terms = path_terms(alloc, prefix, place, path, program, world, work)?;
-    let resolved = run_type(
-        alloc, full, place, site, inside, program, world, work, steps,
-    )?;
-    bind_type(place, terms, resolved, program, world, work)
+    let terms = path_terms(prefix, place, path, execution)?;
+    let resolved = run_type(full, place, inside, execution)?;
+    bind_type(place, terms, resolved, execution)
 }
 
 /// Adds what is to hold at terms.
 #[tactic(auto, using(template_meaning::proofs::Leaving::leaving))]
-fn want_valid<W: World>(
+fn want_valid<W: World, L: Ledger>(
     place: &Place,
     body: &Rc<Item>,
     terms: Seq<Term>,
-    inside: &Inside,
-    program: &mut Program,
-    world: &W,
-    work: &Work,
+    inside: &Inside<'_>,
+    execution: &mut Execution<'_, '_, '_, W, L>,
 ) -> Result<(), Stop>
-    ensures { Runs (λ u. u) result W.answers (program_of program.old)
-        (meter work.now (W.asked world.now)) (program_of program.new)
-        (meter work.now (W.asked world.now)) (want_valid (inside_of inside.now) place.now
-        (item_seen body.now.value) terms) }
+    ensures gives { Executes (λ u. u) result W.World execution.old execution.new
+        (want_valid (inside_of inside.now) place.now (item_seen body.now.value) terms) }
+    ensures counted { total execution.new ≡ total execution.old }
+    ensures lent { KeepsLoans execution.old execution.new }
 {
     let valid = Valid {
         terms,
@@ -171,28 +149,26 @@ fn want_valid<W: World>(
         template: inside.template.share()?,
         place: place.share()?,
     };
-    program.valids.push(valid)?;
+    execution.program.valids.push(valid)?;
     Ok(())
 }
 
 /// A valid statement (Pan Book, "Validation").
 #[tactic(auto, using(template_meaning::proofs::Leaving::leaving), unfolding(template_meaning::specs::Statements::valid_run))]
-pub(crate) fn add_valid<W: World>(
-    alloc: Global,
+pub(crate) fn add_valid<W: World, L: Ledger>(
     place: &Place,
     path: &Text,
     body: &Rc<Item>,
     prefix: &Prefix,
-    inside: &Inside,
-    program: &mut Program,
-    world: &W,
-    work: &Work,
+    inside: &Inside<'_>,
+    execution: &mut Execution<'_, '_, '_, W, L>,
 ) -> Result<(), Stop>
-    ensures { Runs (λ u. u) result W.answers (program_of program.old)
-        (meter work.now (W.asked world.now)) (program_of program.new)
-        (meter work.now (W.asked world.now)) (valid_run (inside_of inside.now) prefix.now place.now
-        path.now (item_seen body.now.value)) }
+    ensures gives { Executes (λ u. u) result W.World execution.old execution.new
+        (valid_run (inside_of inside.now) prefix.now place.now path.now
+        (item_seen body.now.value)) }
+    ensures counted { total execution.new ≡ total execution.old }
+    ensures lent { KeepsLoans execution.old execution.new }
 {
-    let terms = path_terms(alloc, prefix, place, path, program, world, work)?;
-    want_valid(place, body, terms, inside, program, world, work)
+    let terms = path_terms(prefix, place, path, execution)?;
+    want_valid(place, body, terms, inside, execution)
 }

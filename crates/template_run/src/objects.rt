@@ -3,12 +3,15 @@ ghost use Rattle.dml_world.specs.Seen.{meter};
 ghost use Rattle.pan_ast.specs.TemplatesSeen.{template_seen};
 ghost use Rattle.template_meaning.specs.Objects.{object_run, run_top, top_place};
 ghost use Rattle.template_meaning.specs.Program.{at_top, no_program};
-ghost use Rattle.template_run.specs.Runs.{MakesObject, Runs};
-ghost use Rattle.template_run.specs.Seen.{inside_of, program_of, site_of};
+ghost use Rattle.template_run.specs.Executions.{Executes, KeepsLoans, total};
+ghost use Rattle.template_run.specs.Runs.{MakesObject};
+ghost use Rattle.template_run.specs.Seen.{inside_of, program_of, site_in, site_of};
 
+use crate::dml::find_named;
+use crate::execution::Execution;
 use crate::program::Program;
 use crate::site::{Inside, Site};
-use crate::statements::{find_named, run_statements};
+use crate::statements::run_statements;
 use base::{Steps, Text};
 use dml_meaning::limits::MAX_INCLUDES;
 use dml_world::leaf::stop_on;
@@ -31,76 +34,47 @@ fn top_place(alloc: Global, object: &Name) -> Result<Place, AllocError>
 
 /// Runs the statements of the object's own template.
 fn run_top<W: World, L: Ledger>(
-    alloc: Global,
     place: &Place,
     template: &Template,
-    site: &Site<'_>,
-    inside: &Inside,
-    program: &mut Program,
-    world: &mut W,
-    work: &mut Work,
-    steps: &mut Steps<L>,
+    inside: &Inside<'_>,
+    execution: &mut Execution<'_, '_, '_, W, L>,
 ) -> Result<(), Stop>
-    requires place { place.now ≡ top_place site.now.object.now }
-    requires top { inside_of inside.now ≡ at_top (site_of site.now W.reading W.calls) }
-    ensures gives { Runs (λ u. u) result W.answers (program_of program.old)
-        (meter work.old (W.asked world.old)) (program_of program.new)
-        (meter work.new (W.asked world.new)) (run_top (site_of site.now W.reading W.calls)
-        (template_seen template.now)) }
-    ensures counted { steps.new + work.new.left ≡ steps.old + work.old.left }
+    requires place { place.now ≡ top_place inside.now.site.now.object.now }
+    requires top { inside_of inside.now ≡ at_top (site_in W.World inside.now) }
+    ensures gives { Executes (λ u. u) result W.World execution.old execution.new
+        (run_top (site_in W.World inside.now) (template_seen template.now)) }
+    ensures counted { total execution.new ≡ total execution.old }
+    ensures lent { KeepsLoans execution.old execution.new }
 {
     if template.kind != TemplateKind::Object {
-        return Err(stop_on(alloc, Code::WrongKind, place, site.object.as_str()));
+        let object = inside.site.object.as_str();
+        return Err(stop_on(execution.alloc, Code::WrongKind, place, object));
     }
-    run_statements(
-        alloc,
-        &template.statements,
-        site,
-        inside,
-        program,
-        world,
-        work,
-        steps,
-    )
+    run_statements(&template.statements, inside, execution)
 }
 
 /// Runs the object template of a name from an empty dict (Pan Book, "Object Template"). Gives the
 /// place of its header.
 #[tactic(auto, using(template_meaning::proofs::Leaving::leaving), unfolding(template_meaning::specs::Objects::object_run))]
 fn run_from<W: World, L: Ledger>(
-    alloc: Global,
     site: &Site<'_>,
-    program: &mut Program,
-    world: &mut W,
-    work: &mut Work,
-    steps: &mut Steps<L>,
+    execution: &mut Execution<'_, '_, '_, W, L>,
 ) -> Result<Place, Stop>
-    requires fresh { program_of program.old ≡ no_program }
-    ensures gives { Runs (λ p. p) result W.answers no_program
-        (meter work.old (W.asked world.old)) (program_of program.new)
-        (meter work.new (W.asked world.new)) (object_run (site_of site.now W.reading W.calls)) }
-    ensures counted { steps.new + work.new.left ≡ steps.old + work.old.left }
+    requires fresh { program_of execution.old.program ≡ no_program }
+    ensures gives { Executes (λ p. p) result W.World execution.old execution.new
+        (object_run (site_of site.now W.reading W.calls)) }
+    ensures counted { total execution.new ≡ total execution.old }
+    ensures lent { KeepsLoans execution.old execution.new }
 {
-    let place = top_place(alloc, site.object)?;
+    let place = top_place(execution.alloc, site.object)?;
     let inside = Inside {
+        site,
         kind: TemplateKind::Object,
         template: site.object.share()?,
         includes_left: MAX_INCLUDES,
     };
-    let template = find_named(
-        alloc,
-        &place,
-        site.object.as_str(),
-        site,
-        &inside,
-        program,
-        world,
-        work,
-        steps,
-    )?;
-    run_top(
-        alloc, &place, &template, site, &inside, program, world, work, steps,
-    )?;
+    let template = find_named(&place, site.object.as_str(), &inside, execution)?;
+    run_top(&place, &template, &inside, execution)?;
     Ok(template.place.share()?)
 }
 
@@ -128,7 +102,26 @@ pub fn run_object<W: World, L: Ledger>(
         (object_run (site_of site.now W.reading W.calls)) }
     ensures counted { steps.new + work.new.left ≡ steps.old + work.old.left }
 {
-    let mut program = Program::new(alloc)?;
-    let header = run_from(alloc, site, &mut program, world, work, steps)?;
+    let program = Program::new(alloc)?;
+    let mut execution = Execution {
+        alloc,
+        program,
+        world,
+        work,
+        steps,
+    };
+    let end = run_from(site, &mut execution);
+    let Execution {
+        alloc: _,
+        program,
+        world: lent_world,
+        work: lent_work,
+        steps: lent_steps,
+    } = execution;
+    // (each loan ends by itself, so that what stands behind it is known)
+    let _world = lent_world;
+    let _work = lent_work;
+    let _steps = lent_steps;
+    let header = end?;
     Ok(Made { program, header })
 }

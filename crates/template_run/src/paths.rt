@@ -1,18 +1,17 @@
 ghost use Rattle.std.specs.Prelude.{◌≡◌, ◌++◌, IfOk, option_map};
-ghost use Rattle.dml_world.specs.Seen.{meter};
 ghost use Rattle.path_tree.specs.Paths.{path_of};
 ghost use Rattle.template_meaning.specs.Statements.{absolute, absolute_prefix, behind, path_terms, prefix_of, prefix_run, terms_of};
-ghost use Rattle.template_run.specs.Runs.{Runs};
-ghost use Rattle.template_run.specs.Seen.{program_of};
+ghost use Rattle.template_run.specs.Executions.{Executes};
 
-use crate::program::Program;
+use crate::execution::Execution;
 use assign_rules::{push_terms, share_terms};
 use base::{Seq, Text};
 use dml_world::leaf::stop_on;
 use dml_world::{Stop, World};
-use pan_ast::{Code, Place, Work};
+use pan_ast::{Code, Place};
 use path_tree::{Anchor, Path, PathError, Term};
 use std::alloc::{AllocError, Global};
+use std::sync::ledger::Ledger;
 
 /// The path before relative ones, where a prefix holds.
 pub(crate) type Prefix = Option<Seq<Term>>;
@@ -54,23 +53,19 @@ fn terms_of(alloc: Global, prefix: &Prefix, text: &Text) -> Result<Option<Seq<Te
 }
 
 /// The terms of the path of a statement: an absolute one, or a relative one under a prefix.
-#[tactic(auto, using(template_meaning::proofs::Leaving::leaving))]
-pub(crate) fn path_terms<W: World>(
-    alloc: Global,
+#[tactic(auto, using(crate::proofs::Stopping::sought_leaves))]
+pub(crate) fn path_terms<W: World, L: Ledger>(
     prefix: &Prefix,
     place: &Place,
     text: &Text,
-    program: &Program,
-    world: &W,
-    work: &Work,
+    execution: &Execution<'_, '_, '_, W, L>,
 ) -> Result<Seq<Term>, Stop>
-    ensures { Runs (λ ms. ms) result W.answers (program_of program.now)
-        (meter work.now (W.asked world.now)) (program_of program.now)
-        (meter work.now (W.asked world.now)) (path_terms prefix.now place.now text.now) }
+    ensures { Executes (λ ms. ms) result W.World execution.now execution.now
+        (path_terms prefix.now place.now text.now) }
 {
-    match terms_of(alloc, prefix, text)? {
+    match terms_of(execution.alloc, prefix, text)? {
         Some(terms) => Ok(terms),
-        None => Err(stop_on(alloc, Code::BadPath, place, text.as_str())),
+        None => Err(stop_on(execution.alloc, Code::BadPath, place, text.as_str())),
     }
 }
 
@@ -110,21 +105,17 @@ fn prefix_of(alloc: Global, text: &Text) -> Result<Option<Prefix>, AllocError>
 }
 
 /// The prefix that holds from a statement on.
-#[tactic(auto, using(template_meaning::proofs::Leaving::leaving))]
-pub(crate) fn run_prefix<W: World>(
-    alloc: Global,
+#[tactic(auto, using(crate::proofs::Stopping::sought_leaves))]
+pub(crate) fn run_prefix<W: World, L: Ledger>(
     place: &Place,
     text: &Text,
-    program: &Program,
-    world: &W,
-    work: &Work,
+    execution: &Execution<'_, '_, '_, W, L>,
 ) -> Result<Prefix, Stop>
-    ensures { Runs (λ q. q) result W.answers (program_of program.now)
-        (meter work.now (W.asked world.now)) (program_of program.now)
-        (meter work.now (W.asked world.now)) (prefix_run place.now text.now) }
+    ensures { Executes (λ q. q) result W.World execution.now execution.now
+        (prefix_run place.now text.now) }
 {
-    match prefix_of(alloc, text)? {
+    match prefix_of(execution.alloc, text)? {
         Some(prefix) => Ok(prefix),
-        None => Err(stop_on(alloc, Code::BadPath, place, text.as_str())),
+        None => Err(stop_on(execution.alloc, Code::BadPath, place, text.as_str())),
     }
 }

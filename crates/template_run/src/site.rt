@@ -10,9 +10,11 @@ pub struct Site<'a> {
     pub limits: Limits,
 }
 
-/// The template whose statements run, and how many includes may still be opened.
+/// The template whose statements run: what the run is about, and how many includes may still be
+/// opened.
 #[derive(Drop)]
-pub(crate) struct Inside {
+pub(crate) struct Inside<'a> {
+    pub site: &'a Site<'a>,
     pub kind: TemplateKind,
     pub template: Name,
     pub includes_left: u64,

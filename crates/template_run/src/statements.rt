@@ -1,29 +1,24 @@
-ghost use Rattle.std.specs.Prelude.{◌≡◌, ◌+◌, ◌-◌, ◌<◌, None, map};
+ghost use Rattle.std.specs.Prelude.{◌≡◌, ◌-◌, ◌<◌, None, map};
 ghost use Rattle.std.specs.List.{list_any};
 ghost use Rattle.std.specs.Str.{bytes_eq};
-ghost use Rattle.dml_world.specs.Seen.{meter};
 ghost use Rattle.pan_ast.specs.Seen.{item_seen};
 ghost use Rattle.pan_ast.specs.TemplatesSeen.{form_seen, statement_seen, template_seen};
-ghost use Rattle.template_meaning.specs.Statements.{form_run, include_run, include_value, included, inside, may_include, may_stand, named_in, runs_once, starts, statement_run, statements_run, template_run};
-ghost use Rattle.template_run.specs.Runs.{Runs};
-ghost use Rattle.template_run.specs.Seen.{inside_of, program_of, site_of};
+ghost use Rattle.template_meaning.specs.Statements.{form_run, include_run, include_value, included, may_include, may_stand, runs_once, starts, statement_run, statements_run, template_run};
+ghost use Rattle.template_run.specs.Executions.{Executes, KeepsLoans, total};
+ghost use Rattle.template_run.specs.Seen.{includes_in, inside_of, site_in};
 
 use crate::assignments::{Assignment, assign};
 use crate::definitions::{add_valid, bind, define_function, define_type};
-use crate::dml::run_in;
+use crate::dml::{find_named, run_in};
+use crate::execution::Execution;
 use crate::paths::{Prefix, run_prefix};
-use crate::program::Program;
-use crate::site::{Inside, Site};
+use crate::site::Inside;
 use crate::variables::{Variable, run_variable};
-use base::Steps;
 use dml_meaning::Test;
 use dml_world::leaf::{passed, passes, spend_step, stop_on};
-use dml_world::templates::template_named;
-use dml_world::{Around, Frame, SelfUse, Stop, World};
-use pan_ast::{Code, Item, Place, Statement, StatementForm, Template, TemplateKind, Work};
+use dml_world::{SelfUse, Stop, World};
+use pan_ast::{Code, Item, Place, Statement, StatementForm, Template, TemplateKind};
 use path_tree::{Name, Tree};
-use std::alloc::Global;
-use std::rc::Rc;
 use std::sync::ledger::Ledger;
 
 /// Whether a statement may stand in a template of a kind.
@@ -66,70 +61,23 @@ fn is_among(name: &str, names: &[Name]) -> bool
     names.iter().any(|other| other.as_str() == name)
 }
 
-/// The template of a name, looked for from a statement.
-#[tactic(auto, using(template_meaning::proofs::Leaving::leaving))]
-pub(crate) fn find_named<W: World, L: Ledger>(
-    alloc: Global,
-    place: &Place,
-    name: &str,
-    site: &Site<'_>,
-    inside: &Inside,
-    program: &Program,
-    world: &mut W,
-    work: &mut Work,
-    steps: &mut Steps<L>,
-) -> Result<Rc<Template>, Stop>
-    ensures gives { Runs (λ t. template_seen t.value) result W.answers (program_of program.now)
-        (meter work.old (W.asked world.old)) (program_of program.now)
-        (meter work.new (W.asked world.new)) (named_in (site_of site.now W.reading W.calls)
-        (inside_of inside.now) place.now name.now) }
-    ensures counted { steps.new + work.new.left ≡ steps.old + work.old.left }
-{
-    let frame = Frame {
-        globals: &program.globals,
-        functions: &program.functions,
-        root: program.profile.root(),
-        object: site.object,
-        template: inside.template.share()?,
-        dirs: site.dirs,
-        max_iteration: site.limits.max_iteration,
-    };
-    let around = Around {
-        frame: &frame,
-        self_use: SelfUse::Changeable,
-        called: None,
-        calls_left: site.limits.max_recursion,
-        includes_left: inside.includes_left,
-    };
-    template_named(alloc, place, name, &around, world, work, steps)
-}
-
 /// The statements of a template, in order, from no prefix on.
 #[cycle(statements)]
 #[tactic(auto, using(crate::proofs::Items::statements_more, template_meaning::proofs::Leaving::leaving), unfolding(template_meaning::specs::Statements::statements_run))]
 pub(crate) fn run_statements<W: World, L: Ledger>(
-    alloc: Global,
     statements: &[Statement],
-    site: &Site<'_>,
-    inside: &Inside,
-    program: &mut Program,
-    world: &mut W,
-    work: &mut Work,
-    steps: &mut Steps<L>,
+    inside: &Inside<'_>,
+    execution: &mut Execution<'_, '_, '_, W, L>,
 ) -> Result<(), Stop>
-    ensures gives { Runs (λ u. u) result W.answers (program_of program.old)
-        (meter work.old (W.asked world.old)) (program_of program.new)
-        (meter work.new (W.asked world.new)) (statements_run
-        (included inside.now.includes_left (site_of site.now W.reading W.calls))
-        (site_of site.now W.reading W.calls) (inside_of inside.now) None
-        (map statement_seen statements.now)) }
-    ensures counted { steps.new + work.new.left ≡ steps.old + work.old.left }
+    ensures gives { Executes (λ u. u) result W.World execution.old execution.new
+        (statements_run (includes_in W.World inside.now) (site_in W.World inside.now)
+        (inside_of inside.now) None (map statement_seen statements.now)) }
+    ensures counted { total execution.new ≡ total execution.old }
+    ensures lent { KeepsLoans execution.old execution.new }
 {
     let mut prefix = None;
     'statements: for statement in statements {
-        prefix = run_statement(
-            alloc, statement, prefix, site, inside, program, world, work, steps,
-        )?;
+        prefix = run_statement(statement, prefix, inside, execution)?;
     }
     Ok(())
 }
@@ -138,65 +86,46 @@ pub(crate) fn run_statements<W: World, L: Ledger>(
 #[cycle(statements)]
 #[tactic(auto, using(template_meaning::proofs::Leaving::leaving), unfolding(template_meaning::specs::Statements::statement_run))]
 fn run_statement<W: World, L: Ledger>(
-    alloc: Global,
     statement: &Statement,
     prefix: Prefix,
-    site: &Site<'_>,
-    inside: &Inside,
-    program: &mut Program,
-    world: &mut W,
-    work: &mut Work,
-    steps: &mut Steps<L>,
+    inside: &Inside<'_>,
+    execution: &mut Execution<'_, '_, '_, W, L>,
 ) -> Result<Prefix, Stop>
-    ensures gives { Runs (λ q. q) result W.answers (program_of program.old)
-        (meter work.old (W.asked world.old)) (program_of program.new)
-        (meter work.new (W.asked world.new)) (statement_run
-        (included inside.now.includes_left (site_of site.now W.reading W.calls))
-        (site_of site.now W.reading W.calls) (inside_of inside.now) prefix
-        (statement_seen statement.now)) }
-    ensures counted { steps.new + work.new.left ≡ steps.old + work.old.left }
+    ensures gives { Executes (λ q. q) result W.World execution.old execution.new
+        (statement_run (includes_in W.World inside.now) (site_in W.World inside.now)
+        (inside_of inside.now) prefix (statement_seen statement.now)) }
+    ensures counted { total execution.new ≡ total execution.old }
+    ensures lent { KeepsLoans execution.old execution.new }
 {
     let place = &statement.place;
-    spend_step(alloc, place, world, work, steps)?;
-    if !may_stand(inside.kind, &statement.form) {
-        return Err(stop_on(alloc, Code::WrongStatement, place, ""));
-    }
-    run_form(
-        alloc,
+    spend_step(
+        execution.alloc,
         place,
-        &statement.form,
-        prefix,
-        site,
-        inside,
-        program,
-        world,
-        work,
-        steps,
-    )
+        &*execution.world,
+        &mut *execution.work,
+        &mut *execution.steps,
+    )?;
+    if !may_stand(inside.kind, &statement.form) {
+        return Err(stop_on(execution.alloc, Code::WrongStatement, place, ""));
+    }
+    run_form(place, &statement.form, prefix, inside, execution)
 }
 
 /// A statement that may stand where it does.
 #[cycle(statements)]
 #[tactic(auto, using(template_meaning::proofs::Leaving::leaving), unfolding(template_meaning::specs::Statements::form_run))]
 fn run_form<W: World, L: Ledger>(
-    alloc: Global,
     place: &Place,
     form: &StatementForm,
     prefix: Prefix,
-    site: &Site<'_>,
-    inside: &Inside,
-    program: &mut Program,
-    world: &mut W,
-    work: &mut Work,
-    steps: &mut Steps<L>,
+    inside: &Inside<'_>,
+    execution: &mut Execution<'_, '_, '_, W, L>,
 ) -> Result<Prefix, Stop>
-    ensures gives { Runs (λ q. q) result W.answers (program_of program.old)
-        (meter work.old (W.asked world.old)) (program_of program.new)
-        (meter work.new (W.asked world.new)) (form_run
-        (included inside.now.includes_left (site_of site.now W.reading W.calls))
-        (site_of site.now W.reading W.calls) (inside_of inside.now) prefix place.now
-        (form_seen form.now)) }
-    ensures counted { steps.new + work.new.left ≡ steps.old + work.old.left }
+    ensures gives { Executes (λ q. q) result W.World execution.old execution.new
+        (form_run (includes_in W.World inside.now) (site_in W.World inside.now)
+        (inside_of inside.now) prefix place.now (form_seen form.now)) }
+    ensures counted { total execution.new ≡ total execution.old }
+    ensures lent { KeepsLoans execution.old execution.new }
 {
     match form {
         StatementForm::Assign {
@@ -205,16 +134,8 @@ fn run_form<W: World, L: Ledger>(
             conditional,
             item,
         } => {
-            let assignment = Assignment {
-                place,
-                last: *last,
-                path,
-                conditional: *conditional,
-                item,
-            };
-            assign(
-                alloc, assignment, &prefix, site, inside, program, world, work, steps,
-            )?;
+            let assignment = Assignment::new(place, *last, path, *conditional, item);
+            assign(assignment, &prefix, inside, execution)?;
         }
         StatementForm::Variable {
             last,
@@ -222,33 +143,19 @@ fn run_form<W: World, L: Ledger>(
             conditional,
             item,
         } => {
-            let variable = Variable {
-                place,
-                last: *last,
-                name,
-                conditional: *conditional,
-                item,
-            };
-            run_variable(alloc, variable, site, inside, program, world, work, steps)?;
+            let variable = Variable::new(place, *last, name, *conditional, item);
+            run_variable(variable, inside, execution)?;
         }
         StatementForm::Function { name, body } => define_function(
-            alloc, place, name, body, site, program, world, work,
+            place, name, body, inside, execution,
         )?,
-        StatementForm::Define { name, full } => define_type(
-            alloc, place, name, full, site, inside, program, world, work, steps,
-        )?,
-        StatementForm::Bind { path, full } => bind(
-            alloc, place, path, full, &prefix, site, inside, program, world, work, steps,
-        )?,
+        StatementForm::Define { name, full } => define_type(place, name, full, inside, execution)?,
+        StatementForm::Bind { path, full } => bind(place, path, full, &prefix, inside, execution)?,
         StatementForm::Valid { path, body } => add_valid(
-            alloc, place, path, body, &prefix, inside, program, world, work,
+            place, path, body, &prefix, inside, execution,
         )?,
-        StatementForm::Include { item } => run_include(
-            alloc, place, item, site, inside, program, world, work, steps,
-        )?,
-        StatementForm::Prefix { path } => {
-            return run_prefix(alloc, place, path, program, world, work);
-        }
+        StatementForm::Include { item } => run_include(place, item, inside, execution)?,
+        StatementForm::Prefix { path } => return run_prefix(place, path, execution),
     }
     Ok(prefix)
 }
@@ -257,69 +164,41 @@ fn run_form<W: World, L: Ledger>(
 #[cycle(statements)]
 #[tactic(auto, using(template_meaning::proofs::Leaving::leaving), unfolding(template_meaning::specs::Statements::include_run))]
 fn run_include<W: World, L: Ledger>(
-    alloc: Global,
     place: &Place,
     item: &Item,
-    site: &Site<'_>,
-    inside: &Inside,
-    program: &mut Program,
-    world: &mut W,
-    work: &mut Work,
-    steps: &mut Steps<L>,
+    inside: &Inside<'_>,
+    execution: &mut Execution<'_, '_, '_, W, L>,
 ) -> Result<(), Stop>
-    ensures gives { Runs (λ u. u) result W.answers (program_of program.old)
-        (meter work.old (W.asked world.old)) (program_of program.new)
-        (meter work.new (W.asked world.new)) (include_run
-        (included inside.now.includes_left (site_of site.now W.reading W.calls))
-        (site_of site.now W.reading W.calls) (inside_of inside.now) place.now
-        (item_seen item.now)) }
-    ensures counted { steps.new + work.new.left ≡ steps.old + work.old.left }
+    ensures gives { Executes (λ u. u) result W.World execution.old execution.new
+        (include_run (includes_in W.World inside.now) (site_in W.World inside.now)
+        (inside_of inside.now) place.now (item_seen item.now)) }
+    ensures counted { total execution.new ≡ total execution.old }
+    ensures lent { KeepsLoans execution.old execution.new }
 {
-    let value = run_in(
-        alloc,
-        item,
-        SelfUse::Fixed,
-        Tree::undef(),
-        site,
-        inside,
-        program,
-        world,
-        work,
-        steps,
-    )?;
-    include_value(
-        alloc, place, &value, site, inside, program, world, work, steps,
-    )
+    let value = run_in(item, SelfUse::Fixed, Tree::undef(), inside, execution)?;
+    include_value(place, &value, inside, execution)
 }
 
 /// Includes the template that a value names; undef and null include nothing.
 #[cycle(statements)]
 fn include_value<W: World, L: Ledger>(
-    alloc: Global,
     place: &Place,
     value: &Tree,
-    site: &Site<'_>,
-    inside: &Inside,
-    program: &mut Program,
-    world: &mut W,
-    work: &mut Work,
-    steps: &mut Steps<L>,
+    inside: &Inside<'_>,
+    execution: &mut Execution<'_, '_, '_, W, L>,
 ) -> Result<(), Stop>
-    ensures gives { Runs (λ u. u) result W.answers (program_of program.old)
-        (meter work.old (W.asked world.old)) (program_of program.new)
-        (meter work.new (W.asked world.new)) (include_value
-        (included inside.now.includes_left (site_of site.now W.reading W.calls))
-        (inside_of inside.now) place.now value.now) }
-    ensures counted { steps.new + work.new.left ≡ steps.old + work.old.left }
+    ensures gives { Executes (λ u. u) result W.World execution.old execution.new
+        (include_value (includes_in W.World inside.now) (inside_of inside.now) place.now
+        value.now) }
+    ensures counted { total execution.new ≡ total execution.old }
+    ensures lent { KeepsLoans execution.old execution.new }
 {
     if let Some(name) = value.as_text() {
-        let end = include(
-            alloc, place, name, site, inside, program, world, work, steps,
-        );
-        return passed(place, end, world);
+        let end = include(place, name, inside, execution);
+        return passed(place, end, &*execution.world);
     }
     if passes(Test::Defined, value.kind()) {
-        return Err(stop_on(alloc, Code::BadArgument, place, ""));
+        return Err(stop_on(execution.alloc, Code::BadArgument, place, ""));
     }
     Ok(())
 }
@@ -328,52 +207,41 @@ fn include_value<W: World, L: Ledger>(
 #[cycle(statements)]
 #[tactic(auto, using(crate::proofs::Items::included_more, template_meaning::proofs::Leaving::leaving), unfolding(template_meaning::specs::Statements::included))]
 fn include<W: World, L: Ledger>(
-    alloc: Global,
     place: &Place,
     name: &str,
-    site: &Site<'_>,
-    inside: &Inside,
-    program: &mut Program,
-    world: &mut W,
-    work: &mut Work,
-    steps: &mut Steps<L>,
+    inside: &Inside<'_>,
+    execution: &mut Execution<'_, '_, '_, W, L>,
 ) -> Result<(), Stop>
-    ensures gives { Runs (λ u. u) result W.answers (program_of program.old)
-        (meter work.old (W.asked world.old)) (program_of program.new)
-        (meter work.new (W.asked world.new)) (included inside.now.includes_left
-        (site_of site.now W.reading W.calls) (inside_of inside.now) place.now name.now) }
-    ensures counted { steps.new + work.new.left ≡ steps.old + work.old.left }
+    ensures gives { Executes (λ u. u) result W.World execution.old execution.new
+        (includes_in W.World inside.now (inside_of inside.now) place.now name.now) }
+    ensures counted { total execution.new ≡ total execution.old }
+    ensures lent { KeepsLoans execution.old execution.new }
 {
     if inside.includes_left == 0 {
-        return Err(stop_on(alloc, Code::IncludeDepth, place, ""));
+        return Err(stop_on(execution.alloc, Code::IncludeDepth, place, ""));
     }
-    let template = find_named(
-        alloc, place, name, site, inside, program, world, work, steps,
-    )?;
-    run_template(
-        alloc, place, name, &template, site, inside, program, world, work, steps,
-    )
+    let template = find_named(place, name, inside, execution)?;
+    run_template(place, name, &template, inside, execution)
 }
 
 /// Whether a template runs now; one of a kind that runs once is marked as run.
 #[tactic(auto, using(template_meaning::proofs::Leaving::leaving), unfolding(template_meaning::specs::Statements::starts))]
-fn starts<W: World>(
+fn starts<W: World, L: Ledger>(
     template: &Template,
-    program: &mut Program,
-    world: &W,
-    work: &Work,
+    execution: &mut Execution<'_, '_, '_, W, L>,
 ) -> Result<bool, Stop>
-    ensures { Runs (λ b. b) result W.answers (program_of program.old)
-        (meter work.now (W.asked world.now)) (program_of program.new)
-        (meter work.now (W.asked world.now)) (starts template.now.kind template.now.name) }
+    ensures gives { Executes (λ b. b) result W.World execution.old execution.new
+        (starts template.now.kind template.now.name) }
+    ensures counted { total execution.new ≡ total execution.old }
+    ensures lent { KeepsLoans execution.old execution.new }
 {
     if !runs_once(template.kind) {
         return Ok(true);
     }
-    if is_among(template.name.as_str(), &program.ran) {
+    if is_among(template.name.as_str(), &execution.program.ran) {
         return Ok(false);
     }
-    program.ran.push(template.name.share()?)?;
+    execution.program.ran.push(template.name.share()?)?;
     Ok(true)
 }
 
@@ -381,45 +249,31 @@ fn starts<W: World>(
 #[cycle(statements)]
 #[tactic(auto, using(template_meaning::proofs::Leaving::leaving), unfolding(template_meaning::specs::Statements::template_run))]
 fn run_template<W: World, L: Ledger>(
-    alloc: Global,
     place: &Place,
     name: &str,
     template: &Template,
-    site: &Site<'_>,
-    inside: &Inside,
-    program: &mut Program,
-    world: &mut W,
-    work: &mut Work,
-    steps: &mut Steps<L>,
+    inside: &Inside<'_>,
+    execution: &mut Execution<'_, '_, '_, W, L>,
 ) -> Result<(), Stop>
     requires open { 0 < inside.now.includes_left }
-    ensures gives { Runs (λ u. u) result W.answers (program_of program.old)
-        (meter work.old (W.asked world.old)) (program_of program.new)
-        (meter work.new (W.asked world.new)) (template_run
-        (included (inside.now.includes_left - 1) (site_of site.now W.reading W.calls))
-        (site_of site.now W.reading W.calls) (inside_of inside.now) place.now name.now
+    ensures gives { Executes (λ u. u) result W.World execution.old execution.new
+        (template_run (included (inside.now.includes_left - 1) (site_in W.World inside.now))
+        (site_in W.World inside.now) (inside_of inside.now) place.now name.now
         (template_seen template.now)) }
-    ensures counted { steps.new + work.new.left ≡ steps.old + work.old.left }
+    ensures counted { total execution.new ≡ total execution.old }
+    ensures lent { KeepsLoans execution.old execution.new }
 {
     if !may_include(inside.kind, template.kind) {
-        return Err(stop_on(alloc, Code::WrongKind, place, name));
+        return Err(stop_on(execution.alloc, Code::WrongKind, place, name));
     }
-    if !starts(template, program, world, work)? {
+    if !starts(template, execution)? {
         return Ok(());
     }
     let within = Inside {
+        site: inside.site,
         kind: template.kind,
         template: template.name.share()?,
         includes_left: inside.includes_left - 1,
     };
-    run_statements(
-        alloc,
-        &template.statements,
-        site,
-        &within,
-        program,
-        world,
-        work,
-        steps,
-    )
+    run_statements(&template.statements, &within, execution)
 }

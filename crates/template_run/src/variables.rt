@@ -1,26 +1,26 @@
-ghost use Rattle.std.specs.Prelude.{◌≡◌, ◌+◌, IfOk, true};
+ghost use Rattle.std.specs.Prelude.{◌≡◌, IfOk, true};
 ghost use Rattle.std.specs.List.{list_all};
 ghost use Rattle.dml_meaning.specs.Around.{found};
 ghost use Rattle.dml_meaning.specs.Values.{is_list};
 ghost use Rattle.path_tree.specs.Find.{child_at};
 ghost use Rattle.template_run.specs.Prefixes.{prefix_at};
 ghost use Rattle.assign_rules.specs.Profiles.{is_value};
-ghost use Rattle.dml_world.specs.Seen.{meter};
 ghost use Rattle.pan_ast.specs.Seen.{item_seen};
 ghost use Rattle.template_meaning.specs.Statements.{is_load_path, is_prefix, list_items, is_value_for, present_global, set_run, variable_run, variable_value};
+ghost use Rattle.template_run.specs.Executions.{Executes, KeepsLoans, total};
 ghost use Rattle.template_run.specs.Refusals.{IsUnset};
-ghost use Rattle.template_run.specs.Runs.{Runs};
-ghost use Rattle.template_run.specs.Seen.{inside_of, program_of, site_of};
+ghost use Rattle.template_run.specs.Seen.{inside_of, program_of, site_in};
 
 use crate::dml::run_in;
+use crate::execution::Execution;
 use crate::program::Program;
-use crate::site::{Inside, Site};
+use crate::site::Inside;
 use assign_rules::SetError;
-use base::{Steps, Text};
+use base::Text;
 use dml_meaning::automatic_name;
 use dml_world::leaf::stop_on;
 use dml_world::{SelfUse, Stop, World};
-use pan_ast::{Code, Item, Place, Work};
+use pan_ast::{Code, Item, Place};
 use path_tree::{Kind, Tree, is_name};
 use std::alloc::{AllocError, Global};
 use std::sync::ledger::Ledger;
@@ -34,6 +34,33 @@ pub(crate) struct Variable<'a> {
     pub name: &'a Text,
     pub conditional: bool,
     pub item: &'a Item,
+}
+
+impl<'a> Variable<'a> {
+    /// A variable statement, of its parts.
+    pub(crate) fn new(
+        place: &'a Place,
+        last: bool,
+        name: &'a Text,
+        conditional: bool,
+        item: &'a Item,
+    ) -> Variable<'a>
+        ensures { result ≡ record {
+          place = place.entry;
+          last = last;
+          name = name.entry;
+          conditional = conditional;
+          item = item.entry;
+        } }
+    {
+        Variable {
+            place,
+            last,
+            name,
+            conditional,
+            item,
+        }
+    }
 }
 
 /// Whether a value is a prefix of LOADPATH: an empty text or a template name.
@@ -103,24 +130,22 @@ fn unset(alloc: Global, place: &Place, name: &Text, error: SetError) -> Stop
 
 /// Sets a variable.
 #[tactic(auto, using(crate::proofs::Refused::unset_comes), unfolding(template_meaning::specs::Statements::set_run))]
-fn set<W: World>(
-    alloc: Global,
+fn set<W: World, L: Ledger>(
     variable: Variable<'_>,
     value: Tree,
-    program: &mut Program,
-    world: &W,
-    work: &Work,
+    execution: &mut Execution<'_, '_, '_, W, L>,
 ) -> Result<(), Stop>
-    ensures { Runs (λ u. u) result W.answers (program_of program.old)
-        (meter work.now (W.asked world.now)) (program_of program.new)
-        (meter work.now (W.asked world.now)) (set_run variable.entry.place.now variable.entry.last
-        variable.entry.name.now value) }
+    ensures gives { Executes (λ u. u) result W.World execution.old execution.new
+        (set_run variable.entry.place.now variable.entry.last variable.entry.name.now value) }
+    ensures counted { total execution.new ≡ total execution.old }
+    ensures lent { KeepsLoans execution.old execution.new }
 {
-    let place = variable.place;
+    let (alloc, place) = (execution.alloc, variable.place);
     if !is_value_for(variable.name, &value) {
         return Err(stop_on(alloc, Code::BadArgument, place, ""));
     }
-    match program.globals.set(variable.name, variable.last, value) {
+    let globals = &mut execution.program.globals;
+    match globals.set(variable.name, variable.last, value) {
         Ok(()) => Ok(()),
         Err(error) => Err(unset(alloc, place, variable.name, error)),
     }
@@ -149,68 +174,48 @@ fn is_set(program: &Program, name: &Text) -> bool
 /// A statement that may set its variable.
 #[tactic(auto, using(template_meaning::proofs::Leaving::leaving), unfolding(template_meaning::specs::Statements::variable_value))]
 fn run_value<W: World, L: Ledger>(
-    alloc: Global,
     variable: Variable<'_>,
-    site: &Site<'_>,
-    inside: &Inside,
-    program: &mut Program,
-    world: &mut W,
-    work: &mut Work,
-    steps: &mut Steps<L>,
+    inside: &Inside<'_>,
+    execution: &mut Execution<'_, '_, '_, W, L>,
 ) -> Result<(), Stop>
-    ensures gives { Runs (λ u. u) result W.answers (program_of program.old)
-        (meter work.old (W.asked world.old)) (program_of program.new)
-        (meter work.new (W.asked world.new)) (variable_value
-        (site_of site.now W.reading W.calls) (inside_of inside.now) variable.entry.place.now
-        variable.entry.last variable.entry.name.now variable.entry.conditional
-        (item_seen variable.entry.item.now)) }
-    ensures counted { steps.new + work.new.left ≡ steps.old + work.old.left }
+    ensures gives { Executes (λ u. u) result W.World execution.old execution.new
+        (variable_value (site_in W.World inside.now) (inside_of inside.now)
+        variable.entry.place.now variable.entry.last variable.entry.name.now
+        variable.entry.conditional (item_seen variable.entry.item.now)) }
+    ensures counted { total execution.new ≡ total execution.old }
+    ensures lent { KeepsLoans execution.old execution.new }
 {
+    let program = &execution.program;
     if variable.conditional && is_set(program, variable.name) {
         return Ok(());
     }
-    let value = run_in(
-        alloc,
-        variable.item,
-        SelfUse::Changeable,
-        present(program, variable.name)?,
-        site,
-        inside,
-        program,
-        world,
-        work,
-        steps,
-    )?;
-    set(alloc, variable, value, program, world, work)
+    let self_value = present(program, variable.name)?;
+    let item = variable.item;
+    let value = run_in(item, SelfUse::Changeable, self_value, inside, execution)?;
+    set(variable, value, execution)
 }
 
 /// A variable statement (Pan Book, "Variables"): whether its name may be set, whether it is set
 /// already, its DML, and the change.
 #[tactic(auto, unfolding(template_meaning::specs::Statements::variable_run))]
 pub(crate) fn run_variable<W: World, L: Ledger>(
-    alloc: Global,
     variable: Variable<'_>,
-    site: &Site<'_>,
-    inside: &Inside,
-    program: &mut Program,
-    world: &mut W,
-    work: &mut Work,
-    steps: &mut Steps<L>,
+    inside: &Inside<'_>,
+    execution: &mut Execution<'_, '_, '_, W, L>,
 ) -> Result<(), Stop>
-    ensures gives { Runs (λ u. u) result W.answers (program_of program.old)
-        (meter work.old (W.asked world.old)) (program_of program.new)
-        (meter work.new (W.asked world.new)) (variable_run
-        (site_of site.now W.reading W.calls) (inside_of inside.now) variable.entry.place.now
-        variable.entry.last variable.entry.name.now variable.entry.conditional
-        (item_seen variable.entry.item.now)) }
-    ensures counted { steps.new + work.new.left ≡ steps.old + work.old.left }
+    ensures gives { Executes (λ u. u) result W.World execution.old execution.new
+        (variable_run (site_in W.World inside.now) (inside_of inside.now)
+        variable.entry.place.now variable.entry.last variable.entry.name.now
+        variable.entry.conditional (item_seen variable.entry.item.now)) }
+    ensures counted { total execution.new ≡ total execution.old }
+    ensures lent { KeepsLoans execution.old execution.new }
 {
-    let (place, name) = (variable.place, variable.name);
-    if automatic_name(name.as_str()).is_some() {
-        return Err(stop_on(alloc, Code::GlobalChange, place, name.as_str()));
+    let (place, name) = (variable.place, variable.name.as_str());
+    if automatic_name(name).is_some() {
+        return Err(stop_on(execution.alloc, Code::GlobalChange, place, name));
     }
-    if !program.globals.may_set(name.as_str()) {
-        return Err(stop_on(alloc, Code::Final, place, name.as_str()));
+    if !execution.program.globals.may_set(name) {
+        return Err(stop_on(execution.alloc, Code::Final, place, name));
     }
-    run_value(alloc, variable, site, inside, program, world, work, steps)
+    run_value(variable, inside, execution)
 }

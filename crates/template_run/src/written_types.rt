@@ -1,23 +1,21 @@
-ghost use Rattle.std.specs.Prelude.{◌≡◌, ◌+◌, ◌++◌, [], OnOk, IfOk, map};
-ghost use Rattle.dml_world.specs.Seen.{meter};
+ghost use Rattle.std.specs.Prelude.{◌≡◌, ◌++◌, [], OnOk, IfOk, map};
 ghost use Rattle.pan_ast.specs.Seen.{item_seen};
 ghost use Rattle.pan_ast.specs.TypesSeen.{field_seen, fields_seen, full_seen, head_seen};
 ghost use Rattle.template_meaning.specs.Statements.{default_run, defaults_run, or_no_type, type_run};
 ghost use Rattle.template_meaning.specs.WrittenDefaults.{defaults_in, field_defaults, fields_defaults, head_defaults};
+ghost use Rattle.template_run.specs.Executions.{Executes, KeepsLoans, total};
 ghost use Rattle.template_run.specs.Refusals.{IsUntyped};
-ghost use Rattle.template_run.specs.Runs.{Runs};
-ghost use Rattle.template_run.specs.Seen.{inside_of, items_at, program_of, site_of};
+ghost use Rattle.template_run.specs.Seen.{inside_of, items_at, site_in};
 ghost use Rattle.type_defs.specs.ResolvedSeen.{resolved_seen};
 ghost use Rattle.type_defs.specs.Resolving.{type_of};
 ghost use Rattle.type_defs.specs.Tables.{known};
 
 use crate::dml::run_in;
-use crate::program::Program;
-use crate::site::{Inside, Site};
-use base::Steps;
+use crate::execution::Execution;
+use crate::site::Inside;
 use dml_world::leaf::stop_on;
 use dml_world::{SelfUse, Stop, World};
-use pan_ast::{Code, Field, FullType, Head, Item, Place, Work};
+use pan_ast::{Code, Field, FullType, Head, Item, Place};
 use path_tree::Tree;
 use std::alloc::{AllocError, Global};
 use std::sync::ledger::Ledger;
@@ -76,35 +74,18 @@ fn push_of_field<'a>(list: &mut Vec<&'a Item>, field: &'a Field) -> Result<(), A
 /// The value of a default, which is not null.
 #[tactic(auto, using(pan_ast::proofs::Places::item_place_seen, template_meaning::proofs::Leaving::leaving), unfolding(template_meaning::specs::Statements::default_run))]
 fn run_default<W: World, L: Ledger>(
-    alloc: Global,
     item: &Item,
-    site: &Site<'_>,
-    inside: &Inside,
-    program: &Program,
-    world: &mut W,
-    work: &mut Work,
-    steps: &mut Steps<L>,
+    inside: &Inside<'_>,
+    execution: &mut Execution<'_, '_, '_, W, L>,
 ) -> Result<Tree, Stop>
-    ensures gives { Runs (λ t. t) result W.answers (program_of program.now)
-        (meter work.old (W.asked world.old)) (program_of program.now)
-        (meter work.new (W.asked world.new)) (default_run (site_of site.now W.reading W.calls)
-        (inside_of inside.now) (item_seen item.now)) }
-    ensures counted { steps.new + work.new.left ≡ steps.old + work.old.left }
+    ensures gives { Executes (λ t. t) result W.World execution.old execution.new
+        (default_run (site_in W.World inside.now) (inside_of inside.now) (item_seen item.now)) }
+    ensures counted { total execution.new ≡ total execution.old }
+    ensures lent { KeepsLoans execution.old execution.new }
 {
-    let value = run_in(
-        alloc,
-        item,
-        SelfUse::Fixed,
-        Tree::undef(),
-        site,
-        inside,
-        program,
-        world,
-        work,
-        steps,
-    )?;
+    let value = run_in(item, SelfUse::Fixed, Tree::undef(), inside, execution)?;
     if value.is_null() {
-        return Err(stop_on(alloc, Code::BadArgument, &item.place, ""));
+        return Err(stop_on(execution.alloc, Code::BadArgument, &item.place, ""));
     }
     Ok(value)
 }
@@ -112,24 +93,19 @@ fn run_default<W: World, L: Ledger>(
 /// The values of defaults, in order.
 #[tactic(auto, using(crate::proofs::Items::defaults_more, template_meaning::proofs::Leaving::leaving), unfolding(template_meaning::specs::Statements::defaults_run))]
 fn run_defaults<W: World, L: Ledger>(
-    alloc: Global,
     items: &[&Item],
-    site: &Site<'_>,
-    inside: &Inside,
-    program: &Program,
-    world: &mut W,
-    work: &mut Work,
-    steps: &mut Steps<L>,
+    inside: &Inside<'_>,
+    execution: &mut Execution<'_, '_, '_, W, L>,
 ) -> Result<Vec<Tree>, Stop>
-    ensures gives { Runs (λ v. v.items) result W.answers (program_of program.now)
-        (meter work.old (W.asked world.old)) (program_of program.now)
-        (meter work.new (W.asked world.new)) (defaults_run (site_of site.now W.reading W.calls)
-        (inside_of inside.now) (items_at items.now) []) }
-    ensures counted { steps.new + work.new.left ≡ steps.old + work.old.left }
+    ensures gives { Executes (λ v. v.items) result W.World execution.old execution.new
+        (defaults_run (site_in W.World inside.now) (inside_of inside.now) (items_at items.now)
+        []) }
+    ensures counted { total execution.new ≡ total execution.old }
+    ensures lent { KeepsLoans execution.old execution.new }
 {
-    let mut values = Vec::new(alloc);
+    let mut values = Vec::new(execution.alloc);
     'items: for item in items {
-        let value = run_default(alloc, item, site, inside, program, world, work, steps)?;
+        let value = run_default(item, inside, execution)?;
         values.push(value)?;
     }
     Ok(values)
@@ -150,25 +126,19 @@ fn untyped(alloc: Global, error: TypeError) -> Stop
 
 /// The type that a written type stands for, with these values of its defaults.
 #[tactic(auto, using(crate::proofs::Refused::untyped_comes))]
-fn resolve<W: World>(
-    alloc: Global,
+fn resolve<W: World, L: Ledger>(
     full: &FullType,
     values: &[Tree],
     place: &Place,
-    inside: &Inside,
-    program: &Program,
-    world: &W,
-    work: &Work,
+    inside: &Inside<'_>,
+    execution: &Execution<'_, '_, '_, W, L>,
 ) -> Result<SharedType, Stop>
-    ensures { Runs resolved_seen result W.answers (program_of program.now)
-        (meter work.now (W.asked world.now)) (program_of program.now)
-        (meter work.now (W.asked world.now)) (or_no_type place.now (type_of
-        (known program.now.types) inside.now.template place.now (full_seen full.now) values.now)) }
+    ensures { Executes resolved_seen result W.World execution.now execution.now
+        (or_no_type place.now (type_of (known execution.now.program.types)
+        inside.now.template place.now (full_seen full.now) values.now)) }
 {
-    match program
-        .types
-        .resolve(alloc, full, values, &inside.template, place)
-    {
+    let (alloc, types) = (execution.alloc, &execution.program.types);
+    match types.resolve(alloc, full, values, &inside.template, place) {
         Ok(resolved) => Ok(resolved),
         Err(error) => Err(untyped(alloc, error)),
     }
@@ -177,24 +147,19 @@ fn resolve<W: World>(
 /// The type of a statement: the values of its defaults (Pan Book, "Types"), and then its names.
 #[tactic(auto, using(template_meaning::proofs::Leaving::leaving), unfolding(template_meaning::specs::Statements::type_run))]
 pub(crate) fn run_type<W: World, L: Ledger>(
-    alloc: Global,
     full: &FullType,
     place: &Place,
-    site: &Site<'_>,
-    inside: &Inside,
-    program: &Program,
-    world: &mut W,
-    work: &mut Work,
-    steps: &mut Steps<L>,
+    inside: &Inside<'_>,
+    execution: &mut Execution<'_, '_, '_, W, L>,
 ) -> Result<SharedType, Stop>
-    ensures gives { Runs resolved_seen result W.answers (program_of program.now)
-        (meter work.old (W.asked world.old)) (program_of program.now)
-        (meter work.new (W.asked world.new)) (type_run (site_of site.now W.reading W.calls)
-        (inside_of inside.now) place.now (full_seen full.now)) }
-    ensures counted { steps.new + work.new.left ≡ steps.old + work.old.left }
+    ensures gives { Executes resolved_seen result W.World execution.old execution.new
+        (type_run (site_in W.World inside.now) (inside_of inside.now) place.now
+        (full_seen full.now)) }
+    ensures counted { total execution.new ≡ total execution.old }
+    ensures lent { KeepsLoans execution.old execution.new }
 {
-    let mut items = Vec::new(alloc);
+    let mut items = Vec::new(execution.alloc);
     push_defaults(&mut items, full)?;
-    let values = run_defaults(alloc, &items, site, inside, program, world, work, steps)?;
-    resolve(alloc, full, &values, place, inside, program, world, work)
+    let values = run_defaults(&items, inside, execution)?;
+    resolve(full, &values, place, inside, execution)
 }

@@ -96,7 +96,8 @@ fn publish_built<R: Runner, H: Shelf, K: Keeper>(
         (compiled_in works.now.engine.core))
         (compiled_in works.now.engine.core) has_faults text.new.items
         (held_of H.Shelf K.Keeper shelf.old carried.old.keeper carried.old.rows)
-        (held_of H.Shelf K.Keeper shelf.new carried.new.keeper carried.new.rows) publisher.old publisher.new) }
+        (held_of H.Shelf K.Keeper shelf.new carried.new.keeper carried.new.rows) publisher.old
+        publisher.new) }
     ensures knows { OnOk result (Knows publisher.new (H.cell shelf.new)) }
     ensures left { IsFaithful R.meaning works.now → OnErr result (StopsPublishing
         (machine_in R.meaning works.now.engine.core)

@@ -17,7 +17,7 @@ use Rattle.dml_eval.proofs.Lists.{for_over, while_over}
 use Rattle.dml_eval.proofs.Owns.{extends, includes_on, statements, tests}
 use Rattle.dml_eval.proofs.Reaching.{reaches}
 use Rattle.dml_eval.proofs.Stopping.{applied_stops, assigned_leaves, block_stops, both_stop, chain_stops, condition_stops, copy_stops, delete_leaves, either_stops, exists_leaves, exists_stops, extended_stops, for_stops, include_stops, included_stops, index_stops, inner_leaves, keys_stop, made_leaves, operand_stops, pair_stops, reached_stops, reference_goes, reference_stops, right_stops, second_stops, sign_stops, spine_stops, start_stops, statements_stop, terms_stop, turn_stops, value_leaves, values_left, values_stop, while_stops, whole_stops}
-use Rattle.dml_eval.proofs.Waits.{resumed_ends, resumed_more, resumed_none, steps_end, steps_more, turns_leave}
+use Rattle.dml_eval.proofs.Waits.{no_operand, resumed_ends, resumed_more, resumed_none, steps_end, steps_more, turns_leave}
 use Rattle.dml_meaning.specs.References.{reference_in}
 use Rattle.dml_meaning.specs.Loops.{pair_at}
 use Rattle.dml_meaning.specs.Meaning.{eval, node_run, second_run, step_run, steps_run}
@@ -130,11 +130,11 @@ built_in::run_change-returns-in_err-value-clause-gives g t c = λ keys.
     (meter_of g.W.World c.open_reference.new.evaluation) in
     grind (arith, stops)
 
-pub chains::start-returns-in_err-value-clause-gives :
-    goal.chains::start-returns-in_err-value-clause-gives
-chains::start-returns-in_err-value-clause-gives g t c = λ keys.
+pub chains::start-returns-in_err-value-in-None-clause-gives :
+    goal.chains::start-returns-in_err-value-in-None-clause-gives
+chains::start-returns-in_err-value-in-None-clause-gives g t c = λ keys.
     let stops = spine_stops (around_in g.W.World c.args.here)
-    g.W.World.plain c.args.here.room c.in_err-value.field-0.0 c.args.chain.place.now
+    g.W.World.plain c.args.here.room c.in_err-value-in-None.field-0.0 c.args.chain.place.now
     (node_seen c.args.chain.first.now) (step_seen c.args.chain.step.now ∷ map step_seen
     c.args.chain.rest.now) (only keys g.W.World.answers) (env_of c.args.evaluation.now)
     (env_of c.run_operand.new.evaluation) (meter_of g.W.World c.args.evaluation.now)
@@ -165,16 +165,16 @@ chains::take_up-returns-in_err-value-in-Deciding-clause-gives g t c = λ keys.
     (meter_of g.W.World c.apply_boolean.new.evaluation) in
     grind (arith, stops)
 
-pub chains::run_binary-returns-in_err-value-clause-gives :
-    goal.chains::run_binary-returns-in_err-value-clause-gives
-chains::run_binary-returns-in_err-value-clause-gives g t c = λ keys.
+pub chains::run_binary-returns-in_err-value-in-None-clause-gives :
+    goal.chains::run_binary-returns-in_err-value-in-None-clause-gives
+chains::run_binary-returns-in_err-value-in-None-clause-gives g t c = λ keys.
     let inner = operand_stops (around_in g.W.World c.args.here)
-    g.W.World.plain c.args.here.room c.in_err-value.field-0.0 c.args.place.now c.args.left c.args.op
+    g.W.World.plain c.args.here.room c.in_err-value-in-None.field-0.0 c.args.place.now c.args.left c.args.op
     (node_seen c.args.right.now) (only keys g.W.World.answers) (env_of c.args.evaluation.now)
     (env_of c.run_operand.new.evaluation) (meter_of g.W.World c.args.evaluation.now)
     (meter_of g.W.World c.run_operand.new.evaluation) in
     let stops = chain_stops (around_in g.W.World c.args.here)
-    g.W.World.plain c.args.here.room c.in_err-value.field-0.0 c.args.place.now
+    g.W.World.plain c.args.here.room c.in_err-value-in-None.field-0.0 c.args.place.now
     (map step_seen c.args.rest.now) (step_run (eval c.args.here.room)
     (around_in g.W.World c.args.here) c.args.place.now c.args.left
     (AtBinary c.args.op (node_seen c.args.right.now))) (only keys g.W.World.answers)
@@ -183,19 +183,19 @@ chains::run_binary-returns-in_err-value-clause-gives g t c = λ keys.
     (meter_of g.W.World c.run_operand.new.evaluation) in
     grind (arith, inner, stops)
 
-pub chains::run_binary-returns-in_err-value-in-Value-clause-gives :
-    goal.chains::run_binary-returns-in_err-value-in-Value-clause-gives
-chains::run_binary-returns-in_err-value-in-Value-clause-gives g t c = λ keys.
+pub chains::run_binary-returns-in_err-joined-in-None-clause-gives :
+    goal.chains::run_binary-returns-in_err-joined-in-None-clause-gives
+chains::run_binary-returns-in_err-joined-in-None-clause-gives g t c = λ keys.
     let inner = applied_stops (around_in g.W.World c.args.here)
-    g.W.World.plain c.args.here.room c.in_err-value-in-Value.field-0.0 c.args.place.now c.args.left
-    c.in-Value.value c.args.op (node_seen c.args.right.now) (only keys g.W.World.answers)
+    g.W.World.plain c.args.here.room c.in_err-joined-in-None.field-0.0 c.args.place.now c.args.left
+    c.in_ok-value-in-None.value c.args.op (node_seen c.args.right.now) (only keys g.W.World.answers)
     (env_of c.args.evaluation.now) (env_of c.run_operand.new.evaluation)
     (env_of c.apply_binary.new.evaluation)
     (meter_of g.W.World c.args.evaluation.now)
     (meter_of g.W.World c.apply_binary.new.evaluation)
     (meter_of g.W.World c.run_operand.new.evaluation) in
     let stops = chain_stops (around_in g.W.World c.args.here)
-    g.W.World.plain c.args.here.room c.in_err-value-in-Value.field-0.0 c.args.place.now
+    g.W.World.plain c.args.here.room c.in_err-joined-in-None.field-0.0 c.args.place.now
     (map step_seen c.args.rest.now) (step_run (eval c.args.here.room)
     (around_in g.W.World c.args.here) c.args.place.now c.args.left
     (AtBinary c.args.op (node_seen c.args.right.now))) (only keys g.W.World.answers)
@@ -250,19 +250,19 @@ chains::run_either-returns-in_err-value-in-Some-true-clause-gives g t c = λ key
     (meter_of g.W.World c.apply_boolean.new.evaluation) in
     grind (arith, same, inner, stops)
 
-pub chains::run_second-returns-in_err-value-in-Value-clause-gives :
-    goal.chains::run_second-returns-in_err-value-in-Value-clause-gives
-chains::run_second-returns-in_err-value-in-Value-clause-gives g t c = λ keys.
+pub chains::run_second-returns-in_err-decided-in-None-clause-gives :
+    goal.chains::run_second-returns-in_err-decided-in-None-clause-gives
+chains::run_second-returns-in_err-decided-in-None-clause-gives g t c = λ keys.
     let inner = second_stops (around_in g.W.World c.args.here)
-    g.W.World.plain c.args.here.room c.in_err-value-in-Value.field-0.0 c.args.place.now
-    c.in-Value.value (node_seen c.args.right.now) (only keys g.W.World.answers)
+    g.W.World.plain c.args.here.room c.in_err-decided-in-None.field-0.0 c.args.place.now
+    c.in_ok-value-in-None.value (node_seen c.args.right.now) (only keys g.W.World.answers)
     (env_of c.args.evaluation.now) (env_of c.run_operand.new.evaluation)
     (env_of c.apply_boolean.new.evaluation)
     (meter_of g.W.World c.args.evaluation.now)
     (meter_of g.W.World c.apply_boolean.new.evaluation)
     (meter_of g.W.World c.run_operand.new.evaluation) in
     let stops = chain_stops (around_in g.W.World c.args.here)
-    g.W.World.plain c.args.here.room c.in_err-value-in-Value.field-0.0 c.args.place.now
+    g.W.World.plain c.args.here.room c.in_err-decided-in-None.field-0.0 c.args.place.now
     (map step_seen c.args.rest.now) (second_run (eval c.args.here.room)
     (around_in g.W.World c.args.here) c.args.place.now
     (node_seen c.args.right.now)) (only keys g.W.World.answers) (env_of c.args.evaluation.now)
@@ -708,3 +708,7 @@ references::reach_from-returns-in_err-push-clause-gives g t c = λ keys.
     let key = c.open_item.ensures.gives keys in
     let here = c.reach_index.ensures.gives keys in
     grind (arith, reaches, leaving, done, key, here)
+
+pub nodes::run_operand-unreachable-requires : goal.nodes::run_operand-unreachable-requires
+nodes::run_operand-unreachable-requires g t c = no_operand c.args.node.now c.in-Spine.field-0
+    c.in-Spine.field-1 c.in-Spine.field-2 c.in-Spine.is c.requires.operand

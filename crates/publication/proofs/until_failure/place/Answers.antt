@@ -1,8 +1,9 @@
-use Rattle.std.proofs.Common.{◌≡◌, ◌+◌, ◌∷◌, ◌++◌, [], None, drop, take, sym, ap, ◌∙◌, arith, rules, IfErr}
-use Rattle.std.specs.Prelude.{flat_map}
+use Rattle.std.proofs.Common.{◌≡◌, ◌+◌, ◌∷◌, ◌++◌, [], None, IfSome, is_some, true, drop, take, sym, ap, subst, ◌∙◌, arith, rules, IfErr}
+use Rattle.std.specs.Prelude.{bytes_eq, flat_map}
+use Rattle.std.specs.HashSet.{contains}
 use Rattle.std.proofs.lemmas.List.{take-append-drop}
 use Rattle.publication.specs.Changing.{putting}
-use Rattle.publication.proofs.Planning.{place_on, did_as, pending_on, puts_next, begun_place, on_err}
+use Rattle.publication.proofs.Planning.{place_on, did_as, pending_on, puts_next, begun_place, on_err, first_wanted, still_absent}
 use Rattle.std.proofs.lemmas.Grind.{common_steps}
 use Rattle.std.proofs.lemmas.Result.{IfErr-weaker}
 use Rattle.publication.specs.Leavings.{IsEndAt}
@@ -12,6 +13,18 @@ use Rattle.publication.specs.OwnNames.{is_own}
 use Rattle.publication.proofs.Shelving.{left_early, placed_keeps, place_step}
 use Rattle.publication.proofs.Proper.{proper_own, proper_rest, proper_once}
 use Rattle.publication.proofs.until_failure.place.Goals as goal
+
+pub bring-requires-clause-absent : goal.bring-requires-clause-absent
+bring-requires-clause-absent g c =
+    let e : drop c.loop-want.want-index c.args.wants.now
+    ≡ c.want-item.result ∷ drop (c.loop-want.want-index + 1) c.args.wants.now =
+    grind (arith, common_steps, c.want-item.is, c.loop-want-test.true) in
+    let here : is_some (wanted (drop c.loop-want.want-index c.args.wants.now)
+    c.want-item.result.name) ≡ true = rw e (ap is_some (first_wanted c.want-item.result
+    (drop (c.loop-want.want-index + 1) c.args.wants.now))) in
+    λ none. subst (λ n. IfSome (g.H.Shelf.cell c.loop-want.shelf n) (λ content. content ≡ None))
+    (sym c.as_str.ensures.text) (c.loop-want.invariant.absent c.want-item.result.name here
+    (sym c.contains-may_stand.ensures ∙ none))
 
 pub returns-in_err-bring-clause-err : goal.returns-in_err-bring-clause-err
 returns-in_err-bring-clause-err g c =
@@ -39,6 +52,10 @@ loop-want-preserved g c =
     record {
       faults = c.in_ok-bring.ensures.cause.done ∙ c.loop-want.invariant.faults;
       opened = c.bring.ensures.opened ∙ c.loop-want.invariant.opened;
+      absent = still_absent (contains bytes_eq c.args.there.now) c.want-item.result
+          (drop (c.loop-want.want-index + 1) c.args.wants.now) _ _ once
+          (rw (c.as_str.ensures.text, c.as_slice.ensures) at c.in_ok-bring.ensures.ok)
+          (rw e at c.loop-want.invariant.absent);
       pending = rw (
         so_far,
         puts_next (g.H.Shelf.cell c.args.shelf.now)

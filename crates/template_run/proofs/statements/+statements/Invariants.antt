@@ -1,9 +1,9 @@
 use Rattle.std.proofs.Common.{◌≡◌, ◌+◌, ◌-◌, ◌*◌, None, drop, map}
 use Rattle.pan_ast.specs.TemplatesSeen.{statement_seen}
 use Rattle.questions.specs.Told.{ToldEnough}
-use Rattle.dml_world.specs.Seen.{meter}
-use Rattle.template_meaning.specs.Statements.{included, statements_run}
-use Rattle.template_run.specs.Seen.{inside_of, program_of, site_of}
+use Rattle.template_meaning.specs.Statements.{statements_run}
+use Rattle.template_run.specs.Executions.{KeepsLoans, meter_of, total}
+use Rattle.template_run.specs.Seen.{includes_in, inside_of, program_of, site_in}
 use Rattle.template_run.proofs.statements.+statements.Given as goal
 
 -- an include leaves one fewer that may be opened; inside one template the rank gets lower
@@ -31,14 +31,16 @@ decreases-run_template g l = (l.inside.now.includes_left - 1) * 10 + 6
 
 abbrev pub invariant-run_statements-statements : goal.invariant-run_statements-statements
 invariant-run_statements-statements g l =
-    let asked = g.W.World.asked in
-    let site = site_of l.site g.W.World.reading g.W.World.calls in
-    let from = statements_run (included l.inside.includes_left site) site (inside_of l.inside) in
+    let M = g.W.World in
+    let now = l.execution in
+    let before = l.fn.execution in
+    let from = statements_run (includes_in M l.inside) (site_in M l.inside) (inside_of l.inside) in
     record {
-      gives : ToldEnough g.W.World.answers (asked l.fn.world) (asked l.world)
+      gives : ToldEnough M.answers (M.asked before.world.now) (M.asked now.world.now)
           (λ told. from l.prefix (map statement_seen (drop l.statement-index l.statements)) told
-          (program_of l.program) (meter l.work (asked l.world))
-          ≡ from None (map statement_seen l.statements) told (program_of l.fn.program)
-          (meter l.fn.work (asked l.fn.world)));
-      counted : l.steps + l.work.left ≡ l.fn.steps + l.fn.work.left;
+          (program_of now.program) (meter_of M now)
+          ≡ from None (map statement_seen l.statements) told (program_of before.program)
+          (meter_of M before));
+      counted : total now ≡ total before;
+      lent : KeepsLoans before now;
     }

@@ -3,18 +3,18 @@ use Rattle.template_meaning.specs.Statements.{set_run}
 use Rattle.template_run.proofs.Refused.{unset_comes}
 use Rattle.template_run.proofs.variables.set.Goals as goal
 
-pub returns-then-not-is_value_for : goal.returns-then-not-is_value_for
+pub returns-then-not-is_value_for-clause-gives : goal.returns-then-not-is_value_for-clause-gives
 unfolding set_run
-returns-then-not-is_value_for g c =
+returns-then-not-is_value_for-clause-gives g c =
     λ keys. (omega arith, λ told. first_of (search rules, grind arith))
 
-pub returns-in-Ok : goal.returns-in-Ok
+pub returns-in-Ok-clause-gives : goal.returns-in-Ok-clause-gives
 unfolding set_run
-returns-in-Ok g c = λ keys. (omega arith, λ told. first_of (search rules, grind arith))
+returns-in-Ok-clause-gives g c = λ keys. (omega arith, λ told. first_of (search rules, grind arith))
 
-pub returns-in-Err : goal.returns-in-Err
+pub returns-in-Err-clause-gives : goal.returns-in-Err-clause-gives
 unfolding set_run
-returns-in-Err g c = λ keys. (
+returns-in-Err-clause-gives g c = λ keys. (
   omega arith,
   λ told. first_of
       (search (rules, unset_comes), grind (arith, unset_comes)),

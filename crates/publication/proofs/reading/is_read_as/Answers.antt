@@ -1,6 +1,6 @@
 use Rattle.std.proofs.Common.{◌+◌, length, refl}
 use Rattle.publication.proofs.Wholes.{whole_cell, exact_cell}
-use Rattle.publication.proofs.reading.holds.Goals as goal
+use Rattle.publication.proofs.reading.is_read_as.Goals as goal
 
 pub returns-in-Ok-true-clause-ok : goal.returns-in-Ok-true-clause-ok
 returns-in-Ok-true-clause-ok g c =

@@ -1,0 +1,90 @@
+use crate::files::file_cause;
+use crate::tokens::{name_cause, syntax_cause};
+use crate::trails::trace_of;
+use crate::values::value_cause;
+use base::{Bytes, Steps};
+use engine_session::Works;
+use fault_notes::{Cause, Explained, fault_in, has_cause, misses_file, object_in};
+use object_run::Library;
+use pan_ast::Code;
+use std::alloc::{AllocError, Global};
+use std::sync::ledger::Ledger;
+
+/// Whether a fault has a code.
+fn is_of(code: Code, fault: &[u8]) -> bool {
+    fault.starts_with(code.text().as_bytes())
+}
+
+/// What is known of what a fault of an object is about, by its code.
+fn cause_by_code<L: Ledger>(
+    alloc: Global,
+    works: &mut Works<Library>,
+    object: &str,
+    fault: &[u8],
+    steps: &mut Steps<L>,
+) -> Result<Cause, AllocError> {
+    if has_cause(fault) {
+        return value_cause(alloc, works, object, fault, steps);
+    }
+    if misses_file(fault) {
+        return file_cause(alloc, works, object, fault);
+    }
+    if is_of(Code::BadSyntax, fault) {
+        return syntax_cause(alloc, works, fault);
+    }
+    if is_of(Code::WrongTemplate, fault) {
+        return name_cause(alloc, works, fault);
+    }
+    Ok(Cause::unknown(alloc))
+}
+
+/// What is known beside its line of a fault of an object.
+fn looked_up<L: Ledger>(
+    alloc: Global,
+    works: &mut Works<Library>,
+    object: &[u8],
+    fault: &[u8],
+    steps: &mut Steps<L>,
+) -> Result<Cause, AllocError> {
+    let Ok(object) = str::from_utf8(object) else {
+        return Ok(Cause::unknown(alloc));
+    };
+    let mut cause = cause_by_code(alloc, works, object, fault, steps)?;
+    if let Ok(trace) = trace_of(alloc, works, object, fault, steps) {
+        cause.trace = trace;
+    }
+    Ok(cause)
+}
+
+/// What is known beside its line of a fault of an object, where memory is ample.
+pub fn cause_in<L: Ledger>(
+    alloc: Global,
+    works: &mut Works<Library>,
+    object: &[u8],
+    fault: &[u8],
+    steps: &mut Steps<L>,
+) -> Cause {
+    match looked_up(alloc, works, object, fault, steps) {
+        Ok(cause) => cause,
+        Err(AllocError) => Cause::unknown(alloc),
+    }
+}
+
+/// The lines of a report that tell a fault, each with what is known beside it.
+pub fn explained<L: Ledger>(
+    alloc: Global,
+    works: &mut Works<Library>,
+    lines: &[Bytes],
+    steps: &mut Steps<L>,
+) -> Result<Vec<Explained>, AllocError> {
+    let mut faults = Vec::new(alloc);
+    for line in lines {
+        let text = line.as_slice();
+        let cause = cause_in(alloc, works, object_in(text), fault_in(text), steps);
+        faults.push(Explained {
+            line: line.share()?,
+            cause,
+        })?;
+    }
+    Ok(faults)
+}

@@ -1,0 +1,74 @@
+use crate::places::{path_in, place_in};
+use base::{Bytes, Seq, Steps};
+use engine_session::Works;
+use fault_causes::{Cause as Known, cause_of};
+use fault_notes::{Cause, Setter, shown_value};
+use object_run::Library;
+use pan_ast::Place;
+use pan_blame::Leaf;
+use path_tree::Path;
+use std::alloc::{AllocError, Global};
+use std::sync::ledger::Ledger;
+use wanted_types::wanted;
+use works_again::push_place;
+
+fn shown(alloc: Global, value: Option<String>) -> Result<Option<Bytes>, AllocError> {
+    match value {
+        Some(text) => Ok(Some(Bytes::from_vec(shown_value(alloc, text.as_str())?)?)),
+        None => Ok(None),
+    }
+}
+
+fn setter_of(alloc: Global, leaf: Option<Leaf>) -> Result<Option<Setter>, AllocError> {
+    let Some(leaf) = leaf else {
+        return Ok(None);
+    };
+    let mut place = Vec::new(alloc);
+    push_place(&mut place, &leaf.place)?;
+    Ok(Some(Setter {
+        place: Bytes::from_vec(place)?,
+        default: leaf.default,
+    }))
+}
+
+/// What is known of the value at a path of an object, for a fault at a place.
+fn cause_at<L: Ledger>(
+    alloc: Global,
+    works: &mut Works<Library>,
+    object: &str,
+    place: &Place,
+    path: &Path,
+    steps: &mut Steps<L>,
+) -> Result<Cause, AllocError> {
+    let terms = path.terms.as_slice();
+    let Some(known) = cause_of(alloc, works, object, terms, steps)? else {
+        return Ok(Cause::unknown(alloc));
+    };
+    let Known {
+        built,
+        value,
+        setter,
+    } = known;
+    let text = wanted(alloc, built.rest.bindings().bounds(), place, terms)?;
+    Ok(Cause {
+        value: shown(alloc, value)?,
+        wanted: Some(Bytes::from_vec(text)?),
+        looked_for: None,
+        set_by: setter_of(alloc, setter)?,
+        trace: Seq::new(alloc),
+    })
+}
+
+/// What is known of the value that a fault of an object is about.
+pub(crate) fn value_cause<L: Ledger>(
+    alloc: Global,
+    works: &mut Works<Library>,
+    object: &str,
+    fault: &[u8],
+    steps: &mut Steps<L>,
+) -> Result<Cause, AllocError> {
+    let (Some(place), Some(path)) = (place_in(alloc, fault)?, path_in(alloc, fault)?) else {
+        return Ok(Cause::unknown(alloc));
+    };
+    cause_at(alloc, works, object, &place, &path, steps)
+}
