@@ -169,8 +169,9 @@ pub chains::run_binary-returns-in_err-value-in-None-clause-gives :
     goal.chains::run_binary-returns-in_err-value-in-None-clause-gives
 chains::run_binary-returns-in_err-value-in-None-clause-gives g t c = λ keys.
     let inner = operand_stops (around_in g.W.World c.args.here)
-    g.W.World.plain c.args.here.room c.in_err-value-in-None.field-0.0 c.args.place.now c.args.left c.args.op
-    (node_seen c.args.right.now) (only keys g.W.World.answers) (env_of c.args.evaluation.now)
+    g.W.World.plain c.args.here.room c.in_err-value-in-None.field-0.0 c.args.place.now
+    c.args.left c.args.op (node_seen c.args.right.now) (only keys g.W.World.answers)
+    (env_of c.args.evaluation.now)
     (env_of c.run_operand.new.evaluation) (meter_of g.W.World c.args.evaluation.now)
     (meter_of g.W.World c.run_operand.new.evaluation) in
     let stops = chain_stops (around_in g.W.World c.args.here)
