@@ -28,16 +28,34 @@ pub enum Call {
 pub fn find(name: &str) -> Option<Call>
     ensures { result ≡ find_of name.now }
 {
-    match name {
-        "match" => Some(Call::Match),
-        "matches" => Some(Call::Matches),
-        "split" => Some(Call::Split),
-        "replace" => Some(Call::Replace),
-        "base64_encode" => Some(Call::Base64Encode),
-        "base64_decode" => Some(Call::Base64Decode),
-        "json_encode" => Some(Call::JsonEncode),
-        "json_decode" => Some(Call::JsonDecode),
-        "digest" => Some(Call::Digest),
+    match *name.as_bytes().first()? {
+        b'b' => match name {
+            "base64_decode" => Some(Call::Base64Decode),
+            "base64_encode" => Some(Call::Base64Encode),
+            _ => None,
+        },
+        b'd' => match name {
+            "digest" => Some(Call::Digest),
+            _ => None,
+        },
+        b'j' => match name {
+            "json_decode" => Some(Call::JsonDecode),
+            "json_encode" => Some(Call::JsonEncode),
+            _ => None,
+        },
+        b'm' => match name {
+            "match" => Some(Call::Match),
+            "matches" => Some(Call::Matches),
+            _ => None,
+        },
+        b'r' => match name {
+            "replace" => Some(Call::Replace),
+            _ => None,
+        },
+        b's' => match name {
+            "split" => Some(Call::Split),
+            _ => None,
+        },
         _ => None,
     }
 }

@@ -1,4 +1,4 @@
-ghost use Rattle.std.specs.Prelude.{◌≡◌, ◌<◌, length};
+ghost use Rattle.std.specs.Prelude.{◌≡◌};
 ghost use Rattle.builtins_tree.specs.Calls.{find_of};
 
 /// A built-in function on trees (Pan Book, "Built-in Functions").
@@ -50,71 +50,63 @@ pub enum Call {
     Index,
 }
 
-/// The same as `find`, of a name of more than six bytes.
-fn find_longer(name: &str) -> Option<Call>
-    requires { 6 < length name.now }
-    ensures { result ≡ find_of name.now }
-{
-    match name.len() {
-        7 => match name {
-            "prepend" => Some(Call::Prepend),
-            "is_long" => Some(Call::IsLong),
-            "is_list" => Some(Call::IsList),
-            "is_dict" => Some(Call::IsDict),
-            "is_null" => Some(Call::IsNull),
-            _ => None,
-        },
-        8 => match name {
-            "is_nlist" => Some(Call::IsNlist),
-            _ => None,
-        },
-        9 => match name {
-            "is_string" => Some(Call::IsString),
-            "is_number" => Some(Call::IsNumber),
-            _ => None,
-        },
-        10 => match name {
-            "is_defined" => Some(Call::IsDefined),
-            "is_boolean" => Some(Call::IsBoolean),
-            _ => None,
-        },
-        11 => match name {
-            "is_property" => Some(Call::IsProperty),
-            "is_resource" => Some(Call::IsResource),
-            _ => None,
-        },
-        _ => None,
-    }
-}
-
 /// The function of a name. `None` exactly where the name is none of theirs.
 pub fn find(name: &str) -> Option<Call>
     ensures { result ≡ find_of name.now }
 {
-    match name.len() {
-        3 => match name {
-            "key" => Some(Call::Key),
+    match *name.as_bytes().first()? {
+        b'a' => match name {
+            "append" => Some(Call::Append),
             _ => None,
         },
-        4 => match name {
-            "list" => Some(Call::List),
+        b'c' => match name {
+            "clone" => Some(Call::Clone),
+            _ => None,
+        },
+        b'd' => match name {
             "dict" => Some(Call::Dict),
             _ => None,
         },
-        5 => match name {
-            "nlist" => Some(Call::Nlist),
-            "merge" => Some(Call::Merge),
-            "clone" => Some(Call::Clone),
+        b'i' => match name {
             "index" => Some(Call::Index),
+            "is_dict" => Some(Call::IsDict),
+            "is_list" => Some(Call::IsList),
+            "is_long" => Some(Call::IsLong),
+            "is_null" => Some(Call::IsNull),
+            "is_nlist" => Some(Call::IsNlist),
+            "is_number" => Some(Call::IsNumber),
+            "is_string" => Some(Call::IsString),
+            "is_boolean" => Some(Call::IsBoolean),
+            "is_defined" => Some(Call::IsDefined),
+            "is_property" => Some(Call::IsProperty),
+            "is_resource" => Some(Call::IsResource),
             _ => None,
         },
-        6 => match name {
-            "append" => Some(Call::Append),
-            "splice" => Some(Call::Splice),
+        b'k' => match name {
+            "key" => Some(Call::Key),
+            _ => None,
+        },
+        b'l' => match name {
+            "list" => Some(Call::List),
             "length" => Some(Call::Length),
             _ => None,
         },
-        7.. => find_longer(name),
+        b'm' => match name {
+            "merge" => Some(Call::Merge),
+            _ => None,
+        },
+        b'n' => match name {
+            "nlist" => Some(Call::Nlist),
+            _ => None,
+        },
+        b'p' => match name {
+            "prepend" => Some(Call::Prepend),
+            _ => None,
+        },
+        b's' => match name {
+            "splice" => Some(Call::Splice),
+            _ => None,
+        },
         _ => None,
     }
 }

@@ -3,7 +3,7 @@
 //! folders of the host. The expected output is written by hand.
 #![tactic(auto)]
 
-ghost use Rattle.std.specs.Prelude.{◌≡◌, ◌<◌, IfOk, IsSome, None, true};
+ghost use Rattle.std.specs.Prelude.{◌≡◌, ◌<◌, IfOk, IsSome, None, OnOk, true};
 ghost use Rattle.outside.specs.Pictures.{are_pictures};
 
 use anyhow::{Result, anyhow};
@@ -16,24 +16,50 @@ use std::alloc::{AllocError, Global};
 use std::io::{ErrorKind, Write};
 use std::{fs, io};
 
-fn pictures(alloc: Global) -> Result<Vec<Seq<MemFile>>, AllocError>
-    ensures { IfOk result (λ pictures. are_pictures pictures.items ≡ true) }
-{
-    let mut first = Vec::new(alloc);
-    first.push(MemFile {
+fn files(alloc: Global) -> Result<Vec<MemFile>, AllocError> {
+    let mut files = Vec::new(alloc);
+    files.push(MemFile {
         name: Text::new(alloc, "a.pan")?,
         content: Some(Bytes::from_slice(alloc, b"object template a;")?),
     })?;
-    first.push(MemFile {
+    files.push(MemFile {
         name: Text::new(alloc, "gone.pan")?,
         content: None,
     })?;
+    Ok(files)
+}
+
+fn pictures(alloc: Global) -> Result<Vec<Seq<MemFile>>, AllocError>
+    ensures { IfOk result (λ pictures. are_pictures pictures.items ≡ true) }
+{
+    let mut first = files(alloc)?;
     if !are_distinct(alloc, &first)? {
         first.clear();
     }
     let mut pictures = Vec::new(alloc);
     pictures.push(Seq::from_vec(first))?;
     Ok(pictures)
+}
+
+fn push_line(text: &mut String, what: &str, bytes: &[u8]) -> Result<(), StoreError> {
+    text.push_str(what)?;
+    text.push_str(str::from_utf8(bytes).unwrap_or("?"))?;
+    text.push('\n')?;
+    Ok(())
+}
+
+// Reads a file, and says what was got of it.
+fn got<S: Source>(source: &mut S, i: usize, bytes: &mut Vec<u8>) -> Result<&'static str, StoreError>
+    requires open { IsSome (S.opened source.old) }
+    requires counted { i < S.count source.old }
+    ensures count { S.count source.new ≡ S.count source.old }
+    ensures opened { S.opened source.new ≡ S.opened source.old }
+{
+    Ok(match source.read(i, bytes)? {
+        Got::Bytes => ": ",
+        Got::Gone => " gone",
+        Got::TooLong => " too long",
+    })
 }
 
 fn describe<S: Source>(source: &mut S, i: usize, text: &mut String) -> Result<(), StoreError>
@@ -44,14 +70,8 @@ fn describe<S: Source>(source: &mut S, i: usize, text: &mut String) -> Result<()
 {
     text.push_str(source.name(i).as_str())?;
     let mut bytes = Vec::new(*text.allocator());
-    text.push_str(match source.read(i, &mut bytes)? {
-        Got::Bytes => ": ",
-        Got::Gone => " gone",
-        Got::TooLong => " too long",
-    })?;
-    text.push_str(str::from_utf8(&bytes).unwrap_or("?"))?;
-    text.push('\n')?;
-    Ok(())
+    let what = got(source, i, &mut bytes)?;
+    push_line(text, what, &bytes)
 }
 
 // Scans a picture of two files, and the empty one after it.
@@ -79,21 +99,55 @@ fn print_seen(rt: &HostRuntime, seen: Result<String, StoreError>, faults: u64) -
     Ok(())
 }
 
+fn print_scanned<S: Source>(rt: &HostRuntime, source: &mut S) -> Result<()>
+    requires { IsSome (S.opened source.old) }
+{
+    print_seen(rt, scanned(rt.alloc(), source), source.faults())
+}
+
+fn open_source<S: Source>(source: &mut S) -> Result<()>
+    requires { S.opened source.old ≡ None }
+    ensures { OnOk result (IsSome (S.opened source.new)) }
+{
+    match source.open_root("site") {
+        Ok(()) => Ok(()),
+        Err(_) => Err(anyhow!("not opened")),
+    }
+}
+
+// Who makes a device owns nothing else, and hands it on: each exit of the
+// function that owns it has to let it go.
+fn print_source<S: Source>(rt: &HostRuntime, source: &mut S) -> Result<()>
+    requires { S.opened source.old ≡ None }
+{
+    open_source(source)?;
+    print_scanned(rt, source)
+}
+
+fn print_source_twice<S: Source>(rt: &HostRuntime, source: &mut S) -> Result<()>
+    requires { S.opened source.old ≡ None }
+{
+    open_source(source)?;
+    print_seen(rt, scanned(rt.alloc(), source), source.faults())?;
+    print_scanned(rt, source)
+}
+
+fn print_sure_source(rt: &HostRuntime) -> Result<()> {
+    let mut source = SureSource::new(rt.alloc(), pictures(rt.alloc())?);
+    print_source(rt, &mut source)
+}
+
+fn print_failing_source(rt: &HostRuntime) -> Result<()> {
+    let failing = vec![in rt.alloc(); 1]?;
+    let mut source = MemSource::new(rt.alloc(), pictures(rt.alloc())?, failing);
+    print_source_twice(rt, &mut source)
+}
+
 fn print_sources(rt: &HostRuntime) -> Result<()> {
-    let alloc = rt.alloc();
     println!(rt; "a source that never fails")?;
-    let mut sure = SureSource::new(alloc, pictures(alloc)?);
-    let Ok(()) = sure.open_root("site") else {
-        return Err(anyhow!("not opened"));
-    };
-    print_seen(rt, scanned(alloc, &mut sure), sure.faults())?;
+    print_sure_source(rt)?;
     println!(rt; "a source of which the second call fails, twice")?;
-    let mut source = MemSource::new(alloc, pictures(alloc)?, vec![in alloc; 1]?);
-    let Ok(()) = source.open_root("site") else {
-        return Err(anyhow!("not opened"));
-    };
-    print_seen(rt, scanned(alloc, &mut source), source.faults())?;
-    print_seen(rt, scanned(alloc, &mut source), source.faults())
+    print_failing_source(rt)
 }
 
 fn read_out<H: Shelf>(shelf: &mut H, name: &str, text: &mut String) -> Result<(), StoreError>
@@ -102,10 +156,7 @@ fn read_out<H: Shelf>(shelf: &mut H, name: &str, text: &mut String) -> Result<()
 {
     let mut bytes = Vec::new(*text.allocator());
     let there = shelf.read(name, 4, &mut bytes)?;
-    text.push_str(if there { "there " } else { "absent " })?;
-    text.push_str(str::from_utf8(&bytes).unwrap_or("?"))?;
-    text.push('\n')?;
-    Ok(())
+    push_line(text, if there { "there " } else { "absent " }, &bytes)
 }
 
 fn push_names<H: Shelf>(shelf: &mut H, text: &mut String) -> Result<(), StoreError>
@@ -138,22 +189,41 @@ fn kept<H: Shelf>(alloc: Global, shelf: &mut H) -> Result<String, StoreError>
     Ok(text)
 }
 
-fn print_shelves(rt: &HostRuntime) -> Result<()> {
-    let alloc = rt.alloc();
-    println!(rt; "a shelf that never fails")?;
-    let mut sure = SureShelf::new(alloc, Vec::new(alloc));
-    let Ok(()) = sure.open_root("out") else {
+// Opens a shelf that is new, and works there.
+fn print_shelf<H: Shelf>(rt: &HostRuntime, shelf: &mut H, root: &str) -> Result<()>
+    requires { H.opened shelf.old ≡ None }
+    ensures { OnOk result (IsSome (H.opened shelf.new)) }
+{
+    let Ok(()) = shelf.open_root(root) else {
         return Err(anyhow!("not opened"));
     };
-    print_seen(rt, kept(alloc, &mut sure), sure.faults())?;
-    println!(rt; "a shelf of which the third call fails, twice")?;
-    let mut shelf = MemShelf::new(alloc, Vec::new(alloc), vec![in alloc; 2]?);
-    let Ok(()) = shelf.open_root("out") else {
-        return Err(anyhow!("not opened"));
-    };
-    print_seen(rt, kept(alloc, &mut shelf), shelf.faults())?;
+    print_seen(rt, kept(rt.alloc(), shelf), shelf.faults())
+}
+
+fn print_sure_shelf(rt: &HostRuntime) -> Result<()> {
+    let mut shelf = SureShelf::new(rt.alloc(), Vec::new(rt.alloc()));
+    print_shelf(rt, &mut shelf, "out")
+}
+
+fn print_shelf_twice(rt: &HostRuntime, shelf: &mut MemShelf) -> Result<()>
+    requires { shelf.old.shelf.root ≡ None }
+{
+    print_shelf(rt, shelf, "out")?;
     println!(rt; "held {}", shelf.held().len())?;
-    print_seen(rt, kept(alloc, &mut shelf), shelf.faults())
+    print_seen(rt, kept(rt.alloc(), shelf), shelf.faults())
+}
+
+fn print_failing_shelf(rt: &HostRuntime) -> Result<()> {
+    let failing = vec![in rt.alloc(); 2]?;
+    let mut shelf = MemShelf::new(rt.alloc(), Vec::new(rt.alloc()), failing);
+    print_shelf_twice(rt, &mut shelf)
+}
+
+fn print_shelves(rt: &HostRuntime) -> Result<()> {
+    println!(rt; "a shelf that never fails")?;
+    print_sure_shelf(rt)?;
+    println!(rt; "a shelf of which the third call fails, twice")?;
+    print_failing_shelf(rt)
 }
 
 fn wrote<S: Sink>(sink: &mut S, bytes: &[u8]) -> &'static str {
@@ -164,20 +234,32 @@ fn wrote<S: Sink>(sink: &mut S, bytes: &[u8]) -> &'static str {
     }
 }
 
-fn print_sinks(rt: &HostRuntime) -> Result<()> {
-    let alloc = rt.alloc();
-    println!(rt; "a sink of which the second write fails")?;
-    let mut sink = MemSink::new(alloc, vec![in alloc; 1]?);
-    for line in ["one\n", "two\n", "three\n"] {
-        println!(rt; "{}", wrote(&mut sink, line.as_bytes()))?;
-    }
+fn print_written<S: Sink>(rt: &HostRuntime, sink: &mut S, text: &str) -> Result<()> {
+    println!(rt; "{}", wrote(sink, text.as_bytes()))?;
+    Ok(())
+}
+
+fn print_failing_sink(rt: &HostRuntime, sink: &mut MemSink) -> Result<()> {
+    print_written(rt, sink, "one\n")?;
+    print_written(rt, sink, "two\n")?;
+    print_written(rt, sink, "three\n")?;
     print!(rt; "{}", str::from_utf8(sink.written())?)?;
     println!(rt; "faults {}", sink.faults())?;
-    println!(rt; "a sink that never fails")?;
-    let mut sure = SureSink::new(alloc);
-    println!(rt; "{}", wrote(&mut sure, b"one\n"))?;
-    print!(rt; "{}", str::from_utf8(sure.written())?)?;
     Ok(())
+}
+
+fn print_sure_sink(rt: &HostRuntime, sink: &mut SureSink) -> Result<()> {
+    print_written(rt, sink, "one\n")?;
+    print!(rt; "{}", str::from_utf8(sink.written())?)?;
+    Ok(())
+}
+
+fn print_sinks(rt: &HostRuntime) -> Result<()> {
+    println!(rt; "a sink of which the second write fails")?;
+    let failing = vec![in rt.alloc(); 1]?;
+    print_failing_sink(rt, &mut MemSink::new(rt.alloc(), failing))?;
+    println!(rt; "a sink that never fails")?;
+    print_sure_sink(rt, &mut SureSink::new(rt.alloc()))
 }
 
 // A writer that takes one byte at a time, and no more than it has room for.
@@ -204,18 +286,26 @@ impl Write for Narrow {
     }
 }
 
+fn print_host_sink<S: Sink>(rt: &HostRuntime, sink: &mut S) -> Result<()> {
+    print_written(rt, sink, "one\n")?;
+    print_written(rt, sink, "two\n")?;
+    println!(rt; "faults {}", sink.faults())?;
+    Ok(())
+}
+
+fn print_through(rt: &HostRuntime, narrow: &mut Narrow) -> Result<()> {
+    print_host_sink(rt, &mut HostSink::new(&mut *narrow, rt.stderr()))?;
+    println!(rt; "{}", str::from_utf8(&narrow.taken)?)?;
+    Ok(())
+}
+
 fn print_narrow(rt: &HostRuntime) -> Result<()> {
     println!(rt; "a sink of the host that takes five bytes")?;
     let mut narrow = Narrow {
         taken: Vec::new(rt.alloc()),
         room: 5,
     };
-    let mut sink = HostSink::new(&mut narrow, rt.stderr());
-    println!(rt; "{}", wrote(&mut sink, b"one\n"))?;
-    println!(rt; "{}", wrote(&mut sink, b"two\n"))?;
-    println!(rt; "faults {}", sink.faults())?;
-    println!(rt; "{}", str::from_utf8(&narrow.taken)?)?;
-    Ok(())
+    print_through(rt, &mut narrow)
 }
 
 // Puts files into folders, and gives the names that are listed.
@@ -232,36 +322,55 @@ fn listed<H: Shelf>(alloc: Global, shelf: &mut H) -> Result<String, StoreError>
     Ok(text)
 }
 
-// Opens a shelf of the host that is new at a folder, and works there.
-fn kept_below(rt: &HostRuntime) -> Result<()> {
-    let mut shelf = HostShelf::new(rt.clone()?, None);
-    let Ok(()) = shelf.open_root("folder/out") else {
+fn print_listed<H: Shelf>(rt: &HostRuntime, shelf: &mut H) -> Result<()>
+    requires { H.opened shelf.old ≡ None }
+{
+    let Ok(()) = shelf.open_root("names") else {
         return Err(anyhow!("not opened"));
     };
-    print_seen(rt, kept(rt.alloc(), &mut shelf), shelf.faults())
+    print_seen(rt, listed(rt.alloc(), shelf), shelf.faults())
+}
+
+fn kept_below(rt: &HostRuntime) -> Result<()> {
+    let mut shelf = HostShelf::new(rt.clone()?, None);
+    print_shelf(rt, &mut shelf, "folder/out")
 }
 
 fn listed_below(rt: &HostRuntime) -> Result<()> {
     let mut shelf = HostShelf::new(rt.clone()?, None);
-    let Ok(()) = shelf.open_root("names") else {
+    print_listed(rt, &mut shelf)
+}
+
+fn print_begun(rt: &HostRuntime, begun: Result<usize, StoreError>, faults: u64) -> Result<()> {
+    println!(rt; "{begun:?}")?;
+    println!(rt; "faults {faults}")?;
+    Ok(())
+}
+
+fn print_found<S: Source>(rt: &HostRuntime, source: &mut S) -> Result<()>
+    requires { S.opened source.old ≡ None }
+{
+    let Ok(()) = source.open_root("folder") else {
         return Err(anyhow!("not opened"));
     };
-    print_seen(rt, listed(rt.alloc(), &mut shelf), shelf.faults())
+    let begun = source.begin_scan();
+    print_begun(rt, begun, source.faults())
 }
 
 // Tries a folder that is missing, and then one that is there.
-fn print_folder(rt: &HostRuntime) -> Result<()> {
-    let mut source = HostSource::new(rt.clone()?);
+fn print_missing<S: Source>(rt: &HostRuntime, source: &mut S) -> Result<()>
+    requires { S.opened source.old ≡ None }
+{
     let Err(error) = source.open_root("folder/missing") else {
         return Err(anyhow!("opened"));
     };
     println!(rt; "{error:?}")?;
-    let Ok(()) = source.open_root("folder") else {
-        return Err(anyhow!("not opened"));
-    };
-    println!(rt; "{:?}", source.begin_scan())?;
-    println!(rt; "faults {}", source.faults())?;
-    Ok(())
+    print_found(rt, source)
+}
+
+fn print_folder(rt: &HostRuntime) -> Result<()> {
+    let mut source = HostSource::new(rt.clone()?);
+    print_missing(rt, &mut source)
 }
 
 fn print_folders(rt: &HostRuntime) -> Result<()> {
@@ -276,16 +385,35 @@ fn print_folders(rt: &HostRuntime) -> Result<()> {
     Ok(())
 }
 
+fn print_reason(rt: &HostRuntime, path: &str, reason: &str) -> Result<()> {
+    println!(rt; "{path}: {reason}")?;
+    Ok(())
+}
+
+fn print_trouble(rt: &HostRuntime, shelf: &HostShelf<HostRuntime>) -> Result<()> {
+    if let Some(trouble) = shelf.trouble() {
+        print_reason(rt, trouble.path.as_str(), trouble.reason.as_str())?;
+    }
+    println!(rt; "faults {}", shelf.faults())?;
+    Ok(())
+}
+
 // Opens a new shelf at this root, and tells how it went.
 fn print_opening(rt: &HostRuntime, root: &str) -> Result<()> {
     let source = Text::new(rt.alloc(), "apart/source")?;
     let mut shelf = HostShelf::new(rt.clone()?, Some(source));
-    println!(rt; "{root} {:?}", shelf.open_root(root))?;
-    if let Some(trouble) = shelf.trouble() {
-        println!(rt; "{}: {}", trouble.path.as_str(), trouble.reason.as_str())?;
-    }
-    println!(rt; "faults {}", shelf.faults())?;
-    Ok(())
+    let opened = shelf.open_root(root);
+    print_opened(rt, &shelf, root, opened)
+}
+
+fn print_opened(
+    rt: &HostRuntime,
+    shelf: &HostShelf<HostRuntime>,
+    root: &str,
+    opened: Result<(), StoreError>,
+) -> Result<()> {
+    println!(rt; "{root} {opened:?}")?;
+    print_trouble(rt, shelf)
 }
 
 // Opens shelves at their source, at a folder that holds it, below it, beside it, and at it by a folder that is made.
@@ -305,20 +433,23 @@ fn print_apart(rt: &HostRuntime) -> Result<()> {
     Ok(())
 }
 
-fn print_kept(rt: &HostRuntime) -> Result<()> {
-    let alloc = rt.alloc();
-    println!(rt; "a sink that keeps what is told of faults")?;
-    let mut sink = KeepingSink::new(alloc, SureSink::new(alloc));
-    for piece in [
-        "run a\nfault a F06 a.pan:1:1\nfau",
-        "lt b F01 b.pan:2:1\nfaults\n",
-    ] {
-        println!(rt; "{}", wrote(&mut sink, piece.as_bytes()))?;
-    }
-    for line in sink.fault_lines() {
+fn print_lines(rt: &HostRuntime, lines: &[Bytes]) -> Result<()> {
+    for line in lines {
         println!(rt; "{}", str::from_utf8(line.as_slice())?)?;
     }
     Ok(())
+}
+
+fn print_keeping(rt: &HostRuntime, sink: &mut KeepingSink<SureSink>) -> Result<()> {
+    print_written(rt, sink, "run a\nfault a F06 a.pan:1:1\nfau")?;
+    print_written(rt, sink, "lt b F01 b.pan:2:1\nfaults\n")?;
+    print_lines(rt, sink.fault_lines())
+}
+
+fn print_kept(rt: &HostRuntime) -> Result<()> {
+    println!(rt; "a sink that keeps what is told of faults")?;
+    let sure = SureSink::new(rt.alloc());
+    print_keeping(rt, &mut KeepingSink::new(rt.alloc(), sure))
 }
 
 fn main(rt: HostRuntime) -> Result<()> {

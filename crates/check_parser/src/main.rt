@@ -5,9 +5,12 @@
 //! The expected output is written by hand from the grammar.
 #![tactic(auto)]
 
-use anyhow::Result;
+ghost use Rattle.std.specs.Prelude.{◌≤◌, length};
+ghost use Rattle.pan_ast.specs.Sorts.{EndsInEnd};
+
+use anyhow::{Result, anyhow};
 use base::Text;
-use pan_ast::Fault;
+use pan_ast::{Fault, Token};
 use pan_lexer::{LexError, lex};
 use pan_parser::{ParseError, parse};
 use std::alloc::Global;
@@ -59,27 +62,47 @@ fn print_fault(rt: &HostRuntime, fault: &Fault) -> Result<()> {
     Ok(())
 }
 
+/// How many statements the tokens have, or their fault.
+fn parsed(alloc: Global, tokens: &[Token]) -> Result<Result<usize, Fault>>
+    requires { EndsInEnd tokens.now }
+{
+    match parse(alloc, tokens) {
+        Ok(template) => Ok(Ok(template.statements.len())),
+        Err(ParseError::Fault(fault)) => Ok(Err(fault)),
+        Err(ParseError::Memory) => Err(anyhow!("memory")),
+    }
+}
+
+/// How many statements a text has, or its fault.
+fn read(alloc: Global, text: &[u8], file: &Text) -> Result<Result<usize, Fault>>
+    requires { length text.now ≤ 1_000_000 }
+{
+    match lex(alloc, text, file) {
+        Ok(tokens) => parsed(alloc, tokens.as_slice()),
+        Err(LexError::Fault(fault)) => Ok(Err(fault)),
+        Err(LexError::Memory) => Err(anyhow!("memory")),
+    }
+}
+
+fn print_read(rt: &HostRuntime, text: &[u8], file: &Text) -> Result<()> {
+    if text.len() > 1_000_000 {
+        println!(rt; "  too long")?;
+        return Ok(());
+    }
+    match read(rt.alloc(), text, file)? {
+        Ok(count) => println!(rt; "  {count}")?,
+        Err(fault) => print_fault(rt, &fault)?,
+    }
+    Ok(())
+}
+
 fn print_line(rt: &HostRuntime, file: &Text, line: &str) -> Result<()> {
     println!(rt; "{}", line)?;
     if line.starts_with('#') {
         return Ok(());
     }
     let text = template_text(rt.alloc(), line)?;
-    if text.len() > 1_000_000 {
-        println!(rt; "  too long")?;
-        return Ok(());
-    }
-    let tokens = match lex(rt.alloc(), &text, file) {
-        Ok(tokens) => tokens,
-        Err(LexError::Fault(fault)) => return print_fault(rt, &fault),
-        Err(LexError::Memory) => return Err(anyhow::anyhow!("memory")),
-    };
-    match parse(rt.alloc(), tokens.as_slice()) {
-        Ok(template) => println!(rt; "  {}", template.statements.len())?,
-        Err(ParseError::Fault(fault)) => print_fault(rt, &fault)?,
-        Err(ParseError::Memory) => return Err(anyhow::anyhow!("memory")),
-    }
-    Ok(())
+    print_read(rt, &text, file)
 }
 
 fn main(rt: HostRuntime) -> Result<()> {

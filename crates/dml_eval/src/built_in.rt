@@ -67,7 +67,7 @@ fn run_evaluated<W: World, L: Ledger>(
     ensures counted { total evaluation.new ≡ total evaluation.old }
     ensures lent { KeepsLoans evaluation.old evaluation.new }
 {
-    let values = open_values(arguments, here, evaluation)?;
+    let values = open_values(Vec::new(evaluation.alloc), arguments, here, evaluation)?;
     run_seen(place, own, values, here.around, evaluation)
 }
 

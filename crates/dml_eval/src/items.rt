@@ -120,21 +120,23 @@ fn run_block<W: World, L: Ledger>(
     Ok(last)
 }
 
-/// The values of items, in order.
+/// The values of items, in order, in `values`.
 #[cycle(eval)]
 #[tactic(auto, using(crate::proofs::Lists::items, dml_meaning::proofs::Leaving::leaving), unfolding(dml_meaning::specs::References::values_from))]
 pub(crate) fn open_values<W: World, L: Ledger>(
+    values: Vec<Tree>,
     items: &[Item],
     here: Here<'_>,
     evaluation: &mut Evaluation<'_, '_, W, L>,
 ) -> Result<Vec<Tree>, Exit>
+    requires empty { values.items ≡ [] }
     ensures gives { Evaluates (λ v. v.items) result W.World evaluation.old evaluation.new
         (values_from (eval here.entry.room) (around_in W.World here.entry)
         (items_seen items.now) []) }
     ensures counted { total evaluation.new ≡ total evaluation.old }
     ensures lent { KeepsLoans evaluation.old evaluation.new }
 {
-    let mut values = Vec::new(evaluation.alloc);
+    let mut values = values;
     'items: for item in items {
         let value = open_item(item, here, evaluation)?;
         values.push(value)?;
@@ -253,7 +255,7 @@ fn run_set<W: World, L: Ledger>(
     if let [] = indexes {
         return run_whole(place, name, right, here, evaluation);
     }
-    let keys = open_values(indexes, here, evaluation)?;
+    let keys = open_values(Vec::new(evaluation.alloc), indexes, here, evaluation)?;
     let value = open_item(right, here, evaluation)?;
     set_value(place, name, &keys, value, evaluation)
 }

@@ -5,6 +5,7 @@ ghost use Rattle.path_tree.specs.declared.operators.BinaryOp.TheVariants as bina
 use path_tree::{BinaryOp, Refused, Tree};
 
 /// An operator of two longs.
+#[inline(always)]
 pub(crate) fn of_longs(op: BinaryOp, x: i64, y: i64) -> Result<Tree, Refused>
     ensures { result ≡ of_longs op x y }
 {

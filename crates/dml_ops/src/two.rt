@@ -12,6 +12,7 @@ use std::alloc::Global;
 /// longs or two booleans; `==` and `!=` two longs, texts or booleans; `< <= > >=` two longs, or two
 /// texts by their bytes. Other operands are `TypeClash`. A number past 64 bits is `Overflow`, a
 /// zero divisor `ZeroDivisor`, and a joined text of over `MAX_TEXT_BYTES` bytes `TooLarge`.
+#[inline(always)]
 pub fn binary(alloc: Global, op: BinaryOp, a: &Tree, b: &Tree) -> Result<Tree, Refused>
     ensures { Gives (λ t. t) refusal result (binary_of op a.now b.now) }
 {
@@ -27,6 +28,7 @@ pub fn binary(alloc: Global, op: BinaryOp, a: &Tree, b: &Tree) -> Result<Tree, R
     Err(Refused::TypeClash)
 }
 
+#[inline(always)]
 fn with_long(op: BinaryOp, x: i64, b: &Tree) -> Result<Tree, Refused>
     ensures { result ≡ with_long op x b.now }
 {

@@ -1,4 +1,4 @@
-ghost use Rattle.std.specs.Prelude.{◌≡◌, ℕ, List, Option, Result, Ok, IfOk, IfErr, OnOk, OnErr, option_map};
+ghost use Rattle.std.specs.Prelude.{◌≡◌, [], ℕ, List, Option, Result, Ok, IfOk, IfErr, OnOk, OnErr, option_map};
 ghost use Rattle.base.specs.Answers.{Gives};
 ghost use Rattle.path_tree.specs.Plain.{Plain};
 ghost use Rattle.path_tree.specs.Refusals.{refusal};
@@ -117,6 +117,11 @@ pub trait World {
     /// The built-in function of values of a name.
     fn find(&self, name: &str) -> Option<Self::Call>
         ensures { option_map call_of result ≡ calls name.now };
+
+    /// Room for the values of arguments, which `call` may keep for a next call.
+    fn room(&mut self, alloc: Global) -> Vec<Tree>
+        ensures empty { result.items ≡ [] }
+        ensures asked { asked self.new ≡ asked self.old };
 
     /// What a built-in function gives of the values of its arguments.
     fn call(

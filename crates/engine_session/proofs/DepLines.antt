@@ -8,7 +8,7 @@ use Rattle.std.proofs.lemmas.List.Folds.{fold-map}
 use Rattle.json_profile.specs.Dependencies.{line_of, with_feed, dep_text_of}
 use Rattle.read_sets.specs.Items.{pairs_of}
 use Rattle.read_sets.specs.declared.trace.Item.{Item}
-use Rattle.engine_session.specs.KeptTexts.{item_line, item_lines, lines_text}
+use Rattle.engine_session.specs.KeptDeps.{item_line, item_lines, lines_text}
 
 lines_read : (items : List Item) → map line_of (pairs_of items) ≡ item_lines items
 lines_read [] = refl

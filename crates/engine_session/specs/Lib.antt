@@ -8,8 +8,9 @@ pub mod Blaming
 pub mod Compiler
 pub mod Untouched
 pub mod Rounds
--- What inner contracts use: what a register tells, and where a session, its engine and its counts
--- stand.
+-- What inner contracts use: what a register tells, where a session, its engine and its counts
+-- stand, and of which trees the texts are that are kept.
 pub mod Registers
-pub mod KeptTexts
+pub mod KeptDeps
 pub mod Standing
+pub mod KeptTexts

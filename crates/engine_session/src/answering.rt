@@ -1,14 +1,17 @@
-ghost use Rattle.std.specs.Prelude.{◌≡◌, ◌++◌, List, ℕ, IfOk, OnOk, Err, codes, cond};
+ghost use Rattle.std.specs.Prelude.{◌≡◌, ◌++◌, List, ℕ, IfOk, OnOk, Err, codes, cond, option_map};
 ghost use Rattle.rebuild.specs.Answers.{seen_why, why_at};
 ghost use Rattle.rebuild.specs.Engines.{situation_of, objects_of};
 ghost use Rattle.engine_laws.specs.Engine.{is_among};
 ghost use Rattle.session.specs.Sessions.{shown_of, deps_of};
 ghost use Rattle.engine_session.specs.Compiler.{outcome_by, cause_text, key_text};
+ghost use Rattle.engine_session.specs.KeptTexts.{AreFaithful, AreTexts};
 ghost use Rattle.engine_session.specs.Standing.{IsFaithful, compiled_in, machine_in};
 
-use crate::kept_texts::{KeptTexts, dep_of};
+use crate::kept_deps::dep_of;
+use crate::kept_texts::{KeptTexts, Numbered};
 use crate::works::Works;
 use base::Bytes;
+use engine_turns::row_in;
 use pan_ast::{Fault, fault_line};
 use questions::Key;
 use rebuild::{Answer, Engine, Why};
@@ -50,6 +53,18 @@ fn fault_outcome(alloc: Global, fault: &Fault) -> Result<Outcome, AllocError>
     Ok(Outcome::Fault(Bytes::from_vec(fault_line(alloc, fault)?)?))
 }
 
+/// The number of an object's last result.
+fn number_of<R: Runner>(engine: &Engine<R>, name: &str) -> Option<u64>
+    ensures { result ≡ option_map (λ last. last.0)
+        ((situation_of engine.now.core).state.last name.now) }
+{
+    let row = row_in(&engine.core().rows, name)?;
+    match &row.last {
+        Some(last) => Some(last.number),
+        None => None,
+    }
+}
+
 /// What is said of a name, and what compiling it gives. A profile's texts are those that are kept, where they are made
 /// of the same.
 pub(crate) fn shown_by<R: Runner>(
@@ -58,9 +73,11 @@ pub(crate) fn shown_by<R: Runner>(
     name: &str,
     texts: &mut KeptTexts,
 ) -> Result<Shown<Outcome>, AllocError>
-    ensures { IsFaithful R.meaning works.now → IfOk result (λ said. said ≡ shown_of
+    ensures said { AreFaithful R.meaning works.now texts.old → IfOk result (λ said. said ≡ shown_of
         (machine_in R.meaning works.now.engine.core) name.now
         (compiled_in works.now.engine.core)) }
+    ensures texts { AreFaithful R.meaning works.now texts.old
+        → OnOk result (AreTexts (situation_of works.now.engine.core) texts.new) }
 {
     match works.engine.answer(name) {
         Answer::Profile(tree) => {
@@ -68,7 +85,11 @@ pub(crate) fn shown_by<R: Runner>(
             let Some(reads) = works.engine.reads(name) else {
                 return Ok(Shown::Pending);
             };
-            Ok(Shown::Settled(texts.outcome(alloc, name, tree, reads)?))
+            let Some(number) = number_of(&works.engine, name) else {
+                return Ok(Shown::Pending);
+            };
+            let made = Numbered { number, tree };
+            Ok(Shown::Settled(texts.outcome(alloc, name, made, reads)?))
         }
         Answer::Fault(fault) => Ok(Shown::Settled(fault_outcome(alloc, fault)?)),
         Answer::Pending => Ok(Shown::Pending),

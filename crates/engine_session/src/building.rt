@@ -1,10 +1,11 @@
 ghost use Rattle.std.specs.Prelude.{◌≡◌, ◌++◌, [], List, ℕ, IfOk, OnOk, true, map};
 ghost use Rattle.engine_turns.specs.States.{pictured};
-ghost use Rattle.rebuild.specs.Engines.{objects_of, turns_left_of};
+ghost use Rattle.rebuild.specs.Engines.{objects_of, situation_of, turns_left_of};
 ghost use Rattle.publication.specs.Wants.{proper, wants_of};
 ghost use Rattle.session.specs.Sessions.{profile_of, profiles_of};
 ghost use Rattle.engine_laws.specs.Engine.{is_among};
 ghost use Rattle.engine_session.specs.Compiler.{answer_name, answer_of, answers_of};
+ghost use Rattle.engine_session.specs.KeptTexts.{AreFaithful, AreTexts};
 ghost use Rattle.engine_session.specs.Standing.{IsFaithful, Gives, compiled_in, machine_in};
 
 use crate::answering::shown_by;
@@ -35,11 +36,14 @@ fn answer<R: Runner>(
 ) -> Result<Answer, AllocError>
     requires settled { turns_left_of works.now.engine.core ≡ 0 }
     requires object { is_among name.now (objects_of works.now.engine.core) ≡ true }
-    ensures answer { IsFaithful R.meaning works.now → IfOk result (λ answer. answer ≡ answer_of
+    ensures answer { AreFaithful R.meaning works.now texts.old
+        → IfOk result (λ answer. answer ≡ answer_of
         (R.meaning works.now.engine.core.dirs works.now.engine.core.limits)
         works.now.engine.core.dirs (pictured works.now.engine.core.files.items)
         (objects_of works.now.engine.core) name.now) }
     ensures name { IfOk result (λ answer. answer.name ≡ name.now) }
+    ensures texts { AreFaithful R.meaning works.now texts.old
+        → OnOk result (AreTexts (situation_of works.now.engine.core) texts.new) }
 {
     match shown_by(alloc, works, name.as_str(), texts)? {
         Shown::Settled(outcome) => Ok(Answer {
@@ -58,12 +62,15 @@ fn answers<R: Runner>(
     texts: &mut KeptTexts,
 ) -> Result<Vec<Answer>, AllocError>
     requires settled { turns_left_of works.now.engine.core ≡ 0 }
-    ensures answers { IsFaithful R.meaning works.now → IfOk result (λ made. made.items ≡ answers_of
+    ensures answers { AreFaithful R.meaning works.now texts.old
+        → IfOk result (λ made. made.items ≡ answers_of
         (R.meaning works.now.engine.core.dirs works.now.engine.core.limits)
         works.now.engine.core.dirs (pictured works.now.engine.core.files.items)
         (objects_of works.now.engine.core)) }
     ensures names { IfOk result
         (λ made. map answer_name made.items ≡ objects_of works.now.engine.core) }
+    ensures texts { AreFaithful R.meaning works.now texts.old
+        → OnOk result (AreTexts (situation_of works.now.engine.core) texts.new) }
 {
     let names = works.engine.objects(alloc)?;
     let mut made = Vec::with_capacity(alloc, names.len())?;
@@ -107,9 +114,11 @@ pub fn build_again<R: Runner>(
     texts: &mut KeptTexts,
 ) -> Result<Built, AllocError>
     requires settled { turns_left_of works.now.engine.core ≡ 0 }
-    ensures gives { IsFaithful R.meaning works.now → IfOk result (λ b. Gives
+    ensures gives { AreFaithful R.meaning works.now texts.old → IfOk result (λ b. Gives
         (machine_in R.meaning works.now.engine.core) (compiled_in works.now.engine.core) b) }
     ensures proper { IfOk result (λ b. proper (wants_of b.profiles.items) ≡ true) }
+    ensures texts { AreFaithful R.meaning works.now texts.old
+        → OnOk result (AreTexts (situation_of works.now.engine.core) texts.new) }
 {
     let answers = answers(alloc, works, texts)?;
     let runs = works.engine.runs(alloc)?;

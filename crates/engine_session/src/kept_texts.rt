@@ -1,60 +1,44 @@
-//! Texts of profiles, each with what it was made of, so that it is made anew only where that has changed.
+//! Texts of profiles, each with the number of the tree that it was made of, so that it is made anew only where that has
+//! changed.
 
-ghost use Rattle.std.specs.Prelude.{◌≡◌, ◌++◌, IfOk, IfSome, Ok, map, true};
+ghost use Rattle.std.specs.Prelude.{◌≡◌, ◌⊎◌, ℕ, [], IfOk, IfSome, OnOk, Ok};
 ghost use Rattle.json_profile.specs.Dependencies.{dep_text_of};
 ghost use Rattle.json_profile.specs.Json.{profile_of};
+ghost use Rattle.path_tree.specs.Plain.{Plain};
 ghost use Rattle.read_sets.specs.Items.{pairs_of};
 ghost use Rattle.engine_session.specs.Compiler.{outcome_by};
-ghost use Rattle.engine_session.specs.KeptTexts.{asked_line, asked_lines, item_line, item_lines, lines_text};
+ghost use Rattle.engine_session.specs.KeptTexts.{IsAdded, Serve};
 
-use crate::works::Works;
+use crate::kept_deps::{Dep, dep_again, dep_of};
 use base::{Bytes, Text};
-use json_profile::{dep_text, profile_text};
-use path_tree::{Name, Tree};
-use questions::Key;
-use read_sets::Item;
+use json_profile::profile_text;
+use path_tree::Tree;
 use rebuild::Reads;
-use runner::Runner;
 use session::Outcome;
 use std::alloc::{AllocError, Global};
 use std::cmp::Ordering;
 use std::mem;
 use std::rc::Rc;
 
-/// What was asked for, as far as a dependency file tells of it.
-#[derive(Drop)]
-pub(crate) enum Asked {
-    File { name: Text, is_there: bool },
-    Object(Name),
+/// A tree, and the number that the engine has given it.
+#[derive(Clone, Copy)]
+pub(crate) struct Numbered<'a> {
+    pub number: u64,
+    pub tree: &'a Tree,
 }
 
-/// The bytes of a profile, and the tree that they are the text of.
-#[derive(Drop)]
-struct Json {
-    tree: Tree,
-    text: Bytes,
-    ghost is: { text ≡ profile_of tree },
-}
-
-/// The bytes of a dependency file, and what was asked for in the build and in the check.
-#[derive(Drop)]
-struct Dep {
-    build: Vec<Asked>,
-    check: Vec<Asked>,
-    text: Bytes,
-    ghost is: { text ≡ lines_text (asked_lines build.items ++ asked_lines check.items) },
-}
-
-/// The two texts of an object.
+/// The two texts of an object, and the number of the tree that its profile was made of.
 #[derive(Drop)]
 struct Entry {
     name: Text,
-    json: Rc<Json>,
+    number: u64,
+    json: Bytes,
     dep: Rc<Dep>,
 }
 
 /// The texts of the profiles of one report, each with what it was made of. While a report is made, those of the last one
-/// serve where they are made of the same; what it did not ask for is dropped at its end.
+/// serve where they are made of the same; what it did not ask for is dropped at its end. A tree that has the number of
+/// before is the tree of before, as the engine gives no number twice: so no tree is kept here, and none compared.
 #[derive(Drop)]
 pub struct KeptTexts {
     entries: Vec<Entry>,
@@ -65,6 +49,13 @@ pub struct KeptTexts {
     are_kept: bool,
 }
 
+/// Where a name stands among entries, and where the next one is looked for.
+#[derive(Clone, Copy)]
+struct Sought {
+    found: Option<usize>,
+    next: usize,
+}
+
 /// The text of a tree.
 fn json_of(alloc: Global, tree: &Tree) -> Result<Bytes, AllocError>
     ensures { IfOk result (λ text. text ≡ profile_of tree.now) }
@@ -72,162 +63,69 @@ fn json_of(alloc: Global, tree: &Tree) -> Result<Bytes, AllocError>
     Bytes::from_vec(profile_text(alloc, tree)?)
 }
 
-/// The text of what an object looked at.
-pub(crate) fn dep_of(alloc: Global, reads: Reads<'_>) -> Result<Bytes, AllocError>
-    ensures { IfOk result (λ text. text ≡ dep_text_of (pairs_of reads.entry.build.now)
-        (pairs_of reads.entry.check.now)) }
-{
-    Bytes::from_vec(dep_text(alloc, reads.build, reads.check)?)
-}
-
-/// What an item asked for.
-fn asked_by(item: &Item) -> Result<Asked, AllocError>
-    ensures { IfOk result (λ asked. asked_line asked ≡ item_line item.now) }
-{
-    match &item.key {
-        Key::File(name) => Ok(Asked::File {
-            name: name.share()?,
-            is_there: item.number > 0,
-        }),
-        Key::Under { object, .. } => Ok(Asked::Object(object.share()?)),
-    }
-}
-
-/// What items asked for.
-fn all_asked(alloc: Global, items: &[Item]) -> Result<Vec<Asked>, AllocError>
-    ensures { IfOk result (λ made. asked_lines made.items ≡ item_lines items.now) }
-{
-    let mut made = Vec::with_capacity(alloc, items.len())?;
-    for item in items {
-        made.push(asked_by(item)?)?;
-    }
-    Ok(made)
-}
-
-/// Whether an item has asked for this.
-fn is_asked(asked: &Asked, item: &Item) -> bool
-    ensures { result ≡ true → asked_line asked.now ≡ item_line item.now }
-{
-    match (asked, &item.key) {
-        (Asked::File { name, is_there }, Key::File(file)) => {
-            *is_there == (item.number > 0) && name.as_str() == file.as_str()
-        }
-        (Asked::Object(name), Key::Under { object, .. }) => name.as_str() == object.as_str(),
-        _ => false,
-    }
-}
-
-/// Whether items have asked for these, in this order.
-fn are_asked(asked: &[Asked], items: &[Item]) -> bool
-    ensures { result ≡ true → asked_lines asked.now ≡ item_lines items.now }
-{
-    if asked.len() != items.len() {
-        return false;
-    }
-    for i in 0..items.len() {
-        if !is_asked(&asked[i], &items[i]) {
-            return false;
-        }
-    }
-    true
-}
-
-impl Json {
-    fn new(alloc: Global, tree: &Tree) -> Result<Rc<Json>, AllocError>
-        ensures { IfOk result (λ json. json.value.text ≡ profile_of tree.now) }
-    {
-        let text = json_of(alloc, tree)?;
-        let tree = tree.copy()?;
-        Ok(Rc::new(alloc, Json { tree, text })?)
-    }
-}
-
-impl Dep {
-    #[tactic(auto, using(crate::proofs::DepLines::dep_by_lines))]
-    fn new(alloc: Global, reads: Reads<'_>) -> Result<Rc<Dep>, AllocError>
-        ensures { IfOk result (λ dep. dep.value.text ≡ dep_text_of
-            (pairs_of reads.entry.build.now) (pairs_of reads.entry.check.now)) }
-    {
-        let text = dep_of(alloc, reads)?;
-        let build = all_asked(alloc, reads.build.items())?;
-        let check = all_asked(alloc, reads.check.items())?;
-        Ok(Rc::new(alloc, Dep { build, check, text })?)
-    }
-
-    /// Whether it was made of this.
-    #[tactic(auto, using(crate::proofs::DepLines::dep_by_lines))]
-    fn is_of(&self, reads: Reads<'_>) -> bool
-        ensures { result ≡ true → self.now.text ≡ dep_text_of
-            (pairs_of reads.entry.build.now) (pairs_of reads.entry.check.now) }
-    {
-        are_asked(&self.build, reads.build.items()) && are_asked(&self.check, reads.check.items())
-    }
-}
-
-/// The text of a tree: that which was made before, where it is the text of the same tree.
-fn json_again(alloc: Global, json: &Rc<Json>, tree: &Tree) -> Result<Rc<Json>, AllocError>
-    ensures { IfOk result (λ json. json.value.text ≡ profile_of tree.now) }
-{
-    if json.tree.same(tree) {
-        return Ok(json.clone()?);
-    }
-    Json::new(alloc, tree)
-}
-
-/// The text of what was read: that which was made before, where the same was asked for.
-fn dep_again(alloc: Global, dep: &Rc<Dep>, reads: Reads<'_>) -> Result<Rc<Dep>, AllocError>
-    ensures { IfOk result (λ dep. dep.value.text ≡ dep_text_of (pairs_of reads.entry.build.now)
-        (pairs_of reads.entry.check.now)) }
-{
-    if dep.is_of(reads) {
-        return Ok(dep.clone()?);
-    }
-    Dep::new(alloc, reads)
-}
-
 impl Entry {
-    fn new(alloc: Global, name: &str, tree: &Tree, reads: Reads<'_>) -> Result<Entry, AllocError>
-        ensures json { IfOk result (λ e. e.json.value.text ≡ profile_of tree.now) }
+    fn new(
+        alloc: Global,
+        name: &str,
+        made: Numbered<'_>,
+        reads: Reads<'_>,
+    ) -> Result<Entry, AllocError>
+        ensures name { IfOk result (λ e. e.name ≡ name.now) }
+        ensures number { IfOk result (λ e. e.number ≡ made.entry.number) }
+        ensures json { IfOk result (λ e. e.json ≡ profile_of made.entry.tree.now) }
         ensures dep { IfOk result (λ e. e.dep.value.text ≡ dep_text_of
             (pairs_of reads.entry.build.now) (pairs_of reads.entry.check.now)) }
     {
         Ok(Entry {
             name: Text::new(alloc, name)?,
-            json: Json::new(alloc, tree)?,
+            number: made.number,
+            json: json_of(alloc, made.tree)?,
             dep: Dep::new(alloc, reads)?,
         })
     }
 
+    /// The profile of a tree: that which was made before, where the tree has the number of before.
+    fn json_again(&self, alloc: Global, made: Numbered<'_>) -> Result<Bytes, AllocError>
+        ensures { (self.now.number ≡ made.entry.number → self.now.json
+            ≡ profile_of made.entry.tree.now)
+            → IfOk result (λ text. text ≡ profile_of made.entry.tree.now) }
+    {
+        if self.number == made.number {
+            return self.json.share();
+        }
+        json_of(alloc, made.tree)
+    }
+
     /// The same with what has changed made anew.
-    fn renewed(&self, alloc: Global, tree: &Tree, reads: Reads<'_>) -> Result<Entry, AllocError>
-        ensures json { IfOk result (λ e. e.json.value.text ≡ profile_of tree.now) }
+    fn renewed(
+        &self,
+        alloc: Global,
+        made: Numbered<'_>,
+        reads: Reads<'_>,
+    ) -> Result<Entry, AllocError>
+        ensures name { IfOk result (λ e. e.name ≡ self.now.name) }
+        ensures number { IfOk result (λ e. e.number ≡ made.entry.number) }
+        ensures json { (self.now.number ≡ made.entry.number → self.now.json
+            ≡ profile_of made.entry.tree.now)
+            → IfOk result (λ e. e.json ≡ profile_of made.entry.tree.now) }
         ensures dep { IfOk result (λ e. e.dep.value.text ≡ dep_text_of
             (pairs_of reads.entry.build.now) (pairs_of reads.entry.check.now)) }
     {
         Ok(Entry {
             name: self.name.share()?,
-            json: json_again(alloc, &self.json, tree)?,
+            number: made.number,
+            json: self.json_again(alloc, made)?,
             dep: dep_again(alloc, &self.dep, reads)?,
         })
     }
 
     fn outcome(&self) -> Result<Outcome, AllocError>
-        ensures { IfOk result (λ o. o ≡ Outcome.Profile self.now.json.value.text
-            self.now.dep.value.text) }
+        ensures { IfOk result (λ o. o ≡ Outcome.Profile self.now.json self.now.dep.value.text) }
     {
         Ok(Outcome::Profile {
-            json: self.json.text.share()?,
+            json: self.json.share()?,
             dep: self.dep.text.share()?,
         })
-    }
-}
-
-/// Whether a name is one of these, which stand in byte order.
-fn is_among(names: &[Name], name: &str) -> bool {
-    let place = names.partition_point(|each| each.as_str() < name);
-    match names.get(place) {
-        Some(there) => there.as_str() == name,
-        None => false,
     }
 }
 
@@ -242,9 +140,50 @@ fn made_outcome(alloc: Global, tree: &Tree, reads: Reads<'_>) -> Result<Outcome,
     })
 }
 
+/// Looks for a name from a place on. Names are asked for in the same order in each report; one that is not is not found.
+fn look_for(entries: &[Entry], from: usize, name: &str) -> Sought {
+    for at in from..entries.len() {
+        match entries[at].name.as_str().cmp(name) {
+            Ordering::Less => {}
+            Ordering::Equal => {
+                return Sought {
+                    found: Some(at),
+                    next: at + 1,
+                };
+            }
+            Ordering::Greater => {
+                return Sought {
+                    found: None,
+                    next: at,
+                };
+            }
+        }
+    }
+    Sought {
+        found: None,
+        next: entries.len(),
+    }
+}
+
+/// The entry at a place, where it is that of the name.
+fn entry_named<'a>(entries: &'a [Entry], at: usize, name: &str) -> Option<&'a Entry>
+    ensures name { IfSome result (λ e. e.now.name ≡ name.now) }
+    ensures serves { (number : ℕ) (tree : Plain) → Serve name.now number tree entries.now
+        → IfSome result (λ e. e.now.number ≡ number → e.now.json ≡ profile_of tree) }
+{
+    let entry = entries.get(at)?;
+    if entry.name.as_str() != name {
+        return None;
+    }
+    Some(entry)
+}
+
 impl KeptTexts {
     /// No texts yet. Those of each report are kept for the next one.
-    pub fn new(alloc: Global) -> KeptTexts {
+    pub fn new(alloc: Global) -> KeptTexts
+        ensures entries { result.entries.items ≡ [] }
+        ensures before { result.before.items ≡ [] }
+    {
         KeptTexts {
             entries: Vec::new(alloc),
             before: Vec::new(alloc),
@@ -254,7 +193,10 @@ impl KeptTexts {
     }
 
     /// For one report: its texts are made and not kept.
-    pub(crate) fn unkept(alloc: Global) -> KeptTexts {
+    pub(crate) fn unkept(alloc: Global) -> KeptTexts
+        ensures entries { result.entries.items ≡ [] }
+        ensures before { result.before.items ≡ [] }
+    {
         KeptTexts {
             entries: Vec::new(alloc),
             before: Vec::new(alloc),
@@ -264,57 +206,31 @@ impl KeptTexts {
     }
 
     /// A report begins.
-    pub(crate) fn begin(&mut self, alloc: Global) {
+    pub(crate) fn begin(&mut self, alloc: Global)
+        ensures before { self.new.before.items ≡ self.old.entries.items }
+        ensures entries { self.new.entries.items ≡ [] }
+    {
         self.before = mem::replace(&mut self.entries, Vec::new(alloc));
         self.place = 0;
     }
 
     /// It ends: what was kept before and was not asked for is dropped.
-    pub(crate) fn end(&mut self, alloc: Global) {
+    pub(crate) fn end(&mut self, alloc: Global)
+        ensures before { self.new.before.items ≡ [] }
+        ensures entries { self.new.entries.items ≡ self.old.entries.items }
+    {
         self.before = Vec::new(alloc);
         self.place = 0;
     }
 
-    /// Drops all.
-    fn clear(&mut self, alloc: Global) {
-        self.entries = Vec::new(alloc);
-        self.before = Vec::new(alloc);
-        self.place = 0;
-    }
-
-    /// Drops the texts of these names, which stand in byte order.
-    fn forget(&mut self, alloc: Global, names: &[Name]) -> Result<(), AllocError> {
-        if names.is_empty() {
-            return Ok(());
-        }
-        let mut kept = Vec::new(alloc);
-        for entry in mem::replace(&mut self.entries, Vec::new(alloc)) {
-            if !is_among(names, entry.name.as_str()) {
-                kept.push(entry)?;
-            }
-        }
-        self.entries = kept;
-        Ok(())
-    }
-
-    /// Where the texts of a name stand among those of the last report, which are passed. Names are asked for in the same
-    /// order in each report; one that is not is not found.
-    fn seek(&mut self, name: &str) -> Option<usize> {
-        for at in self.place..self.before.len() {
-            match self.before[at].name.as_str().cmp(name) {
-                Ordering::Less => {}
-                Ordering::Equal => {
-                    self.place = at + 1;
-                    return Some(at);
-                }
-                Ordering::Greater => {
-                    self.place = at;
-                    return None;
-                }
-            }
-        }
-        self.place = self.before.len();
-        None
+    /// Where the texts of a name stand among those of the last report, which are passed.
+    fn seek(&mut self, name: &str) -> Option<usize>
+        ensures before { self.new.before.items ≡ self.old.before.items }
+        ensures entries { self.new.entries.items ≡ self.old.entries.items }
+    {
+        let sought = look_for(&self.before, self.place, name);
+        self.place = sought.next;
+        sought.found
     }
 
     /// The texts of an object, with what has changed made anew.
@@ -322,19 +238,24 @@ impl KeptTexts {
         &mut self,
         alloc: Global,
         name: &str,
-        tree: &Tree,
+        made: Numbered<'_>,
         reads: Reads<'_>,
     ) -> Result<Entry, AllocError>
-        ensures json { IfOk result (λ e. e.json.value.text ≡ profile_of tree.now) }
+        ensures name { IfOk result (λ e. e.name ≡ name.now) }
+        ensures number { IfOk result (λ e. e.number ≡ made.entry.number) }
+        ensures json { Serve name.now made.entry.number made.entry.tree.now self.old.before.items
+            → IfOk result (λ e. e.json ≡ profile_of made.entry.tree.now) }
         ensures dep { IfOk result (λ e. e.dep.value.text ≡ dep_text_of
             (pairs_of reads.entry.build.now) (pairs_of reads.entry.check.now)) }
+        ensures before { self.new.before.items ≡ self.old.before.items }
+        ensures entries { self.new.entries.items ≡ self.old.entries.items }
     {
         let Some(at) = self.seek(name) else {
-            return Entry::new(alloc, name, tree, reads);
+            return Entry::new(alloc, name, made, reads);
         };
-        match self.before.get(at) {
-            Some(entry) => entry.renewed(alloc, tree, reads),
-            None => Entry::new(alloc, name, tree, reads),
+        match entry_named(&self.before, at, name) {
+            Some(entry) => entry.renewed(alloc, made, reads),
+            None => Entry::new(alloc, name, made, reads),
         }
     }
 
@@ -343,31 +264,24 @@ impl KeptTexts {
         &mut self,
         alloc: Global,
         name: &str,
-        tree: &Tree,
+        made: Numbered<'_>,
         reads: Reads<'_>,
     ) -> Result<Outcome, AllocError>
-        ensures { IfOk result (λ o. o ≡ outcome_by (Ok tree.now) (dep_text_of
-            (pairs_of reads.entry.build.now) (pairs_of reads.entry.check.now))) }
+        ensures outcome { Serve name.now made.entry.number made.entry.tree.now
+            self.old.before.items → IfOk result (λ o. o ≡ outcome_by (Ok made.entry.tree.now)
+            (dep_text_of (pairs_of reads.entry.build.now) (pairs_of reads.entry.check.now))) }
+        ensures before { self.new.before.items ≡ self.old.before.items }
+        ensures entries { Serve name.now made.entry.number made.entry.tree.now
+            self.old.before.items → OnOk result ((self.new.entries.items
+            ≡ self.old.entries.items) ⊎ IsAdded name.now made.entry.number made.entry.tree.now
+            self.old.entries.items self.new.entries.items) }
     {
         if !self.are_kept {
-            return made_outcome(alloc, tree, reads);
+            return made_outcome(alloc, made.tree, reads);
         }
-        let entry = self.entry(alloc, name, tree, reads)?;
+        let entry = self.entry(alloc, name, made, reads)?;
         let outcome = entry.outcome()?;
         self.entries.push(entry)?;
         Ok(outcome)
-    }
-}
-
-/// Drops the texts of objects that the last take may have reached, so that their trees of before need not be held while
-/// they are built anew. Where memory is wanting for that, all are dropped.
-pub fn forget_touched<R: Runner>(alloc: Global, works: &Works<R>, texts: &mut KeptTexts) {
-    match works.engine.touched(alloc) {
-        Ok(names) => {
-            if texts.forget(alloc, &names).is_err() {
-                texts.clear(alloc);
-            }
-        }
-        Err(AllocError) => texts.clear(alloc),
     }
 }

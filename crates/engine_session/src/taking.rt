@@ -4,6 +4,8 @@ ghost use Rattle.pan_ast.specs.declared.work.Limits.{Limits};
 ghost use Rattle.scans.specs.Outcomes.{IsPassed, IsPerhapsPassed};
 ghost use Rattle.session.specs.Sessions.{Next, Done, state_in, scanned};
 ghost use Rattle.engine_session.specs.Compiler.{Compiled, compiler};
+ghost use Rattle.rebuild.specs.Engines.{situation_of};
+ghost use Rattle.engine_session.specs.KeptTexts.{KeepsTrees};
 ghost use Rattle.engine_session.specs.Standing.{IsBegun, IsFaithful, Here, Counts, counts, IsAt, HasSpentAtMost, IsRising, Takes, TakesNext};
 
 use crate::works::Works;
@@ -43,6 +45,9 @@ fn take<R: Runner, L: Ledger>(
         → IfOk result (λ how. how ≡ Took.Taken → IsFaithful R.meaning works.new) }
     ensures still { IsBegun R.meaning works.old → IsBegun R.meaning works.new }
     ensures faithful { IsFaithful R.meaning works.old → IsFaithful R.meaning works.new }
+    ensures trees { IsBegun R.meaning works.old
+        → OnOk result (KeepsTrees (situation_of works.old.engine.core)
+        (situation_of works.new.engine.core)) }
     ensures source { IfOk result (λ how. how ≡ Took.Failed → ⊥) }
     ensures runs { R.runs_of works.new.runner ≡ R.runs_of works.old.runner }
     ensures steps { steps.new ≤ steps.old + length picture }
@@ -80,6 +85,9 @@ pub fn take_next<R: Runner, S: Source, L: Ledger>(
         → IfOk result (λ how. how ≡ Took.Taken → IsFaithful R.meaning works.new) }
     ensures still { IsBegun R.meaning works.old → IsBegun R.meaning works.new }
     ensures faithful { IsFaithful R.meaning works.old → IsFaithful R.meaning works.new }
+    ensures trees { IsBegun R.meaning works.old
+        → OnOk result (KeepsTrees (situation_of works.old.engine.core)
+        (situation_of works.new.engine.core)) }
     ensures runs { R.runs_of works.new.runner ≡ R.runs_of works.old.runner }
     ensures taken { IfOk result (λ how. (how ≡ Took.Failed → ⊥)
         → IsPassed (S.coming source.old) (S.coming source.new)) }

@@ -1,8 +1,9 @@
 ghost use Rattle.std.specs.Prelude.{◌≡◌, ◌≤◌, List, ℕ, IfOk, OnOk, OnErr, true};
 ghost use Rattle.pan_ast.specs.declared.work.Limits.{Limits};
-ghost use Rattle.rebuild.specs.Engines.{turns_left_of};
+ghost use Rattle.rebuild.specs.Engines.{situation_of, turns_left_of};
 ghost use Rattle.session.specs.Sessions.{Next, state_in, worked, with_turns};
 ghost use Rattle.engine_session.specs.Compiler.{Compiled, compiler};
+ghost use Rattle.engine_session.specs.KeptTexts.{KeepsTrees};
 ghost use Rattle.engine_session.specs.Standing.{IsFaithful, Here, Counts, counts, IsAt, HasSpentAtMost, IsRising, MakesTurn, MakesTurns};
 
 use crate::works::Works;
@@ -30,6 +31,9 @@ fn make_turn<R: Runner, L: Ledger>(
         limits) dirs in HasSpentAtMost (worked machine (machine.turn s.engine) s) start
         (counts (R.runs_of works.new.runner) steps.new)) }
     ensures faithful { IsFaithful R.meaning works.old → IsFaithful R.meaning works.new }
+    ensures trees { IsFaithful R.meaning works.old
+        → OnOk result (KeepsTrees (situation_of works.old.engine.core)
+        (situation_of works.new.engine.core)) }
 {
     match works.engine.turn(alloc, &mut works.runner, steps) {
         Ok(_turned) => Ok(true),
@@ -57,6 +61,9 @@ pub fn make_turns<R: Runner, L: Ledger>(
         (state_in (with_turns (compiler (R.meaning dirs limits) dirs) count s next)) start
         (counts (R.runs_of works.new.runner) steps.new)) }
     ensures faithful { IsFaithful R.meaning works.old → IsFaithful R.meaning works.new }
+    ensures trees { IsFaithful R.meaning works.old
+        → OnOk result (KeepsTrees (situation_of works.old.engine.core)
+        (situation_of works.new.engine.core)) }
 {
     for _i in 0..count {
         if !make_turn(alloc, works, steps)? {
@@ -87,6 +94,9 @@ pub fn make_all_turns<R: Runner, L: Ledger>(
         steps.new)) }
     ensures settled { IfOk result (λ all. all ≡ true → turns_left_of works.new.engine.core ≡ 0) }
     ensures faithful { IsFaithful R.meaning works.old → IsFaithful R.meaning works.new }
+    ensures trees { IsFaithful R.meaning works.old
+        → OnOk result (KeepsTrees (situation_of works.old.engine.core)
+        (situation_of works.new.engine.core)) }
 {
     let left = works.engine.turns_left();
     if !make_turns(alloc, works, left, steps)? {

@@ -1,11 +1,13 @@
-ghost use Rattle.std.specs.Prelude.{◌≡◌, IfOk, IsSome, None, option_copied};
+ghost use Rattle.std.specs.Prelude.{◌≡◌, IfOk, IsSome, None, OnOk, Some, option_copied};
+ghost use Rattle.keepers.specs.Keeping.{Lists};
 
 use crate::troubles::Troubles;
 use base::Text;
 use keepers::Keeper;
 use outside::{StoreError, Trouble};
-use sqlite::{Connection, File, FileStore};
+use sqlite::{Alter, Connection, File, FileStore};
 use sqlite_keeper::{Refusal, SqliteKeeper, store_error};
+use std::alloc::Global;
 use stored_rows::StoredRow;
 
 /// A keeper over a file of the host, which is made where it is missing.
@@ -28,17 +30,62 @@ struct OpenFile {
     ghost ready: { IsSome keeper.opened },
 }
 
+/// A keeper over this connection, made ready.
+fn ready_over<S: Alter + Drop>(
+    alloc: Global,
+    connection: Connection<S>,
+    file: &str,
+) -> Result<SqliteKeeper<S>, (StoreError, Refusal)>
+    ensures { IfOk result (λ keeper. IsSome keeper.opened) }
+{
+    let mut keeper = SqliteKeeper::adopt(alloc, connection);
+    match keeper.open_store(file) {
+        Ok(()) => Ok(keeper),
+        Err(error) => Err((error, keeper.refusal())),
+    }
+}
+
+/// Puts a value where none or another one was.
+fn put<T: Drop>(place: &mut Option<T>, value: T)
+    ensures { place.new ≡ Some value }
+{
+    *place = Some(value);
+}
+
+/// Loads the rows; and why that failed, where it did.
+fn load_from<S: Alter + Drop>(
+    keeper: &mut SqliteKeeper<S>,
+    into: &mut Vec<StoredRow>,
+) -> (Result<(), StoreError>, Refusal)
+    requires { IsSome keeper.old.opened }
+    ensures opened { IsSome keeper.new.opened }
+    ensures ok { OnOk result.0 (Lists (λ _. None) into.new.items) }
+{
+    let done = keeper.load(into);
+    (done, keeper.refusal())
+}
+
+/// Replaces rows; and why that failed, where it did.
+fn replace_in<S: Alter + Drop>(
+    keeper: &mut SqliteKeeper<S>,
+    gone: &[Text],
+    rows: &[StoredRow],
+) -> (Result<(), StoreError>, Refusal)
+    requires { IsSome keeper.old.opened }
+    ensures { IsSome keeper.new.opened }
+{
+    let done = keeper.replace(gone, rows);
+    (done, keeper.refusal())
+}
+
 /// Opens the file, and makes the keeper over it ready.
 fn open(rt: &HostRuntime, name: Text) -> Result<OpenFile, (StoreError, Refusal)>
     ensures { IfOk result (λ file. file.name ≡ name) }
 {
     match Connection::open(rt, name.as_str()) {
         Ok(connection) => {
-            let mut keeper = SqliteKeeper::adopt(rt.alloc(), connection);
-            match keeper.open_store(name.as_str()) {
-                Ok(()) => Ok(OpenFile { name, keeper }),
-                Err(error) => Err((error, keeper.refusal())),
-            }
+            let keeper = ready_over(rt.alloc(), connection, name.as_str())?;
+            Ok(OpenFile { name, keeper })
         }
         Err(error) => Err((store_error(&error), Refusal::Database(error))),
     }
@@ -100,7 +147,7 @@ impl Keeper for HostKeeper {
         let name = Text::new(self.rt.alloc(), file)?;
         match open(&self.rt, name) {
             Ok(file) => {
-                self.opened = Some(file);
+                put(&mut self.opened, file);
                 Ok(())
             }
             Err((error, why)) => {
@@ -114,11 +161,10 @@ impl Keeper for HostKeeper {
         let Some(mut file) = self.opened.take() else {
             unreachable!();
         };
-        let done = file.keeper.load(into);
-        let why = file.keeper.refusal();
+        let (done, why) = load_from(&mut file.keeper, into);
         let alloc = self.rt.alloc();
         let judged = self.troubles.judge(alloc, file.name.as_str(), done, why);
-        self.opened = Some(file);
+        put(&mut self.opened, file);
         judged
     }
 
@@ -126,11 +172,10 @@ impl Keeper for HostKeeper {
         let Some(mut file) = self.opened.take() else {
             unreachable!();
         };
-        let done = file.keeper.replace(gone, rows);
-        let why = file.keeper.refusal();
+        let (done, why) = replace_in(&mut file.keeper, gone, rows);
         let alloc = self.rt.alloc();
         let judged = self.troubles.judge(alloc, file.name.as_str(), done, why);
-        self.opened = Some(file);
+        put(&mut self.opened, file);
         judged
     }
 }

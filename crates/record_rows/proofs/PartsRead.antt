@@ -1,15 +1,15 @@
 -- Parts that are read one behind the other.
-use Rattle.std.proofs.Common.{◌≡◌, ℕ, true, false, cond, List, [], ◌∷◌, length, Some, None, refl, sym, ap, ◌∙◌}
+use Rattle.std.proofs.Common.{◌≡◌, ℕ, Bool, true, false, cond, ◌&&◌, List, [], ◌∷◌, length, Some, None, refl, sym, ap, ◌∙◌}
 use Rattle.std.specs.Prelude.{◌==◌}
 use Rattle.std.specs.Int.{w64}
 use Rattle.std.proofs.lemmas.Bool.{eqb-true}
 use Rattle.std.proofs.lemmas.List.{nil_from_length}
 use Rattle.load_path.specs.declared.limits.TheConstants.{MAX_ITERATIONS, MAX_RECURSION}
 use Rattle.record_rows.specs.declared.format.Format.{Format}
-use Rattle.record_rows.specs.Forms.{◌>>=◌, number_at, if_passes, if_ended, whole}
+use Rattle.record_rows.specs.Forms.{◌>>=◌, number_at, pair, if_passes, if_ended, is_empty, whole}
 use Rattle.record_rows.specs.Fields.{Header, built, verdict, trace_in, format_form, counter_number, limit_number, directories, header}
 use Rattle.record_rows.specs.Rows.{ObjectParts, are_object_parts, object_parts}
-use Rattle.record_rows.specs.Reading.{object_with, object_by}
+use Rattle.record_rows.specs.Reading.{object_with, object_by, whole_object}
 
 ended : {X : Type 0} (x : X) (rest : List ℕ) → rest ≡ [] → if_ended (x, rest) ≡ Some x
 ended {X} x rest e = ap (λ r. if_ended (x, r)) e
@@ -30,41 +30,32 @@ pub record ObjectRead (format : Format) (counter : ℕ) (bytes : List ℕ) (p : 
   pub r1 : List ℕ
   pub r2 : List ℕ
   pub r3 : List ℕ
-  pub r4 : List ℕ
   pub number : number_at w64 bytes ≡ Some (p.number, r1)
   pub built_is : built.read r1 ≡ Some (p.built, r2)
   pub build_reads : (trace_in format counter).read r2 ≡ Some (p.build_reads, r3)
-  pub verdict_is : verdict.read r3 ≡ Some (p.verdict, r4)
-  pub check_reads : (trace_in format counter).read r4 ≡ Some (p.check_reads, rest)
+  pub checked : (pair verdict (trace_in format counter)).read r3
+      ≡ Some ((p.verdict, p.check_reads), rest)
 
 object_read : (format : Format) (counter : ℕ) (bytes : List ℕ) (p : ObjectParts) (rest : List ℕ)
     → ObjectRead format counter bytes p rest → (object_parts format counter).read bytes
     ≡ if_passes (are_object_parts counter) (p, rest)
 object_read format counter bytes p rest o =
-    rw (o.number, o.built_is, o.build_reads, o.verdict_is, o.check_reads) refl
+    rw (o.number, o.built_is, o.build_reads, o.checked) refl
 
-pub object_done : (format : Format) (counter : ℕ) (name bytes : List ℕ) (p : ObjectParts)
-    (rest : List ℕ) → ObjectRead format counter bytes p rest → are_object_parts counter p ≡ true
-    → rest ≡ [] → object_by format counter name bytes ≡ Some (object_with name p)
-object_done format counter name bytes p rest o parts e =
-    ap (λ r. (r >>= if_ended) >>= λ q. Some (object_with name q))
-    (object_read format counter bytes p rest o ∙ ap (λ b. cond b (Some (p, rest)) None) parts)
-    ∙ ap (λ r. r >>= λ q. Some (object_with name q)) (ended p rest e)
+if_whole : (name : List ℕ) (p : ObjectParts) (rest : List ℕ) (b : Bool)
+    → (cond b (Some (p, rest)) None >>= if_ended) >>= (λ q. Some (object_with name q))
+    ≡ cond (b && is_empty rest) (Some (object_with name p)) None
+if_whole name p [] true = refl
+if_whole name p (x ∷ xs) true = refl
+if_whole name p rest false = refl
 
-pub object_bad : (format : Format) (counter : ℕ) (name bytes : List ℕ) (p : ObjectParts)
-    (rest : List ℕ) → ObjectRead format counter bytes p rest → are_object_parts counter p ≡ false
-    → object_by format counter name bytes ≡ None
-object_bad format counter name bytes p rest o parts =
+pub object_whole : (format : Format) (counter : ℕ) (name bytes : List ℕ) (p : ObjectParts)
+    (rest : List ℕ) → ObjectRead format counter bytes p rest → object_by format counter name bytes
+    ≡ whole_object counter (object_with name p) rest
+object_whole format counter name bytes p rest o =
     ap (λ r. (r >>= if_ended) >>= λ q. Some (object_with name q))
-    (object_read format counter bytes p rest o ∙ ap (λ b. cond b (Some (p, rest)) None) parts)
-
-pub object_long : (format : Format) (counter : ℕ) (name bytes : List ℕ) (p : ObjectParts)
-    (rest : List ℕ) → ObjectRead format counter bytes p rest → are_object_parts counter p ≡ true
-    → (rest ≡ [] → ⊥) → object_by format counter name bytes ≡ None
-object_long format counter name bytes p rest o parts e =
-    ap (λ r. (r >>= if_ended) >>= λ q. Some (object_with name q))
-    (object_read format counter bytes p rest o ∙ ap (λ b. cond b (Some (p, rest)) None) parts)
-    ∙ ap (λ r. r >>= λ q. Some (object_with name q)) (not_ended p rest e)
+    (object_read format counter bytes p rest o)
+    ∙ if_whole name p rest (are_object_parts counter p)
 
 -- a header's
 pub record HeaderRead (bytes : List ℕ) (h : Header) (rest : List ℕ) : Type 0 where

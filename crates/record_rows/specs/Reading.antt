@@ -1,5 +1,5 @@
 -- Reading rows. Inner contracts use it.
-use Rattle.std.specs.Prelude.{◌≡◌, ℕ, ◌+◌, List, [], ◌∷◌, take, drop, length, position, slice_get, Option, Some, None, Bool, cond, codes, bytes_eq}
+use Rattle.std.specs.Prelude.{◌≡◌, ℕ, ◌+◌, List, [], ◌∷◌, take, drop, length, position, slice_get, Option, Some, None, Bool, ◌&&◌, cond, codes, bytes_eq}
 use Rattle.load_path.specs.FileNames.{is_file_name}
 use Rattle.path_tree.specs.Grammar.{is_name}
 use Rattle.path_tree.specs.Plain.{Plain, dict, Fields}
@@ -19,10 +19,10 @@ use Rattle.stored_rows.specs.declared.row.StoredRow.{StoredRow}
 use Rattle.record_rows.specs.declared.format.Format.{Format}
 use Rattle.record_rows.specs.declared.format.Format.TheVariants.{First, Second, Third}
 use Rattle.record_rows.specs.declared.header.Header.{Header as InMemory}
-use Rattle.record_rows.specs.Forms.{◌>>=◌, IsBytes, whole}
+use Rattle.record_rows.specs.Forms.{◌>>=◌, IsBytes, is_empty, whole}
 use Rattle.record_rows.specs.Trees.{added, fields_at}
 use Rattle.record_rows.specs.Fields.{is_detail, Header, header}
-use Rattle.record_rows.specs.Rows.{FileParts, file_parts, ObjectParts, object_parts, are_in_order, empty}
+use Rattle.record_rows.specs.Rows.{FileParts, file_parts, ObjectParts, object_parts, are_object_parts, parts_of_object, are_in_order, empty}
 
 -- a set has the keys of items, and no other
 abbrev pub HasKeys : {S : Type 0} → HashSet Key S → List Item → Type 0
@@ -86,6 +86,11 @@ object_with name p = record {
 abbrev pub object_by : Format → ℕ → List ℕ → List ℕ → Option KeptObject
 object_by format counter name bytes =
     whole (object_parts format counter) bytes >>= λ p. Some (object_with name p)
+
+-- parts that go together, with nothing behind them
+abbrev pub whole_object : ℕ → KeptObject → List ℕ → Option KeptObject
+whole_object counter object rest =
+    cond (are_object_parts counter (parts_of_object object) && is_empty rest) (Some object) None
 
 abbrev pub object_named : Format → ℕ → List ℕ → List ℕ → Option KeptObject
 object_named format counter bytes name =

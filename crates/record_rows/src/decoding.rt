@@ -5,11 +5,11 @@ ghost use Rattle.kept_state.specs.Stored.{Stored, stored};
 ghost use Rattle.record_rows.specs.Forms.{IsBytes};
 ghost use Rattle.record_rows.specs.Rows.{empty, Give};
 ghost use Rattle.record_rows.specs.Results.{Reads};
-ghost use Rattle.record_rows.specs.Reading.{AreBytes, behind, file_at, object_at, all_at, is_header, given_by, kept_by, objects_left};
+ghost use Rattle.record_rows.specs.Reading.{AreBytes, behind, file_at, object_at, all_at, is_header, given_by, kept_by, kept_with, objects_left, seen_header};
 
 use crate::error::RowsError;
 use crate::format::Format;
-use crate::header::read_header;
+use crate::header::{Header, read_header};
 use crate::order::are_in_order;
 use crate::parts::{read_file, read_object};
 use crate::words::Words;
@@ -128,19 +128,26 @@ fn header_place(rows: &[StoredRow]) -> Option<usize>
     rows.iter().position(|row| row.name.as_str() == "h")
 }
 
+/// The directories where none were given: that of all files.
+fn usual_dirs(alloc: Global) -> Result<Vec<Text>, AllocError>
+    ensures { IfOk result (λ dirs. dirs.items ≡ empty.dirs) }
+{
+    let mut dirs = Vec::new(alloc);
+    dirs.push(Text::new(alloc, "")?)?;
+    Ok(dirs)
+}
+
 /// What is kept where there are no rows.
 fn nothing_kept(alloc: Global) -> Result<Kept, AllocError>
     ensures { IfOk result (λ k. stored k ≡ empty) }
 {
-    let mut dirs = Vec::new(alloc);
-    dirs.push(Text::new(alloc, "")?)?;
     Ok(Kept {
         counter: FIRST_NUMBER,
         limits: Limits {
             max_iteration: DEFAULT_ITERATIONS,
             max_recursion: DEFAULT_RECURSION,
         },
-        dirs,
+        dirs: usual_dirs(alloc)?,
         files: Vec::new(alloc),
         objects: Vec::new(alloc),
     })
@@ -156,14 +163,17 @@ fn objects_left(alloc: Global, format: Format, objects: Vec<KeptObject>) -> Vec<
     }
 }
 
-/// What is kept by rows with their header at a place.
-fn read_around(alloc: Global, rows: &[StoredRow], place: usize) -> Result<Kept, RowsError>
-    requires { place < length rows.now }
-    ensures { Reads stored result (kept_by rows.now place) }
+/// What is kept under a header, by the rows in front of it and those behind it.
+fn read_under(
+    alloc: Global,
+    header: Header,
+    front: &[StoredRow],
+    back: &[StoredRow],
+) -> Result<Kept, RowsError>
+    ensures { Reads stored result (kept_with (seen_header header) front.now back.now) }
 {
-    let header = read_header(alloc, rows[place].bytes.as_slice())?;
-    let files = all_files(alloc, header.counter, &rows[..place])?;
-    let objects = all_objects(alloc, header.format, header.counter, &rows[place + 1..])?;
+    let files = all_files(alloc, header.counter, front)?;
+    let objects = all_objects(alloc, header.format, header.counter, back)?;
     if !are_in_order(alloc, &files, &objects)? {
         return Err(RowsError::BadRows);
     }
@@ -174,6 +184,15 @@ fn read_around(alloc: Global, rows: &[StoredRow], place: usize) -> Result<Kept, 
         files,
         objects: objects_left(alloc, header.format, objects),
     })
+}
+
+/// What is kept by rows with their header at a place.
+fn read_around(alloc: Global, rows: &[StoredRow], place: usize) -> Result<Kept, RowsError>
+    requires { place < length rows.now }
+    ensures { Reads stored result (kept_by rows.now place) }
+{
+    let header = read_header(alloc, rows[place].bytes.as_slice())?;
+    read_under(alloc, header, &rows[..place], &rows[place + 1..])
 }
 
 #[tactic(auto, unfolding(crate::specs::Reading::given_by))]

@@ -1,4 +1,4 @@
-ghost use Rattle.std.specs.Prelude.{◌≡◌, Some, None, cond};
+ghost use Rattle.std.specs.Prelude.{◌≡◌, ◌∷◌, Some, None, cond};
 ghost use Rattle.record_rows.specs.Forms.{some_at};
 ghost use Rattle.record_rows.specs.Fields.{a_term, index, terms, key, whole_key, key_in, is_item, item_in, is_trace, trace_in};
 ghost use Rattle.record_rows.specs.Trees.{dict_key};
@@ -44,19 +44,27 @@ fn read_index(bytes: &[u8]) -> Result<(u32, &[u8]), RowsError>
     Ok((number, rest))
 }
 
+fn read_key_term<'a>(words: &mut Words, bytes: &'a [u8]) -> Result<(Term, &'a [u8]), RowsError>
+    ensures { Reads (λ x. (x.0, x.1.now)) result (a_term.read (0 ∷ bytes.now)) }
+{
+    let (key, rest) = read_dict_key(words, bytes)?;
+    Ok((Term::Key(key), rest))
+}
+
+fn read_index_term(bytes: &[u8]) -> Result<(Term, &[u8]), RowsError>
+    ensures { Reads (λ x. (x.0, x.1.now)) result (a_term.read (1 ∷ bytes.now)) }
+{
+    let (index, rest) = read_index(bytes)?;
+    Ok((Term::Index(index), rest))
+}
+
 fn read_term<'a>(words: &mut Words, bytes: &'a [u8]) -> Result<(Term, &'a [u8]), RowsError>
     ensures { Reads (λ x. (x.0, x.1.now)) result (a_term.read bytes.now) }
 {
     match bytes {
         [] => Err(RowsError::BadRows),
-        [0, rest @ ..] => {
-            let (key, rest) = read_dict_key(words, rest)?;
-            Ok((Term::Key(key), rest))
-        }
-        [1, rest @ ..] => {
-            let (index, rest) = read_index(rest)?;
-            Ok((Term::Index(index), rest))
-        }
+        [0, rest @ ..] => read_key_term(words, rest),
+        [1, rest @ ..] => read_index_term(rest),
         [_, ..] => Err(RowsError::BadRows),
     }
 }
@@ -89,22 +97,41 @@ fn read_terms<'a>(words: &mut Words, bytes: &'a [u8]) -> Result<(Seq<Term>, &'a 
     Ok((Seq::from_vec(terms), rest))
 }
 
+/// The file that is asked for.
+fn read_file_key<'a>(words: &mut Words, bytes: &'a [u8]) -> Result<(Key, &'a [u8]), RowsError>
+    ensures { Reads (λ x. (x.0, x.1.now)) result (key.read (0 ∷ bytes.now)) }
+{
+    let (name, rest) = read_file_text(words, bytes)?;
+    Ok((Key::File(name), rest))
+}
+
+/// The object that is asked for, and below which path.
+fn read_under_key<'a>(words: &mut Words, bytes: &'a [u8]) -> Result<(Key, &'a [u8]), RowsError>
+    ensures { Reads (λ x. (x.0, x.1.now)) result (key.read (1 ∷ bytes.now)) }
+{
+    let (object, rest) = read_name(words, bytes)?;
+    let (terms, rest) = read_terms(words, rest)?;
+    Ok((Key::Under { object, terms }, rest))
+}
+
 fn read_own_key<'a>(words: &mut Words, bytes: &'a [u8]) -> Result<(Key, &'a [u8]), RowsError>
     ensures { Reads (λ x. (x.0, x.1.now)) result (key.read bytes.now) }
 {
     match bytes {
         [] => Err(RowsError::BadRows),
-        [0, rest @ ..] => {
-            let (name, rest) = read_file_text(words, rest)?;
-            Ok((Key::File(name), rest))
-        }
-        [1, rest @ ..] => {
-            let (object, rest) = read_name(words, rest)?;
-            let (terms, rest) = read_terms(words, rest)?;
-            Ok((Key::Under { object, terms }, rest))
-        }
+        [0, rest @ ..] => read_file_key(words, rest),
+        [1, rest @ ..] => read_under_key(words, rest),
         [_, ..] => Err(RowsError::BadRows),
     }
+}
+
+/// The object that is asked for, as a whole.
+fn read_object_key<'a>(words: &mut Words, bytes: &'a [u8]) -> Result<(Key, &'a [u8]), RowsError>
+    ensures { Reads (λ x. (x.0, x.1.now)) result (whole_key.read (1 ∷ bytes.now)) }
+{
+    let (object, rest) = read_name(words, bytes)?;
+    let terms = Seq::new(words.alloc);
+    Ok((Key::Under { object, terms }, rest))
 }
 
 fn read_whole_key<'a>(words: &mut Words, bytes: &'a [u8]) -> Result<(Key, &'a [u8]), RowsError>
@@ -112,15 +139,8 @@ fn read_whole_key<'a>(words: &mut Words, bytes: &'a [u8]) -> Result<(Key, &'a [u
 {
     match bytes {
         [] => Err(RowsError::BadRows),
-        [0, rest @ ..] => {
-            let (name, rest) = read_file_text(words, rest)?;
-            Ok((Key::File(name), rest))
-        }
-        [1, rest @ ..] => {
-            let (object, rest) = read_name(words, rest)?;
-            let terms = Seq::new(words.alloc);
-            Ok((Key::Under { object, terms }, rest))
-        }
+        [0, rest @ ..] => read_file_key(words, rest),
+        [1, rest @ ..] => read_object_key(words, rest),
         [_, ..] => Err(RowsError::BadRows),
     }
 }

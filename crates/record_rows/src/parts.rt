@@ -1,9 +1,10 @@
 ghost use Rattle.std.specs.Prelude.{◌≡◌};
 ghost use Rattle.questions.specs.Laws.{is_circular};
-ghost use Rattle.record_rows.specs.Fields.{built, content, short_bytes};
+ghost use Rattle.record_rows.specs.Forms.{pair};
+ghost use Rattle.record_rows.specs.Fields.{built, content, short_bytes, trace_in, verdict};
 ghost use Rattle.record_rows.specs.Rows.{has_file_number, are_object_parts, parts_of_object};
 ghost use Rattle.record_rows.specs.Results.{Reads};
-ghost use Rattle.record_rows.specs.Reading.{file_by, object_by};
+ghost use Rattle.record_rows.specs.Reading.{file_by, object_by, whole_object};
 
 use crate::error::RowsError;
 use crate::faults::{read_fault, read_verdict};
@@ -19,6 +20,7 @@ use kept_state::{KeptFile, KeptObject};
 use load_path::Content;
 use pan_ast::{Code, Fault};
 use path_tree::{Name, Tree};
+use read_sets::Trace;
 use std::alloc::Global;
 
 fn read_short_bytes(bytes: &[u8]) -> Result<(&[u8], &[u8]), RowsError>
@@ -118,6 +120,32 @@ pub(crate) fn are_parts(counter: u64, object: &KeptObject) -> bool
     }
 }
 
+/// What a check found, and what it asked.
+fn read_checked<'a>(
+    words: &mut Words,
+    format: Format,
+    counter: u64,
+    bytes: &'a [u8],
+) -> Result<(Option<Fault>, Trace, &'a [u8]), RowsError>
+    ensures { Reads (λ x. ((x.0, x.1), x.2.now)) result
+        ((pair verdict (trace_in format counter)).read bytes.now) }
+{
+    let (verdict, rest) = read_verdict(words, bytes)?;
+    let (reads, rest) = read_trace(words, format, counter, rest)?;
+    Ok((verdict, reads, rest))
+}
+
+/// The object with these parts, where they go together and nothing stands behind them.
+fn whole_object(counter: u64, object: KeptObject, rest: &[u8]) -> Result<KeptObject, RowsError>
+    ensures { Reads (λ o. o) result (whole_object counter object rest.now) }
+{
+    if are_parts(counter, &object) && rest.is_empty() {
+        Ok(object)
+    } else {
+        Err(RowsError::BadRows)
+    }
+}
+
 /// The object with this name and these parts.
 pub(crate) fn read_object(
     words: &mut Words,
@@ -132,8 +160,7 @@ pub(crate) fn read_object(
     let (number, rest) = read_u64(bytes)?;
     let (built, rest) = read_built(words, rest)?;
     let (build_reads, rest) = read_trace(words, format, counter, rest)?;
-    let (verdict, rest) = read_verdict(words, rest)?;
-    let (check_reads, rest) = read_trace(words, format, counter, rest)?;
+    let (verdict, check_reads, rest) = read_checked(words, format, counter, rest)?;
     let object = KeptObject {
         name,
         number,
@@ -142,11 +169,5 @@ pub(crate) fn read_object(
         verdict,
         check_reads,
     };
-    if !are_parts(counter, &object) {
-        return Err(RowsError::BadRows);
-    }
-    if !rest.is_empty() {
-        return Err(RowsError::BadRows);
-    }
-    Ok(object)
+    whole_object(counter, object, rest)
 }

@@ -9,6 +9,7 @@ ghost use Rattle.run_world.specs.Noted.{AreNumbered, AreWords};
 ghost use Rattle.run_world.specs.NotedSets.{AreNumbered-prop, AreWords-prop};
 
 use crate::notes::Notes;
+use crate::rooms::Rooms;
 use crate::told::{foreign_of, seen_in, text_of};
 use crate::trails::Trails;
 use crate::words::Words;
@@ -31,6 +32,7 @@ pub struct Kept {
     pub templates: TemplateCache,
     pub patterns: Patterns,
     pub trails: Trails,
+    pub rooms: Rooms,
 }
 
 impl Kept {
@@ -40,6 +42,7 @@ impl Kept {
             templates: TemplateCache::new(alloc),
             patterns: Patterns::new(alloc),
             trails: Trails::new(alloc),
+            rooms: Rooms::new(alloc),
         }
     }
 }
@@ -122,12 +125,18 @@ impl<'a, K: Known, T: Words> World for RunWorld<'a, K, T> {
         find(name)
     }
 
+    fn room(&mut self, alloc: Global) -> Vec<Tree> {
+        self.kept.rooms.take(alloc)
+    }
+
     fn call(
         &mut self,
         alloc: Global,
         function: ValueCall,
         arguments: Vec<Tree>,
     ) -> Result<Tree, Refused> {
-        call(alloc, &mut self.kept.patterns, function, &arguments)
+        let result = call(alloc, &mut self.kept.patterns, function, &arguments);
+        self.kept.rooms.give_back(arguments);
+        result
     }
 }

@@ -8,6 +8,3 @@ mod reading;
 
 pub use cache::TemplateCache;
 pub use reading::read_template;
-
-#[cfg(test)]
-mod tests;

@@ -14,7 +14,7 @@ use Rattle.pan_ast.specs.Templates.{Template, Statement}
 use Rattle.pan_ast.specs.TemplatesSeen.{statement_seen}
 use Rattle.questions.specs.Laws.{MayAsk}
 use Rattle.questions.specs.Contents.{Answers}
-use Rattle.questions.specs.Run.{Meter, Outcome, Done, Returned, Failed, Asks, ◌>>=◌, then, give, fail, beside, step, stepped}
+use Rattle.questions.specs.Run.{Meter, Outcome, Done, ◌>>=◌, give, fail, beside, step, stepped}
 use Rattle.questions.specs.Told.{LeavesAtMost}
 use Rattle.questions.proofs.Runs.{Leaves, left_within}
 use Rattle.dml_meaning.specs.declared.limits.TheConstants.{MAX_INCLUDES}

@@ -10,6 +10,3 @@ mod names;
 pub use builtins_code::Patterns;
 pub use calling::call;
 pub use names::{ValueCall, find};
-
-#[cfg(test)]
-mod tests;

@@ -1,6 +1,7 @@
 -- What holds before each line, and what is kept of an engine.
 use Rattle.std.proofs.Common.{◌≡◌, ℕ, true, List, refl, subst}
 use Rattle.engine_session.specs.Compiler.{Compiled}
+use Rattle.engine_session.specs.KeptTexts.{AreTexts}
 use Rattle.engine_session.specs.Standing.{IsBegun, IsFaithful, IsIn, compiled_in}
 use Rattle.engine_session.specs.declared.works.Works.{Works}
 use Rattle.engine_session.proofs.Fits.{begins}
@@ -10,7 +11,7 @@ use Rattle.engine_turns.specs.declared.core_data.Core.{Core}
 use Rattle.kept_works.specs.Kept.{kept_by}
 use Rattle.kept_works.proofs.Held.{kept_is}
 use Rattle.pan_ast.specs.declared.work.Limits.{Limits}
-use Rattle.rebuild.specs.Engines.{Meanings, turns_left_of}
+use Rattle.rebuild.specs.Engines.{Meanings, situation_of, turns_left_of}
 use Rattle.rebuild.proofs.Engines.{ready_is}
 use Rattle.runner.specs.Meaning.{IsLawful}
 use Rattle.runner.specs.declared.runner.Runner as runner
@@ -36,9 +37,13 @@ sound_kept means lawful works none faithful dirs limits e is =
 module _ {R S H K T : Type 0} {M : runner.Ghosts R T} (means : Meanings T) (site : Site R S H K T M)
   where
     -- where works are faithful, whether a picture was taken or not
-    pub faithful_ready : IsFaithful means site.works → IsReady means site
-    faithful_ready f = record { begun = begins means site.works f; faithful = λ taken. f }
+    pub faithful_ready : IsFaithful means site.works
+        → AreTexts (situation_of site.works.engine.core) site.carried.texts → IsReady means site
+    faithful_ready f texts =
+        record { begun = begins means site.works f; faithful = λ taken. f; texts = texts }
 
-    pub failed_ready : IsBegun means site.works → (site.has_taken ≡ true
-        → IsFaithful means site.works) → IsReady means site
-    failed_ready begun faithful = record { begun = begun; faithful = faithful }
+    pub failed_ready : IsBegun means site.works
+        → (site.has_taken ≡ true → IsFaithful means site.works)
+        → AreTexts (situation_of site.works.engine.core) site.carried.texts → IsReady means site
+    failed_ready begun faithful texts =
+        record { begun = begun; faithful = faithful; texts = texts }

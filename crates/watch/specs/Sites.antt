@@ -2,6 +2,7 @@
 use Rattle.std.specs.declared.alloc.Global.{Global}
 use Rattle.std.specs.Prelude.{◌≡◌, ◌≤◌, ℕ, List, Option, Some, None, IfSome, IsSome, true, false, Result, OnOk, option_map, vec_items, Vec}
 use Rattle.engine_session.specs.Compiler.{Compiled, compiler}
+use Rattle.engine_session.specs.KeptTexts.{AreTexts}
 use Rattle.engine_session.specs.Standing.{Here, IsBegun, IsFaithful, IsIn, counts}
 use Rattle.keepers.specs.declared.keeper.Keeper as keeper
 use Rattle.outside.specs.declared.shelf.Shelf as shelf
@@ -9,7 +10,7 @@ use Rattle.outside.specs.declared.source.MemFile.{MemFile}
 use Rattle.outside.specs.declared.source.Source as source
 use Rattle.pan_ast.specs.declared.work.Limits.{Limits}
 use Rattle.publication.specs.Published.{Knows}
-use Rattle.rebuild.specs.Engines.{Meanings}
+use Rattle.rebuild.specs.Engines.{Meanings, situation_of}
 use Rattle.row_changes.specs.Stores.{store_of}
 use Rattle.runner.specs.declared.runner.Runner as runner
 use Rattle.session.specs.Orders.{Order}
@@ -24,11 +25,13 @@ use Rattle.watch.specs.declared.site.Site.{Site}
 use Rattle.watch.specs.declared.step.Step.{Step}
 
 -- What holds before each line: the engine may take a picture, and once it has taken one, what it
--- and its runner say is what compiling from scratch gives.
+-- and its runner say is what compiling from scratch gives; the texts that are kept are those of its
+-- trees.
 pub record IsReady {R S H K T : Type 0} {M : runner.Ghosts R T} (means : Meanings T)
     (site : Site R S H K T M) : Type 0 where
   pub begun : IsBegun means site.works
   pub faithful : site.has_taken ≡ true → IsFaithful means site.works
+  pub texts : AreTexts (situation_of site.works.engine.core) site.carried.texts
 
 abbrev pub shelved : {H : Type 0} → shelf.Ghosts H → H → Shelved
 shelved H h = record { cell = H.cell h; changes = H.changes h; count = H.fault_count h }

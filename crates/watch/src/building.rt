@@ -1,8 +1,9 @@
 ghost use Rattle.std.specs.Prelude.{◌≡◌, ◌≤◌, ◌++◌, IfOk, OnOk, OnErr, [], option_map, true, vec_items, IsSome};
-ghost use Rattle.engine_session.specs.Standing.{IsFaithful, compiled_in, machine_in};
+ghost use Rattle.engine_session.specs.KeptTexts.{AreFaithful, AreTexts};
+ghost use Rattle.engine_session.specs.Standing.{compiled_in, machine_in};
 ghost use Rattle.kept_works.specs.Kept.{rows_by};
 ghost use Rattle.publication.specs.Published.{Knows};
-ghost use Rattle.rebuild.specs.Engines.{turns_left_of};
+ghost use Rattle.rebuild.specs.Engines.{situation_of, turns_left_of};
 ghost use Rattle.session.specs.Orders as orders;
 ghost use Rattle.session.specs.Sessions.{saved_text};
 ghost use Rattle.session.specs.Texts.{publication_text};
@@ -15,9 +16,7 @@ use crate::site::{Carried, Site};
 use crate::step::Step;
 use crate::texts::{push_publication, push_saving};
 use base::Steps;
-use engine_session::{
-    Built, KeptTexts, Took, Works, build_again, forget_touched, make_all_turns, take_next,
-};
+use engine_session::{Built, KeptTexts, Took, Works, build_again, make_all_turns, take_next};
 use keepers::Keeper;
 use outside::{Shelf, Source};
 use publication::{Publication, Publisher};
@@ -43,14 +42,16 @@ fn announce<R: Runner, H: Shelf>(
     requires open { IsSome (H.opened shelf.old) }
     requires settled { turns_left_of works.now.engine.core ≡ 0 }
     requires knows { Knows publisher.old (H.cell shelf.old) }
-    ensures done { IsFaithful R.meaning works.now → IfOk result (λ a. Announces
+    ensures done { AreFaithful R.meaning works.now texts.old → IfOk result (λ a. Announces
         (machine_in R.meaning works.now.engine.core) (compiled_in works.now.engine.core) a.built
         a.publication (shelved H.Shelf shelf.old) (shelved H.Shelf shelf.new) publisher.old
         publisher.new) }
     ensures knows { OnOk result (Knows publisher.new (H.cell shelf.new)) }
-    ensures left { IsFaithful R.meaning works.now → OnErr result (StopsAnnouncing
+    ensures left { AreFaithful R.meaning works.now texts.old → OnErr result (StopsAnnouncing
         (machine_in R.meaning works.now.engine.core) (compiled_in works.now.engine.core)
         publisher.old (shelved H.Shelf shelf.old) (shelved H.Shelf shelf.new)) }
+    ensures texts { AreFaithful R.meaning works.now texts.old
+        → OnOk result (AreTexts (situation_of works.now.engine.core) texts.new) }
     ensures later { H.fault_count shelf.old ≤ H.fault_count shelf.new }
     ensures opened { H.opened shelf.new ≡ H.opened shelf.old }
 {
@@ -90,7 +91,7 @@ fn publish_built<R: Runner, H: Shelf, K: Keeper>(
     requires settled { turns_left_of works.now.engine.core ≡ 0 }
     requires knows { Knows publisher.old (H.cell shelf.old) }
     requires store_open { MayKeep K.Keeper carried.old }
-    ensures done { IsFaithful R.meaning works.now → IfOk result (λ has_faults. Publishes
+    ensures done { AreFaithful R.meaning works.now carried.old.texts → IfOk result (λ has_faults. Publishes
         (machine_in R.meaning works.now.engine.core)
         (rows_by works.now.engine.core.dirs works.now.engine.core.limits
         (compiled_in works.now.engine.core))
@@ -99,13 +100,15 @@ fn publish_built<R: Runner, H: Shelf, K: Keeper>(
         (held_of H.Shelf K.Keeper shelf.new carried.new.keeper carried.new.rows) publisher.old
         publisher.new) }
     ensures knows { OnOk result (Knows publisher.new (H.cell shelf.new)) }
-    ensures left { IsFaithful R.meaning works.now → OnErr result (StopsPublishing
+    ensures left { AreFaithful R.meaning works.now carried.old.texts → OnErr result (StopsPublishing
         (machine_in R.meaning works.now.engine.core)
         (rows_by works.now.engine.core.dirs works.now.engine.core.limits
         (compiled_in works.now.engine.core))
         (compiled_in works.now.engine.core) publisher.old
         (held_of H.Shelf K.Keeper shelf.old carried.old.keeper carried.old.rows)
         (held_of H.Shelf K.Keeper shelf.new carried.new.keeper carried.new.rows)) }
+    ensures texts { AreFaithful R.meaning works.now carried.old.texts
+        → OnOk result (AreTexts (situation_of works.now.engine.core) carried.new.texts) }
     ensures unkept { LeavesUnkept carried.old carried.new }
     ensures later { H.fault_count shelf.old ≤ H.fault_count shelf.new }
     ensures opened { H.opened shelf.new ≡ H.opened shelf.old }
@@ -152,7 +155,6 @@ pub(crate) fn build_line<R: Runner, S: Source, H: Shelf, K: Keeper, L: Ledger>(
         Took::IsTooMuch => return Ok(Step::IsTooMuch),
     }
     site.has_taken = true;
-    forget_touched(alloc, &site.works, &mut site.carried.texts);
     if !make_all_turns(alloc, &mut site.works, steps)? {
         return Ok(Step::SpendsNumbers);
     }

@@ -76,6 +76,7 @@ pub(crate) fn keep<R: Runner, K: Keeper>(
     ensures unsaved { OnErr result (IsUnsaved NotSaved
         (stocked K.Keeper carried.old.keeper carried.old.rows)
         (stocked K.Keeper carried.new.keeper carried.new.rows)) }
+    ensures texts { carried.new.texts ≡ carried.old.texts }
     ensures unkept { LeavesUnkept carried.old carried.new }
     ensures opened { K.opened carried.new.keeper ≡ K.opened carried.old.keeper }
     ensures later { K.fault_count carried.old.keeper ≤ K.fault_count carried.new.keeper }

@@ -3,6 +3,7 @@ use Rattle.engine_laws.specs.Engine.{is_among}
 use Rattle.engine_turns.specs.States.{pictured}
 use Rattle.rebuild.specs.Engines.{objects_of}
 use Rattle.engine_session.specs.Compiler.{answer_name, answer_of}
+use Rattle.engine_session.specs.KeptTexts.{AreFaithful}
 use Rattle.engine_session.proofs.Said.{item_among, map_more, named_more, take_more}
 use Rattle.engine_session.proofs.building.answers.Goals as goal
 
@@ -21,13 +22,17 @@ loop-name-preserved g c =
     let names = c.deref-name-items.result.now in
     let i = c.loop-name.name-index in
     let answer = c.in_ok-answer.ensures in
+    let still : AreFaithful g.R.Runner.meaning c.args.works.now c.args.texts.now
+    → AreFaithful g.R.Runner.meaning c.args.works.now c.loop-name.texts = λ both.
+    record { faithful = both.faithful; texts = c.loop-name.invariant.texts both } in
     record {
-      answers = λ faithful. c.in_ok-push.ensures.items
-          ∙ ap₂ (λ made a. made ++ a ∷ []) (c.loop-name.invariant.answers faithful)
-          (answer.answer faithful)
+      answers = λ both. c.in_ok-push.ensures.items
+          ∙ ap₂ (λ made a. made ++ a ∷ []) (c.loop-name.invariant.answers both)
+          (answer.answer (still both))
           ∙ sym (map_more f names i c.name-item.result c.loop-name-test.true c.name-item.is);
       names = ap (map answer_name) c.in_ok-push.ensures.items
           ∙ named_more c.loop-name.made.items c.in_ok-answer.field-0
           ∙ ap₂ (λ made a. made ++ a ∷ []) c.loop-name.invariant.names answer.name
           ∙ sym (take_more names i c.name-item.result c.loop-name-test.true c.name-item.is);
+      texts = λ both. answer.texts (still both);
     }

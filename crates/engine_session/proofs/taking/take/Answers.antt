@@ -4,6 +4,7 @@ use Rattle.engine_session.specs.Standing.{AreNumbers, counts, IsKept}
 use Rattle.engine_turns.specs.States.{pictured}
 use Rattle.engine_session.proofs.Fits.{either_way, either_way_two}
 use Rattle.engine_session.proofs.Moves.{picture_taken, picture_spent, picture_too_much, taken_kept}
+use Rattle.engine_session.proofs.KeptTrees.{trees_left, trees_taken}
 use Rattle.engine_session.proofs.taking.take.Goals as goal
 
 pub returns-in-Ok-clause-took : goal.returns-in-Ok-clause-took
@@ -129,3 +130,18 @@ returns-in-Err-Memory-clause-still g c = λ begun.
       sound = e.sound begun.sound;
       numbers = subst AreNumbers (ap (λ core. core.files.items) (sym e.before)) begun.numbers;
     }
+
+-- a take leaves the trees
+pub returns-in-Ok-clause-trees : goal.returns-in-Ok-clause-trees
+returns-in-Ok-clause-trees g c = λ begun.
+    trees_taken g.R.Runner.meaning c.args.works.now.engine.core c.take.new.self.core c.args.picture
+    _ (c.in-Ok.ensures.state begun.sound)
+
+pub returns-in-Err-TooManyObjects-clause-trees : goal.returns-in-Err-TooManyObjects-clause-trees
+returns-in-Err-TooManyObjects-clause-trees g c = λ begun.
+    trees_left c.args.works.now.engine.core c.take.new.self.core
+    c.in-Err-TooManyObjects.ensures.before
+
+pub returns-in-Err-NumbersSpent-clause-trees : goal.returns-in-Err-NumbersSpent-clause-trees
+returns-in-Err-NumbersSpent-clause-trees g c = λ begun.
+    trees_left c.args.works.now.engine.core c.take.new.self.core c.in-Err-NumbersSpent.ensures.before

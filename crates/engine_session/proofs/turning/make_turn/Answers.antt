@@ -3,6 +3,7 @@ use Rattle.engine_session.specs.Standing.{IsKept}
 use Rattle.engine_turns.specs.Spent.{IsTurnRefused}
 use Rattle.rebuild.specs.Engines.{value_of, after_turn}
 use Rattle.engine_session.proofs.Moves.{turn_made, turn_spent, turn_cut, turned_kept}
+use Rattle.engine_session.proofs.KeptTrees.{trees_left, trees_turned}
 use Rattle.engine_session.proofs.turning.make_turn.Goals as goal
 
 pub returns-in-Ok-clause-made : goal.returns-in-Ok-clause-made
@@ -53,3 +54,14 @@ returns-in-Err-Memory-clause-faithful g c = λ f.
       sound = e.sound f.sound;
       kept = subst (λ core. IsKept core) (sym e.before) f.kept;
     }
+
+-- a turn leaves the trees that have their numbers
+pub returns-in-Ok-clause-trees : goal.returns-in-Ok-clause-trees
+returns-in-Ok-clause-trees g c = λ f.
+    trees_turned g.R.Runner.meaning c.args.works.now.engine.core c.turn.new.self.core
+    (c.in-Ok.ensures.state f.sound)
+
+pub returns-in-Err-NumbersSpent-clause-trees : goal.returns-in-Err-NumbersSpent-clause-trees
+returns-in-Err-NumbersSpent-clause-trees g c = λ f.
+    trees_left c.args.works.now.engine.core c.turn.new.self.core
+    c.in-Err-NumbersSpent.ensures.before

@@ -3,6 +3,7 @@ use Rattle.engine_session.specs.Compiler.{compiler}
 use Rattle.engine_session.specs.Standing.{counts, MakesTurn}
 use Rattle.engine_session.proofs.Moves.{turning_step, turning_spent, turning_cut, turning_done}
 use Rattle.engine_session.proofs.Scanning.{on_err_is}
+use Rattle.engine_session.proofs.KeptTrees.{trees_then}
 use Rattle.engine_session.proofs.turning.make_turns.Goals as goal
 
 pub returns-in_err-make_turn-clause-cut : goal.returns-in_err-make_turn-clause-cut
@@ -45,6 +46,8 @@ loop-i-preserved g c =
     record {
       within = omega (arith, lt);
       faithful = λ f. c.in_ok-make_turn.ensures.faithful (c.loop-i.invariant.faithful f);
+      trees = λ f. trees_then _ _ _ (c.loop-i.invariant.trees f)
+          (c.in_ok-make_turn.ensures.trees (c.loop-i.invariant.faithful f));
       turning = λ f dirs limits s start at.
           let machine = compiler (g.R.Runner.meaning dirs limits) dirs in
           let more : count - i ≡ suc (count - (i + 1)) = omega (arith, lt) in
@@ -70,3 +73,7 @@ returns-clause-made g c = λ f dirs limits s start at.
     turning_done machine dirs limits count s start c.loop-i.works.engine.core
     (counts (g.R.Runner.runs_of c.loop-i.works.runner) c.loop-i.steps) (count - i) none
     (c.loop-i.invariant.turning f dirs limits s start at)
+
+pub returns-then-not-branch-clause-trees : goal.returns-then-not-branch-clause-trees
+returns-then-not-branch-clause-trees g c = λ f. trees_then _ _ _ (c.loop-i.invariant.trees f)
+    (c.in_ok-make_turn.ensures.trees (c.loop-i.invariant.faithful f))

@@ -14,3 +14,6 @@ loop-line-preserved c =
     (take (c.loop-line.line-index + 1) c.args.lines.now) c.line-item.result
     c.fault_in.result.now c.loop-line.faults.items c.add_fault.new.faults.items more found
     c.loop-line.invariant c.in_ok-add_fault.ensures
+
+pub returns : goal.returns
+returns c = grind (arith, common_steps)

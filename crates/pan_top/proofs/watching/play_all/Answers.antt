@@ -1,3 +1,5 @@
+use Rattle.std.proofs.Common.{◌≡◌, false, true}
+use Rattle.engine_session.proofs.KeptTrees.{no_texts}
 use Rattle.engine_session.specs.Standing.{IsBegun}
 use Rattle.watch.proofs.Ready.{failed_ready}
 use Rattle.pan_top.proofs.Watched.{played_where}
@@ -12,5 +14,7 @@ returns g c =
       c.leave.ensures.keeper,
     )
     (played_where g.R.Runner.meaning _ (IsBegun g.R.Runner.meaning c.args.works)
-    (λ begun. failed_ready g.R.Runner.meaning _ begun (λ taken. cc)) _ _ _ _ _ _
+    (λ begun. failed_ready g.R.Runner.meaning _ begun
+    (λ taken. absurd (let clash : false ≡ true = taken in cc)) (no_texts _ _
+    c.new.ensures.entries c.new.ensures.before)) _ _ _ _ _ _
     c.play_site-status.ensures)

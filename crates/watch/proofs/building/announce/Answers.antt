@@ -10,12 +10,12 @@ use Rattle.watch.specs.Steps.{Interrupts}
 use Rattle.watch.proofs.building.announce.Goals as goal
 
 pub returns-clause-done : goal.returns-clause-done
-returns-clause-done g c = λ faithful.
+returns-clause-done g c = λ both.
     let p = c.in_ok-publication.publication in
     let known = c.args.publisher.now in
     let before = shelved g.H.Shelf c.args.shelf.now in
     let after = shelved g.H.Shelf c.publish.new.shelf in
-    let gives = c.in_ok-built.ensures.gives faithful in
+    let gives = c.in_ok-built.ensures.gives both in
     let profiles = c.deref.ensures.value ∙ gives.profiles in
     record {
       gives = gives;
@@ -37,12 +37,15 @@ returns-clause-done g c = λ faithful.
     }
 
 pub returns-in_err-built-clause-left : goal.returns-in_err-built-clause-left
-returns-in_err-built-clause-left g c = λ faithful. on_err c.from_residual.result (inl refl)
+returns-in_err-built-clause-left g c = λ both. on_err c.from_residual.result (inl refl)
 
 pub returns-in_err-publication-clause-left : goal.returns-in_err-publication-clause-left
-returns-in_err-publication-clause-left g c = λ faithful.
+returns-in_err-publication-clause-left g c = λ both.
     on_err c.from_residual-in_err-publication.result (inr (subst (λ profiles. Interrupts
     c.args.publisher.now.most (wants_of profiles) (may_stand_in c.args.publisher.now) (shelved
     g.H.Shelf c.args.shelf.now) (shelved g.H.Shelf c.publish.new.shelf)) (c.deref.ensures.value
-    ∙ (c.in_ok-built.ensures.gives faithful).profiles) (cut_short _ _ _ _ _
+    ∙ (c.in_ok-built.ensures.gives both).profiles) (cut_short _ _ _ _ _
     c.in_err-publication.ensures.err c.publish.ensures.later c.publish.ensures.within)))
+
+pub returns-clause-texts : goal.returns-clause-texts
+returns-clause-texts g c = c.in_ok-built.ensures.texts

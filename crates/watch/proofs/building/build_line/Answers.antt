@@ -1,6 +1,7 @@
 use Rattle.std.proofs.Common.{◌≡◌, [], codes, refl, rules, subst, true}
 use Rattle.engine_session.specs.Compiler.{compiler}
 use Rattle.engine_session.specs.Standing.{counts, MakesTurns, TakesNext}
+use Rattle.engine_session.proofs.KeptTrees.{texts_still, trees_forgotten, trees_then}
 use Rattle.engine_session.proofs.Moves.{forgotten_in, forgotten_kept}
 use Rattle.rebuild.specs.Engines.{turns_left_of}
 use Rattle.publication.proofs.Planning.{on_err}
@@ -99,8 +100,13 @@ returns-clause-went g c = λ ready dirs limits s start at.
     (turns_left_of c.take_next.new.works.engine.core) start _ _ (held_of g.H.Shelf g.K.Keeper
     c.publish_built.new.shelf c.publish_built.new.carried.keeper c.publish_built.new.carried.rows) _
     c.publish_built.new.text.items at t c.take_next.ensures.count.later refl made
-    (c.in_ok-has_faults.ensures.done (c.make_all_turns.ensures.faithful
-    (c.in_ok-take_next.ensures.begun ready.begun c.in-Taken.is))) sound forgot
+    (c.in_ok-has_faults.ensures.done (record {
+      faithful = c.make_all_turns.ensures.faithful
+          (c.in_ok-take_next.ensures.begun ready.begun c.in-Taken.is);
+      texts = texts_still _ _ (trees_then _ _ _ (c.in_ok-take_next.ensures.trees ready.begun)
+          (c.in_ok-make_all_turns.ensures.trees
+          (c.in_ok-take_next.ensures.begun ready.begun c.in-Taken.is))) _ ready.texts;
+    })) sound forgot
 
 pub returns-in_err-take_next-clause-cut : goal.returns-in_err-take_next-clause-cut
 returns-in_err-take_next-clause-cut g c =
@@ -166,8 +172,13 @@ returns-in_err-has_faults-clause-cut g c = λ ready. on_err c.from_residual-in_e
     g.K.Keeper c.args.site.now c.args.steps.now) c.take_next.new.works.engine.core
     c.make_all_turns.new.works.engine.core _ _ _ _ (turns_left_of
     c.take_next.new.works.engine.core) start at _ t refl made sound
-    (c.in_err-has_faults.ensures.left (c.make_all_turns.ensures.faithful
-    (c.in_ok-take_next.ensures.begun ready.begun c.in-Taken.is))) in
+    (c.in_err-has_faults.ensures.left (record {
+      faithful = c.make_all_turns.ensures.faithful
+          (c.in_ok-take_next.ensures.begun ready.begun c.in-Taken.is);
+      texts = texts_still _ _ (trees_then _ _ _ (c.in_ok-take_next.ensures.trees ready.begun)
+          (c.in_ok-make_all_turns.ensures.trees
+          (c.in_ok-take_next.ensures.begun ready.begun c.in-Taken.is))) _ ready.texts;
+    })) in
     build_untold g.R.Runner.meaning dirs limits s (spot_of g.R.Runner g.S.Source g.H.Shelf
     g.K.Keeper c.args.site.now c.args.steps.now) _ start.spent t refl
     c.take_next.ensures.perhaps c.take_next.ensures.count.later held true
@@ -177,6 +188,7 @@ returns-in_err-has_faults-clause-cut g c = λ ready. on_err c.from_residual-in_e
 pub returns-in-Failed-clause-ready : goal.returns-in-Failed-clause-ready
 returns-in-Failed-clause-ready g c = λ ready. failed_ready _ _ (c.take_next.ensures.still
     ready.begun) (λ taken. c.take_next.ensures.faithful (ready.faithful taken))
+    (texts_still _ _ (c.in_ok-take_next.ensures.trees ready.begun) _ ready.texts)
 
 pub returns-clause-ready : goal.returns-clause-ready
 returns-clause-ready g c = λ ready. faithful_ready _ _ (record {
@@ -186,16 +198,29 @@ returns-clause-ready g c = λ ready. faithful_ready _ _ (record {
       c.forget_runs.new.self.core c.forget_runs.ensures.files c.forget_runs.ensures.dirs
       c.forget_runs.ensures.state (c.make_all_turns.ensures.faithful
       (c.in_ok-take_next.ensures.begun ready.begun c.in-Taken.is)).kept;
-})
+}) (texts_still _ _ (trees_forgotten g.R.Runner.meaning c.make_all_turns.new.works.engine.core
+    c.forget_runs.new.self.core c.forget_runs.ensures.state) _
+    (c.in_ok-has_faults.ensures.texts (record {
+      faithful = c.make_all_turns.ensures.faithful
+          (c.in_ok-take_next.ensures.begun ready.begun c.in-Taken.is);
+      texts = texts_still _ _ (trees_then _ _ _ (c.in_ok-take_next.ensures.trees ready.begun)
+          (c.in_ok-make_all_turns.ensures.trees
+          (c.in_ok-take_next.ensures.begun ready.begun c.in-Taken.is))) _ ready.texts;
+    })))
 
 pub returns-in-SpendsNumbers-clause-ready : goal.returns-in-SpendsNumbers-clause-ready
 returns-in-SpendsNumbers-clause-ready g c = λ ready. failed_ready _ _ (c.take_next.ensures.still
     ready.begun) (λ taken. c.take_next.ensures.faithful (ready.faithful taken))
+    (texts_still _ _ (c.in_ok-take_next.ensures.trees ready.begun) _ ready.texts)
 
 pub returns-in-IsTooMuch-clause-ready : goal.returns-in-IsTooMuch-clause-ready
 returns-in-IsTooMuch-clause-ready g c = λ ready. failed_ready _ _ (c.take_next.ensures.still
     ready.begun) (λ taken. c.take_next.ensures.faithful (ready.faithful taken))
+    (texts_still _ _ (c.in_ok-take_next.ensures.trees ready.begun) _ ready.texts)
 
 pub returns-then-not-branch-clause-ready : goal.returns-then-not-branch-clause-ready
 returns-then-not-branch-clause-ready g c = λ ready. faithful_ready _ _
     (c.make_all_turns.ensures.faithful (c.in_ok-take_next.ensures.begun ready.begun c.in-Taken.is))
+    (texts_still _ _ (trees_then _ _ _ (c.in_ok-take_next.ensures.trees ready.begun)
+    (c.in_ok-make_all_turns.ensures.trees (c.in_ok-take_next.ensures.begun ready.begun
+    c.in-Taken.is))) _ ready.texts)

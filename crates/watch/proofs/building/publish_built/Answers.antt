@@ -11,9 +11,9 @@ use Rattle.kept_works.specs.Kept.{rows_by}
 use Rattle.watch.proofs.building.publish_built.Goals as goal
 
 pub returns-clause-done : goal.returns-clause-done
-returns-clause-done g c = λ faithful.
+returns-clause-done g c = λ both.
     let core = c.args.works.now.engine.core in
-    let a = c.in_ok-announced.ensures.done faithful in
+    let a = c.in_ok-announced.ensures.done both in
     record {
       publication = c.in_ok-announced.announced.publication;
       saved = as_saved c.in_ok-saving.saving;
@@ -30,16 +30,16 @@ returns-clause-done g c = λ faithful.
     }
 
 pub returns-in_err-announced-clause-left : goal.returns-in_err-announced-clause-left
-returns-in_err-announced-clause-left g c = λ faithful.
+returns-in_err-announced-clause-left g c = λ both.
     let core = c.args.works.now.engine.core in
     on_err c.from_residual.result (stopped_announcing (machine_in g.R.Runner.meaning core) (rows_by
     core.dirs core.limits (compiled_in core)) (compiled_in core) c.args.publisher.now (shelved
     g.H.Shelf c.args.shelf.now) (shelved g.H.Shelf c.announce.new.shelf) (stocked g.K.Keeper
-    c.args.carried.now.keeper c.args.carried.now.rows) (c.in_err-announced.ensures.left faithful))
+    c.args.carried.now.keeper c.args.carried.now.rows) (c.in_err-announced.ensures.left both))
 
 pub returns-in_err-saving-clause-left : goal.returns-in_err-saving-clause-left
-returns-in_err-saving-clause-left g c = λ faithful.
-    let a = c.in_ok-announced.ensures.done faithful in
+returns-in_err-saving-clause-left g c = λ both.
+    let a = c.in_ok-announced.ensures.done both in
     on_err c.from_residual-in_err-saving.result (inr (inr (record {
       publication = c.in_ok-announced.announced.publication;
       saved = NotSaved;
@@ -49,9 +49,9 @@ returns-in_err-saving-clause-left g c = λ faithful.
     })))
 
 pub returns-in_err-report-clause-left : goal.returns-in_err-report-clause-left
-returns-in_err-report-clause-left g c = λ faithful.
+returns-in_err-report-clause-left g c = λ both.
     let core = c.args.works.now.engine.core in
-    let a = c.in_ok-announced.ensures.done faithful in
+    let a = c.in_ok-announced.ensures.done both in
     on_err c.from_residual-in_err-report.result (inr (inr (record {
       publication = c.in_ok-announced.announced.publication;
       saved = as_saved c.in_ok-saving.saving;

@@ -1,9 +1,12 @@
-use Rattle.std.proofs.Common.{◌≡◌, rules, subst, true, codes, ◌∙◌}
+use Rattle.std.proofs.Common.{◌≡◌, rules, subst, sym, true, codes, ◌∙◌}
 use Rattle.engine_session.specs.Compiler.{compiler}
+use Rattle.engine_session.specs.KeptTexts.{AreTexts}
 use Rattle.engine_session.specs.Standing.{counts}
 use Rattle.publication.proofs.Planning.{on_err}
+use Rattle.rebuild.specs.Engines.{situation_of}
 use Rattle.session.specs.Orders.{Blame}
 use Rattle.watch.proofs.Blaming.{blame_cut, blame_none, blame_told}
+use Rattle.watch.proofs.Ready.{faithful_ready}
 use Rattle.watch.proofs.Working.{cut_still}
 use Rattle.watch.specs.Sites.{spot_of}
 use Rattle.watch.specs.Steps.{Cut, Spot, Went}
@@ -57,3 +60,11 @@ returns-clause-went g c =
     (blame_told g.R.Runner.meaning dirs limits s before start c.args.name.now
     c.as_slice.result.now new spent c.blame.new.text.items at (c.in_ok-blame.ensures.told
     (ready.faithful taken) dirs limits s start.spent at.engine (at.taken ∙ taken)))
+
+-- what holds before the next line
+pub returns-clause-ready : goal.returns-clause-ready
+returns-clause-ready g c =
+    let taken : c.args.site.now.has_taken ≡ true = c.if-not-site.false in
+    λ ready. faithful_ready _ _ (c.blame.ensures.faithful (ready.faithful taken))
+    (subst (λ engine. AreTexts (situation_of engine.core) c.args.site.now.carried.texts)
+    (sym c.blame.ensures.engine) ready.texts)

@@ -1,4 +1,5 @@
 use Rattle.std.proofs.Common.{◌≡◌, ◌++◌, ap₂, codes, length, refl, rules, subst, ◌∙◌}
+use Rattle.engine_session.proofs.KeptTrees.{texts_still}
 use Rattle.engine_session.specs.Compiler.{compiler}
 use Rattle.engine_session.specs.Standing.{counts, TakesNext}
 use Rattle.engine_turns.specs.Places.{names}
@@ -134,17 +135,20 @@ pub returns-in_ok-extend_from_slice-in-Failed-clause-ready :
     goal.returns-in_ok-extend_from_slice-in-Failed-clause-ready
 returns-in_ok-extend_from_slice-in-Failed-clause-ready g c = λ ready. failed_ready _ _
     (c.take_next.ensures.still ready.begun) (λ taken. c.take_next.ensures.faithful (ready.faithful
-    taken))
+    taken)) (texts_still _ _ (c.in_ok-take_next.ensures.trees ready.begun) _ ready.texts)
 
 pub returns-in_ok-push_files-in-Taken-clause-ready :
     goal.returns-in_ok-push_files-in-Taken-clause-ready
 returns-in_ok-push_files-in-Taken-clause-ready g c = λ ready. faithful_ready _ _
     (c.in_ok-take_next.ensures.begun ready.begun c.in-Taken.is)
+    (texts_still _ _ (c.in_ok-take_next.ensures.trees ready.begun) _ ready.texts)
 
 pub returns-in-SpendsNumbers-clause-ready : goal.returns-in-SpendsNumbers-clause-ready
 returns-in-SpendsNumbers-clause-ready g c = λ ready. failed_ready _ _ (c.take_next.ensures.still
     ready.begun) (λ taken. c.take_next.ensures.faithful (ready.faithful taken))
+    (texts_still _ _ (c.in_ok-take_next.ensures.trees ready.begun) _ ready.texts)
 
 pub returns-in-IsTooMuch-clause-ready : goal.returns-in-IsTooMuch-clause-ready
 returns-in-IsTooMuch-clause-ready g c = λ ready. failed_ready _ _ (c.take_next.ensures.still
     ready.begun) (λ taken. c.take_next.ensures.faithful (ready.faithful taken))
+    (texts_still _ _ (c.in_ok-take_next.ensures.trees ready.begun) _ ready.texts)

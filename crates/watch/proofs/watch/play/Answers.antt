@@ -19,7 +19,11 @@ loop-i-init g c = record {
   shelf_opened = refl;
   store_opened = refl;
   unkept = λ none. (refl, none);
-  ready = λ ready. record { begun = ready.begun; faithful = ready.faithful };
+  ready = λ ready. record {
+    begun = ready.begun;
+    faithful = ready.faithful;
+    texts = ready.texts;
+  };
   played = λ ready dirs limits e ps names begins. none_yet (compiler (g.R.Runner.meaning dirs
       limits) dirs) g.R.Runner.meaning dirs limits e ps names (g.N.Lines.left c.args.lines.now)
       (g.O.Sink.held c.args.out.now) _ refl begins;

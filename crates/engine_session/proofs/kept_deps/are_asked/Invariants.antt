@@ -1,6 +1,6 @@
 use Rattle.std.proofs.Common.{◌≡◌, take, length}
-use Rattle.engine_session.specs.KeptTexts.{asked_lines, item_lines}
-use Rattle.engine_session.proofs.kept_texts.are_asked.Given as goal
+use Rattle.engine_session.specs.KeptDeps.{asked_lines, item_lines}
+use Rattle.engine_session.proofs.kept_deps.are_asked.Given as goal
 
 abbrev pub invariant-loop-i : goal.invariant-loop-i
 invariant-loop-i l = record {

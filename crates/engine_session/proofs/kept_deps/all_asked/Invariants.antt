@@ -1,6 +1,6 @@
 use Rattle.std.proofs.Common.{◌≡◌, ◌++◌, drop}
-use Rattle.engine_session.specs.KeptTexts.{asked_lines, item_lines}
-use Rattle.engine_session.proofs.kept_texts.all_asked.Given as goal
+use Rattle.engine_session.specs.KeptDeps.{asked_lines, item_lines}
+use Rattle.engine_session.proofs.kept_deps.all_asked.Given as goal
 
 abbrev pub invariant-loop-item : goal.invariant-loop-item
 invariant-loop-item l =
