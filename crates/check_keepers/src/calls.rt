@@ -96,28 +96,48 @@ pub(crate) fn word(done: Result<(), StoreError>) -> &'static str {
     }
 }
 
+/// Changes rows, and tells what came of it and the letters that the keeper then holds.
+fn print_change<K: Keeper>(
+    rt: &HostRuntime,
+    keeper: &mut K,
+    what: &str,
+    gone: &str,
+    set: &str,
+) -> Result<()>
+    requires open { IsSome (K.opened keeper.old) }
+    ensures opened { K.opened keeper.new ≡ K.opened keeper.old }
+{
+    let done = word(replace(rt.alloc(), keeper, gone, set)?);
+    let letters = letters(rt.alloc(), keeper)?;
+    println!(rt; "  {what} {done}: {}", letters.as_str())?;
+    Ok(())
+}
+
+/// Takes the row a out, and tells the letters and the faults of a keeper that was open all the while.
+pub(crate) fn print_held_letters<K: Keeper>(rt: &HostRuntime, keeper: &mut K) -> Result<()>
+    requires open { IsSome (K.opened keeper.old) }
+{
+    let done = word(replace(rt.alloc(), keeper, "a", "c")?);
+    let letters = letters(rt.alloc(), keeper)?;
+    let faults = keeper.faults();
+    println!(rt;
+        "  there a out, set c {done}: {}, {faults} faults",
+        letters.as_str()
+    )?;
+    Ok(())
+}
+
 /// Opens a keeper, changes its rows twice and tells what it holds, and its count of faults.
 pub(crate) fn print_calls<K: Keeper>(rt: &HostRuntime, what: &str, keeper: &mut K) -> Result<()>
     requires closed { K.opened keeper.old ≡ None }
 {
-    let alloc = rt.alloc();
     println!(rt; "{what}")?;
     if keeper.open_store("rows.db").is_err() {
         return Err(anyhow!("not opened"));
     }
     println!(rt; "  open done")?;
-    let done = replace(alloc, keeper, "", "ab")?;
-    println!(rt;
-        "  set a, b {}: {}",
-        word(done),
-        letters(alloc, keeper)?.as_str()
-    )?;
-    let done = replace(alloc, keeper, "a", "c")?;
-    println!(rt;
-        "  a out, set c {}: {}",
-        word(done),
-        letters(alloc, keeper)?.as_str()
-    )?;
+    print_change(rt, keeper, "set a, b", "", "ab")?;
+    print_change(rt, keeper, "a out, set c", "a", "c")?;
     println!(rt; "  {} faults", keeper.faults())?;
     Ok(())
 }

@@ -1,26 +1,67 @@
-use crate::calls::{fill, letters, print_calls, replace, word};
+ghost use Rattle.std.specs.Prelude.{◌≡◌, None};
+
+use crate::calls::{fill, opened_letters, print_calls, print_held_letters, word};
 use anyhow::{Result, anyhow};
 use host_keeper::HostKeeper;
 use keepers::Keeper;
 use std::alloc::Global;
 use std::fs;
 
+/// What is done with a keeper that is new.
+#[derive(Clone, Copy)]
+enum Deed<'a> {
+    /// Its rows are changed, in a file that is new.
+    Change,
+    /// That file is opened again.
+    Read,
+    /// A file is made that holds the rows a and b.
+    Fill(&'a str),
+    /// A file is made, and opened elsewhere meanwhile.
+    Hold,
+}
+
+fn act<K: Keeper>(rt: &HostRuntime, keeper: &mut K, deed: Deed<'_>) -> Result<()>
+    requires closed { K.opened keeper.old ≡ None }
+{
+    match deed {
+        Deed::Change => print_calls(rt, "a new file", keeper),
+        Deed::Read => print_again(rt, keeper),
+        Deed::Fill(file) => fill(rt.alloc(), keeper, file),
+        Deed::Hold => print_elsewhere(rt, keeper),
+    }
+}
+
+/// A keeper is made, used and let go. It owns much that each exit of its owner has to let go, so one function owns
+/// it for all that is done.
+fn with_new(rt: &HostRuntime, deed: Deed<'_>) -> Result<()> {
+    let mut keeper = HostKeeper::new(rt.clone()?);
+    act(rt, &mut keeper, deed)
+}
+
+/// The same, with a keeper that is closed.
+fn with_closed(rt: &HostRuntime, deed: Deed<'_>) -> Result<()> {
+    let mut keeper = HostKeeper::new(rt.clone()?);
+    let acted = act(rt, &mut keeper, deed);
+    let closed = keeper.close();
+    acted?;
+    match closed {
+        Ok(()) => Ok(()),
+        Err(_) => Err(anyhow!("not closed")),
+    }
+}
+
+fn print_again<K: Keeper>(rt: &HostRuntime, keeper: &mut K) -> Result<()>
+    requires closed { K.opened keeper.old ≡ None }
+{
+    let letters = opened_letters(rt.alloc(), keeper)?;
+    println!(rt; "  opened again: {}", letters.as_str())?;
+    Ok(())
+}
+
 /// Opens a new file and changes its rows, and opens it again.
 fn print_new(rt: &HostRuntime) -> Result<()> {
-    let mut keeper = HostKeeper::new(rt.clone()?);
-    print_calls(rt, "a new file", &mut keeper)?;
-    if keeper.close().is_err() {
-        return Err(anyhow!("not closed"));
-    }
-    let mut again = HostKeeper::new(rt.clone()?);
-    if again.open_store("rows.db").is_err() {
-        return Err(anyhow!("not opened again"));
-    }
-    println!(rt;
-        "  opened again: {}",
-        letters(rt.alloc(), &mut again)?.as_str()
-    )?;
-    Ok(())
+    with_closed(rt, Deed::Change)?;
+    with_new(rt, Deed::Read)
 }
 
 /// What a file holds; nothing where it cannot be read.
@@ -41,52 +82,56 @@ fn trouble_in(alloc: Global, keeper: &HostKeeper) -> Result<String> {
     }
 }
 
+/// What opening a file answered, how many faults a keeper counts, and the last one in words.
+fn told(
+    alloc: Global,
+    keeper: &HostKeeper,
+    opened: &'static str,
+) -> Result<(&'static str, u64, String)> {
+    Ok((opened, keeper.faults(), trouble_in(alloc, keeper)?))
+}
+
+fn opened_anew(rt: &HostRuntime, file: &str) -> Result<(&'static str, u64, String)> {
+    let mut keeper = HostKeeper::new(rt.clone()?);
+    let opened = word(keeper.open_store(file));
+    told(rt.alloc(), &keeper, opened)
+}
+
 /// Opens a file that is no store: the call is refused and counted, and the file stays.
 fn print_bad(rt: &HostRuntime, what: &str, file: &str) -> Result<()> {
     let before = content(rt, file);
-    let mut keeper = HostKeeper::new(rt.clone()?);
-    let opened = word(keeper.open_store(file));
-    let told = trouble_in(rt.alloc(), &keeper)?;
+    let (opened, faults, told) = opened_anew(rt, file)?;
     let same = if before.as_slice() == content(rt, file).as_slice() {
         "as it was"
     } else {
         "changed"
     };
-    println!(rt; "{what}: open {opened}, {} faults, {same}", keeper.faults())?;
+    println!(rt; "{what}: open {opened}, {faults} faults, {same}")?;
     println!(rt; "  {}", told.as_str())?;
     Ok(())
 }
 
-/// Makes a file that holds the rows a and b, and gives the keeper that has it open.
-fn made(rt: &HostRuntime, file: &str) -> Result<HostKeeper> {
-    let mut keeper = HostKeeper::new(rt.clone()?);
-    fill(rt.alloc(), &mut keeper, file)?;
-    Ok(keeper)
+fn shut(rt: &HostRuntime, file: &str) -> Result<()> {
+    let mut permissions = fs::metadata(rt, file)?.permissions();
+    permissions.set_readonly(true);
+    fs::set_permissions(rt, file, permissions)?;
+    Ok(())
 }
 
 /// Opens a store that may not be written.
 fn print_read_only(rt: &HostRuntime) -> Result<()> {
-    if made(rt, "shut.db")?.close().is_err() {
-        return Err(anyhow!("not closed"));
-    }
-    let mut permissions = fs::metadata(rt, "shut.db")?.permissions();
-    permissions.set_readonly(true);
-    fs::set_permissions(rt, "shut.db", permissions)?;
+    with_closed(rt, Deed::Fill("shut.db"))?;
+    shut(rt, "shut.db")?;
     print_bad(rt, "a store that may not be written", "shut.db")
 }
 
 /// Opens a store that is open elsewhere, of which the one who has it goes on.
-fn print_held(rt: &HostRuntime) -> Result<()> {
-    let mut keeper = HostKeeper::new(rt.clone()?);
-    fill(rt.alloc(), &mut keeper, "held.db")?;
+fn print_elsewhere<K: Keeper>(rt: &HostRuntime, keeper: &mut K) -> Result<()>
+    requires closed { K.opened keeper.old ≡ None }
+{
+    fill(rt.alloc(), keeper, "held.db")?;
     print_bad(rt, "a store that is open elsewhere", "held.db")?;
-    let done = word(replace(rt.alloc(), &mut keeper, "a", "c")?);
-    println!(rt;
-        "  there a out, set c {done}: {}, {} faults",
-        letters(rt.alloc(), &mut keeper)?.as_str(),
-        keeper.faults()
-    )?;
-    Ok(())
+    print_held_letters(rt, keeper)
 }
 
 pub(crate) fn print_files(rt: &HostRuntime) -> Result<()> {
@@ -99,5 +144,5 @@ pub(crate) fn print_files(rt: &HostRuntime) -> Result<()> {
     print_bad(rt, "a file in a folder that is missing", "none/rows.db")?;
     print_bad(rt, "no name", "")?;
     print_read_only(rt)?;
-    print_held(rt)
+    with_new(rt, Deed::Hold)
 }

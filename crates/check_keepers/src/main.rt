@@ -11,18 +11,20 @@ use crate::calls::print_calls;
 use anyhow::Result;
 use keepers::{MemKeeper, SureKeeper};
 
-fn print_memory(rt: &HostRuntime) -> Result<()> {
-    let alloc = rt.alloc();
-    print_calls(
-        rt,
-        "in memory",
-        &mut SureKeeper::new(alloc, Vec::new(alloc)),
-    )?;
-    let mut failing = Vec::new(alloc);
-    failing.push(1)?;
-    failing.push(4)?;
-    let mut keeper = MemKeeper::new(alloc, Vec::new(alloc), failing);
+fn print_sure(rt: &HostRuntime) -> Result<()> {
+    let mut keeper = SureKeeper::new(rt.alloc(), Vec::new(rt.alloc()));
+    print_calls(rt, "in memory", &mut keeper)
+}
+
+fn print_failing(rt: &HostRuntime) -> Result<()> {
+    let failing = Vec::from_slice(rt.alloc(), &[1, 4])?;
+    let mut keeper = MemKeeper::new(rt.alloc(), Vec::new(rt.alloc()), failing);
     print_calls(rt, "in memory, the calls 1 and 4 fail", &mut keeper)
+}
+
+fn print_memory(rt: &HostRuntime) -> Result<()> {
+    print_sure(rt)?;
+    print_failing(rt)
 }
 
 fn main(rt: HostRuntime) -> Result<()> {

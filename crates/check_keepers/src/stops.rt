@@ -34,13 +34,51 @@ fn change<K: Keeper>(alloc: Global, keeper: &mut K) -> Result<Answered>
     Ok(Answered::Both)
 }
 
-fn changed(
+/// What is done with a keeper over disks.
+#[derive(Clone, Copy)]
+enum Deed {
+    Change,
+    Read,
+}
+
+/// How far the changes came, and the letters that were read.
+type Acted = Result<(Answered, String)>;
+
+fn act<K: Keeper>(alloc: Global, keeper: &mut K, deed: Deed) -> Acted
+    requires closed { K.opened keeper.old ≡ None }
+{
+    match deed {
+        Deed::Change => Ok((change(alloc, keeper)?, String::new(alloc))),
+        Deed::Read => Ok((Answered::Nothing, opened_letters(alloc, keeper)?)),
+    }
+}
+
+/// A keeper over a connection is used. It owns much that has to be let go, so one function owns it for all that is
+/// done.
+fn acted(
     alloc: Global,
     connection: Connection<FileStore<Disk>>,
-) -> Result<(Answered, Connection<FileStore<Disk>>)> {
+    deed: Deed,
+) -> (Acted, Connection<FileStore<Disk>>) {
     let mut keeper = SqliteKeeper::adopt(alloc, connection);
-    let answered = change(alloc, &mut keeper)?;
-    Ok((answered, keeper.into_connection()))
+    let acted = act(alloc, &mut keeper, deed);
+    (acted, keeper.into_connection())
+}
+
+fn changed(alloc: Global, connection: Connection<FileStore<Disk>>) -> (Acted, Files<Disk>) {
+    let (acted, connection) = acted(alloc, connection, Deed::Change);
+    (acted, closed(connection))
+}
+
+fn letters_of(acted: Acted) -> Result<String> {
+    let (_answered, letters) = acted?;
+    Ok(letters)
+}
+
+fn letters_in(alloc: Global, connection: Connection<FileStore<Disk>>) -> Result<String> {
+    let (acted, connection) = acted(alloc, connection, Deed::Read);
+    closed(connection);
+    letters_of(acted)
 }
 
 fn closed(connection: Connection<FileStore<Disk>>) -> Files<Disk> {
@@ -51,17 +89,17 @@ fn closed(connection: Connection<FileStore<Disk>>) -> Files<Disk> {
 }
 
 /// Changes rows over disks that stop after so many calls.
-fn stopped(alloc: Global, log_calls: u64, file_calls: u64) -> Result<(Answered, Files<Disk>)> {
+fn stopped(alloc: Global, log_calls: u64, file_calls: u64) -> (Acted, Files<Disk>) {
     let files = Files {
         log: Fuse::new(Memory::new(alloc), log_calls),
         db: Fuse::new(Memory::new(alloc), file_calls),
     };
     match Connection::open_files(alloc, files, Options::new(1)) {
-        Ok(connection) => {
-            let (answered, connection) = changed(alloc, connection)?;
-            Ok((answered, closed(connection)))
-        }
-        Err((_, left)) => Ok((Answered::Nothing, left.into_files())),
+        Ok(connection) => changed(alloc, connection),
+        Err((_, left)) => (
+            Ok((Answered::Nothing, String::new(alloc))),
+            left.into_files(),
+        ),
     }
 }
 
@@ -70,10 +108,7 @@ fn found(alloc: Global, mut files: Files<Disk>) -> Result<String> {
     files.log.crash();
     files.db.crash();
     match Connection::open_files(alloc, files, Options::new(1)) {
-        Ok(connection) => {
-            let mut keeper = SqliteKeeper::adopt(alloc, connection);
-            opened_letters(alloc, &mut keeper)
-        }
+        Ok(connection) => letters_in(alloc, connection),
         Err(_) => Err(anyhow!("no database")),
     }
 }
@@ -94,8 +129,9 @@ fn print_stop(rt: &HostRuntime, is_log: bool, calls: u64) -> Result<Answered> {
     } else {
         (u64::MAX, calls)
     };
-    let (answered, files) = stopped(rt.alloc(), log_calls, file_calls)?;
+    let (acted, files) = stopped(rt.alloc(), log_calls, file_calls);
     let letters = found(rt.alloc(), files)?;
+    let (answered, _none) = acted?;
     if !may_be_found(answered, letters.as_str()) {
         println!(rt; "  after {calls} calls: {}", letters.as_str())?;
     }

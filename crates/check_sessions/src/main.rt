@@ -174,31 +174,30 @@ fn print_rows(rt: &HostRuntime, rows: &[StoredRow]) -> Result<()> {
 }
 
 /// The devices of a case.
-fn devices_of(
-    alloc: Global,
-    pictures: Vec<Seq<MemFile>>,
-    held: Vec<Held>,
-    lines: Vec<Bytes>,
-    fails: Fails,
-) -> (Devices<MemSource, MemShelf, MemLines, MemSink>, Vec<u64>)
-    requires { are_pictures pictures.items ≡ true }
-    ensures source { result.0.source.source.root ≡ None }
-    ensures shelf { result.0.shelf.shelf.root ≡ None }
+fn devices_of(alloc: Global, case: Case) -> Devices<MemSource, MemShelf, MemLines, MemSink>
+    ensures source { result.source.source.root ≡ None }
+    ensures shelf { result.shelf.shelf.root ≡ None }
 {
+    let Case {
+        pictures,
+        held,
+        lines,
+        fails,
+        ..
+    } = case;
     let Fails {
         source,
         shelf,
-        keeper,
         lines: lines_fails,
         sink,
+        ..
     } = fails;
-    let devices = Devices {
+    Devices {
         source: MemSource::new(alloc, pictures, source),
         shelf: MemShelf::new(alloc, held, shelf),
         lines: MemLines::new(lines, lines_fails),
         out: MemSink::new(alloc, sink),
-    };
-    (devices, keeper)
+    }
 }
 
 /// The keeper of a case.
@@ -245,30 +244,44 @@ fn ended<L: Ledger>(
     pan(alloc, words, Written::new(alloc), devices, keeper, steps)
 }
 
-/// Calls the compiler, and gives the rows that are kept then.
-fn run<L: Ledger>(
+/// What a call came to is printed, and the rows that are kept then are given.
+fn rows_after(rt: &HostRuntime, ended: &Ended) -> Result<Vec<StoredRow>> {
+    print_ended(rt, ended)?;
+    copies(rt.alloc(), ended.keeper.rows())
+}
+
+/// Calls the compiler over the devices of a case, and gives the rows that are kept then. Each exit of the function
+/// that owns the devices has to let them go, so it has one.
+fn played<L: Ledger>(
     rt: &HostRuntime,
     case: Case,
+    keeper: MemKeeper,
+    words: &[Text],
+    steps: &mut Steps<L>,
+) -> Result<Vec<StoredRow>>
+    requires keeper { keeper.keeper.opened ≡ None }
+{
+    let devices = devices_of(rt.alloc(), case);
+    let ended = ended(rt.alloc(), words, devices, keeper, steps);
+    rows_after(rt, &ended)
+}
+
+/// Calls the compiler for what was said, and forgets that but for the rows that are kept then.
+fn run<L: Ledger>(
+    rt: &HostRuntime,
+    case: &mut Case,
     words: &str,
     steps: &mut Steps<L>,
-) -> Result<Vec<StoredRow>> {
+) -> Result<()> {
     let alloc = rt.alloc();
-    let Case {
-        pictures,
-        files,
-        held,
-        lines,
-        rows,
-        fails,
-    } = case;
-    let mut pictures = pictures;
-    push_picture(alloc, &mut pictures, files)?;
-    let (devices, keeper_fails) = devices_of(alloc, pictures, held, lines, fails);
-    let keeper = keeper_of(alloc, rows, keeper_fails)?;
+    end_picture(alloc, case)?;
     let words = words_of(alloc, words)?;
-    let ended = ended(alloc, &words, devices, keeper, steps);
-    print_ended(rt, &ended)?;
-    copies(alloc, ended.keeper.rows())
+    let mut said = mem::replace(case, new_case(alloc));
+    let rows = mem::replace(&mut said.rows, Vec::new(alloc));
+    let fails = mem::replace(&mut said.fails.keeper, Vec::new(alloc));
+    let keeper = keeper_of(alloc, rows, fails)?;
+    case.rows = played(rt, said, keeper, &words, steps)?;
+    Ok(())
 }
 
 /// The same rows, shared.
@@ -306,10 +319,7 @@ fn say<L: Ledger>(
             Ok(())
         }
         "fail" => fail(case, name, text),
-        "run" => {
-            case.rows = run(rt, mem::replace(case, new_case(alloc)), rest, steps)?;
-            Ok(())
-        }
+        "run" => run(rt, case, rest, steps),
         _ => Ok(()),
     }
 }
