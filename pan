@@ -216,6 +216,7 @@ watch() {
   "$tools/pan-notes" out "$out"
   [ -z "$state" ] || "$tools/pan-notes" state "$source" "$out" "$state"
   "$tools/pan-notes" source "$source" "${include:-.}"
+  export GLIBC_TUNABLES=${GLIBC_TUNABLES:-$("$tools/pan-program" --tunables)}
   run_over_state "$@"
 }
 

@@ -7,6 +7,7 @@
 - The notes on standard error: slips in SOURCE, files of others in OUT, and the line behind a build.
 - Accidents that would take every profile away: with --most-removed the files are still there, and a note says why.
 - One program at a time works on a folder of profiles, and on a file of --state; what such a file keeps.
+- What a watcher is given for the allocator.
 - The layout of folders, files and standard input, and what only looks at it; what an edit touches, and what is unused.
 - Faults without a publication, faults for other programs, what stands in a profile, and who set it.
 - What contrib/install puts below a folder runs there, with nothing of the repository.
@@ -306,6 +307,17 @@ def kept_by_a_watcher(folder):
     yield "a file among the templates", ended.status == 0 and ended.warns("site/s.db stands below site")
 
 
+def tuned(folder):
+    machines(folder, 1)
+    write(folder, "told", '#!/bin/sh\necho "$GLIBC_TUNABLES"\n')
+    (folder / "told").chmod(0o755)
+    words = {"given": "quit\n", "PAN": str(folder / "told")}
+    ended = pan(folder, "watch", "site", "out", GLIBC_TUNABLES=None, **words)
+    yield "a watcher has more places in the allocator", re.fullmatch(r"glibc\.malloc\.tcache_count=\d+\n", ended.text)
+    ended = pan(folder, "watch", "site", "out", GLIBC_TUNABLES="glibc.malloc.arena_max=1", **words)
+    yield "the caller's own", ended.text == "glibc.malloc.arena_max=1\n"
+
+
 def kept(folder):
     if not shutil.which("sqlite3"):
         return
@@ -523,8 +535,8 @@ def vim(folder):
 
 def main():
     passed = failed = 0
-    parts = (words, found, notes, accidents, lock, state, kept_by_a_watcher, kept, layout, touched, checked, for_programs)
-    parts += (shown, blamed, installed, vim)
+    parts = (words, found, notes, accidents, lock, state, kept_by_a_watcher, tuned, kept, layout, touched, checked)
+    parts += (for_programs, shown, blamed, installed, vim)
     for part in parts:
         with tempfile.TemporaryDirectory() as room:
             for name, is_well in part(Path(room).resolve()):

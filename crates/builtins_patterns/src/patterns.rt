@@ -113,11 +113,23 @@ impl Patterns {
         if found.is_some() || self.searchers.len() >= MAX_LEAKED {
             return Ok(found);
         }
+        let place = self.add(source)?;
+        Ok(Some(place))
+    }
+
+    // The place of a new one, which comes behind the others. It is seldom called: apart, it takes
+    // no room for a pattern and a matcher in the frame of each call.
+    #[inline(never)]
+    fn add(&mut self, source: &str) -> Result<usize, Refused>
+        ensures ok { IfOk result (λ i. slice_get self.new.searchers.items i ≡ Some source.now) }
+        ensures err { IfErr result
+            (λ e. e ≢ Memory → (e ≡ BadPattern) × (pattern_of source.now ≡ None)) }
+    {
         let pattern = compiled(self.alloc, source)?;
         let searcher = leaked(self.alloc, source, pattern)?;
         let place = self.searchers.len();
         self.searchers.push(searcher)?;
-        Ok(Some(place))
+        Ok(place)
     }
 
     // The pattern of a text, kept for the next call.

@@ -1,3 +1,4 @@
+pub mod Adding
 pub mod Capped
 pub mod Examples
 pub mod Walks
@@ -5,3 +6,4 @@ pub mod Joined
 pub mod Parting
 pub mod Reading
 pub mod Utf8
+pub mod Widths

@@ -1,7 +1,7 @@
 -- How a format is walked.
-use Rattle.std.proofs.Common.{◌≡◌, ℕ, zero, suc, ◌<◌, ◌==◌, Bool, true, false, List, [], ◌∷◌, ◌++◌, length, drop, get_or, append_assoc, Option, Some, None, Ok, Err, refl, sym, ap, ◌∙◌, arith}
+use Rattle.std.proofs.Common.{◌≡◌, ℕ, zero, suc, ◌<◌, ◌==◌, Bool, true, false, List, [], ◌∷◌, ◌++◌, length, drop, get_or, append_assoc, Option, Some, None, Err, refl, sym, ap, ◌∙◌, arith}
 use Rattle.std.specs.Prelude.{◌≢◌, IfSome, Result, option_and_then}
-use Rattle.std.proofs.lemmas.Bool.{cond-false, eqb-true}
+use Rattle.std.proofs.lemmas.Bool.{cond-false, cond-true, eqb-true}
 use Rattle.base.specs.Answers.{given}
 use Rattle.path_tree.specs.Plain.{Plain}
 use Rattle.path_tree.specs.Refusals.{refusal}
@@ -20,16 +20,12 @@ passed (suc n) [] [] = refl
 passed (suc n) [] (v ∷ vs) = refl
 passed (suc n) (c ∷ cs) vs = passed n cs vs
 
-there : {A : Type 0} (o : Option A) (x : A) → given {B = A} BadArgument o Ok ≡ Ok x → o ≡ Some x
-there None x h = absurd cc
-there (Some y) x h = cc
-
 -- a form takes the next value
 pub next_written : (behind rest : List ℕ) (form : Form) (values : List Plain) (v : Plain)
     (vs : List Plain) (t : List ℕ) →
     begins percent_sign behind ≡ false → form_of behind ≡ Some form → rest
     ≡ drop (form_length behind) behind → values ≡ v ∷ vs →
-    given {B = List ℕ} BadArgument (written form v) Ok ≡ Ok t
+    written form v ≡ Some t
     → formatted (percent_sign ∷ behind) values ≡ before t (formatted rest vs)
 next_written behind rest form values v vs t no_percent is_form is_rest is_values is_text =
     let more : List Plain → Option (List ℕ) = formatted_after (form_length behind) behind in
@@ -37,9 +33,20 @@ next_written behind rest form values v vs t no_percent is_form is_rest is_values
     (formatted_after 1 behind values)) (with_next (form_of behind) more values) no_percent
     ∙ (ap (λ o. with_next o more values) is_form
     ∙ (ap (with_next (Some form) more) is_values
-    ∙ (ap (λ o. option_and_then (λ x. before x (more vs)) o) (there (written form v) t is_text)
+    ∙ (ap (λ o. option_and_then (λ x. before x (more vs)) o) is_text
     ∙ ap (before t) (passed (form_length behind) behind vs
     ∙ ap (λ r. formatted r vs) (sym is_rest)))))
+
+-- `%` again is one `%`
+pub percent_written : (behind rest : List ℕ) (values : List Plain) →
+    begins percent_sign behind ≡ true → behind ≡ percent_sign ∷ rest
+    → formatted (percent_sign ∷ behind) values
+    ≡ before (percent_sign ∷ []) (formatted rest values)
+percent_written behind rest values is_percent is_rest =
+    cond-true (begins percent_sign behind) (before (percent_sign ∷ [])
+    (formatted_after 1 behind values))
+    (with_next (form_of behind) (formatted_after (form_length behind) behind) values) is_percent
+    ∙ ap (λ b. before (percent_sign ∷ []) (formatted_after 1 b values)) is_rest
 
 before_nothing : (o : Option (List ℕ)) → o ≡ before [] o
 before_nothing None = refl

@@ -7,3 +7,4 @@ pub mod Formats
 pub mod Addresses
 -- What helps to say what the inner functions give.
 pub mod Saturated
+pub mod Writing

@@ -1,13 +1,14 @@
-ghost use Rattle.std.specs.Prelude.{◌≡◌, ◌≢◌, ◌≤◌, ◌∷◌, IfErr, IfOk, None, length, string_bytes};
+ghost use Rattle.std.specs.Prelude.{◌≡◌, ◌≢◌, ◌≤◌, ◌∷◌, ℕ, IfErr, IfOk, List, None, length};
 ghost use Rattle.std.specs.Str.{IsUtf8};
 ghost use Rattle.base.specs.Answers.{Gives, given};
 ghost use Rattle.builtins_text.specs.Formats.{before, format_of, formatted, percent_sign};
+ghost use Rattle.call_values.specs.Drafts.{Adds};
 ghost use Rattle.path_tree.specs.Refusals.{refusal};
 ghost use Rattle.path_tree.specs.Values.{text_value};
 ghost use Rattle.path_tree.specs.declared.refused.Refused.TheVariants.{BadArgument, Memory};
 
 use crate::forms::{behind_first, form_of};
-use crate::writing::written;
+use crate::writing::write;
 use call_values::Draft;
 use path_tree::{Refused, Tree};
 use std::alloc::Global;
@@ -25,11 +26,10 @@ pub(crate) fn format(alloc: Global, args: &[Tree]) -> Result<Tree, Refused>
     format_text(alloc, text, values)
 }
 
-/// What a form or `%%` writes, and what is left of the text and of the values behind it.
+/// What is left of the text and of the values behind a form or `%%`.
 #[derive(Drop)]
-struct Written<'a> {
-    text: String,
-    rest: &'a str,
+struct Rest<'a> {
+    text: &'a str,
     values: &'a [Tree],
 }
 
@@ -41,13 +41,12 @@ fn format_text(alloc: Global, text: &str, values: &[Tree]) -> Result<Tree, Refus
     let mut rest = text;
     let mut left = values;
     while let Some((plain, behind)) = rest.split_once('%') {
-        let next = match write_next(alloc, behind, left) {
+        draft.push(plain)?;
+        let next = match write_next(alloc, &mut draft, behind, left) {
             Ok(next) => next,
             Err(error) => return Err(error),
         };
-        draft.push(plain)?;
-        draft.push(next.text.as_str())?;
-        rest = next.rest;
+        rest = next.text;
         left = next.values;
     }
     if !left.is_empty() {
@@ -57,29 +56,31 @@ fn format_text(alloc: Global, text: &str, values: &[Tree]) -> Result<Tree, Refus
     draft.finish()
 }
 
-/// What stands behind a `%` is `%` again or a form, which takes the next value.
+/// Adds what stands behind a `%`: `%` again, or what a form writes of the next value.
 fn write_next<'a>(
     alloc: Global,
+    draft: &mut Draft,
     behind: &'a str,
     values: &'a [Tree],
-) -> Result<Written<'a>, Refused>
-    ensures ok { IfOk result (λ next. formatted (percent_sign ∷ behind.now) values.now
-        ≡ before (string_bytes next.text) (formatted next.rest.now next.values.now)) }
-    ensures shorter { IfOk result (λ next. length next.rest.now ≤ length behind.now) }
-    ensures utf8 { IfOk result (λ next. IsUtf8 next.rest.now) }
+) -> Result<Rest<'a>, Refused>
+    ensures ok { IfOk result (λ next. (t : List ℕ) × Adds draft.old draft.new t
+        × (formatted (percent_sign ∷ behind.now) values.now
+        ≡ before t (formatted next.text.now next.values.now))) }
+    ensures shorter { IfOk result (λ next. length next.text.now ≤ length behind.now) }
+    ensures utf8 { IfOk result (λ next. IsUtf8 next.text.now) }
     ensures err { IfErr result (λ e. e ≢ Memory → (e ≡ BadArgument)
         × (formatted (percent_sign ∷ behind.now) values.now ≡ None)) }
 {
-    if let Some(rest) = behind_first(behind, '%') {
-        let text = String::from_str(alloc, "%")?;
-        return Ok(Written { text, rest, values });
+    if let Some(text) = behind_first(behind, '%') {
+        draft.push("%")?;
+        return Ok(Rest { text, values });
     }
-    let Some((form, rest)) = form_of(behind) else {
+    let Some((form, text)) = form_of(behind) else {
         return Err(Refused::BadArgument);
     };
     let Some((value, values)) = values.split_first() else {
         return Err(Refused::BadArgument);
     };
-    let text = written(alloc, form, value)?;
-    Ok(Written { text, rest, values })
+    write(alloc, draft, form, value)?;
+    Ok(Rest { text, values })
 }

@@ -1,9 +1,9 @@
-ghost use Rattle.std.specs.Prelude.{◌≡◌, ◌++◌, ℕ, List, MatchOption, OnOk, map};
+ghost use Rattle.std.specs.Prelude.{◌≡◌, ◌++◌, MatchOption, OnOk, map};
 ghost use Rattle.std.specs.List.{flat_map, list_all};
 ghost use Rattle.base.specs.Answers.{Gives};
 ghost use Rattle.builtins_text.specs.Joins.{is_text, join_of, join_texts, joined, joined_values, text_or_nothing};
 ghost use Rattle.call_values.specs.Children.{children};
-ghost use Rattle.call_values.specs.Drafts.{drafted};
+ghost use Rattle.call_values.specs.Drafts.{Adds};
 ghost use Rattle.path_tree.specs.Refusals.{refusal};
 
 use call_values::{Arguments, Draft, by_count, copied_children};
@@ -73,8 +73,8 @@ fn join_texts(alloc: Global, separator: &str, values: &[Tree]) -> Result<Tree, R
 /// Adds the texts, each but the first behind the separator.
 #[tactic(auto, using(crate::proofs::Joined::first_joined, crate::proofs::Joined::none_joined))]
 fn push_all(draft: &mut Draft, separator: &str, values: &[Tree]) -> Result<(), AllocError>
-    ensures { OnOk result ((w : List ℕ) → draft.old ≡ drafted w
-        → draft.new ≡ drafted (w ++ joined separator.now (map text_or_nothing values.now))) }
+    ensures { OnOk result (Adds draft.old draft.new
+        (joined separator.now (map text_or_nothing values.now))) }
 {
     let [first, rest @ ..] = values else {
         return Ok(());
@@ -110,9 +110,8 @@ fn text_of(value: &Tree) -> &str
 
 /// Adds the texts, each behind the separator.
 fn push_rest(draft: &mut Draft, separator: &str, values: &[Tree]) -> Result<(), AllocError>
-    ensures { OnOk result ((w : List ℕ) → draft.old ≡ drafted w
-        → draft.new
-        ≡ drafted (w ++ flat_map (λ v. separator.now ++ text_or_nothing v) values.now)) }
+    ensures { OnOk result (Adds draft.old draft.new
+        (flat_map (λ v. separator.now ++ text_or_nothing v) values.now)) }
 {
     for value in values {
         push_one(draft, separator, text_of(value))?;
@@ -121,8 +120,7 @@ fn push_rest(draft: &mut Draft, separator: &str, values: &[Tree]) -> Result<(), 
 }
 
 fn push_one(draft: &mut Draft, separator: &str, text: &str) -> Result<(), AllocError>
-    ensures { OnOk result ((w : List ℕ) → draft.old ≡ drafted w
-        → draft.new ≡ drafted (w ++ (separator.now ++ text.now))) }
+    ensures { OnOk result (Adds draft.old draft.new (separator.now ++ text.now)) }
 {
     draft.push(separator)?;
     draft.push(text)?;

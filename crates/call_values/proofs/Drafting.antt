@@ -1,8 +1,8 @@
 -- A text that grows piece by piece, and is dropped once it is too long.
 use Rattle.std.proofs.Common.{◌≡◌, ℕ, ◌+◌, ◌<◌, ◌≤◌, Bool, true, false, cond, List, ◌++◌, length, Some, None, refl, sym, ap, ◌∙◌, arith}
-use Rattle.std.specs.Prelude.{nat_lt}
+use Rattle.std.specs.Prelude.{nat_lt, replicate}
 use Rattle.std.proofs.lemmas.Bool.{cond-false, cond-true, le-ltb, lt-ltb, ltb-true}
-use Rattle.std.proofs.lemmas.List.{length-append}
+use Rattle.std.proofs.lemmas.List.{length-append, length-replicate}
 use Rattle.call_values.specs.Drafts.{drafted}
 use Rattle.base.specs.declared.limits.TheConstants.{MAX_TEXT_BYTES}
 
@@ -48,3 +48,18 @@ grows w x more h short =
     ap (λ y. Some (y ++ more)) same
     ∙ sym (cond-false (nat_lt MAX_TEXT_BYTES (length (w ++ more))) None (Some (w ++ more))
     (le-ltb MAX_TEXT_BYTES (length (w ++ more)) fits))
+
+-- a character so many times makes it too long
+pub passes_over_times : (w x : List ℕ) (n c : ℕ) → Some x ≡ drafted w
+    → MAX_TEXT_BYTES < length x + n → None ≡ drafted (w ++ replicate n c)
+passes_over_times w x n c h long =
+    let past : MAX_TEXT_BYTES < length x + length (replicate n c) =
+    omega (arith, long, length-replicate n c) in
+    passes_over w x (replicate n c) h past
+
+pub grows_times : (w x : List ℕ) (n c : ℕ) → Some x ≡ drafted w → length x + n ≤ MAX_TEXT_BYTES
+    → Some (x ++ replicate n c) ≡ drafted (w ++ replicate n c)
+grows_times w x n c h short =
+    let fits : length x + length (replicate n c) ≤ MAX_TEXT_BYTES =
+    omega (arith, short, length-replicate n c) in
+    grows w x (replicate n c) h fits

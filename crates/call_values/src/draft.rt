@@ -1,6 +1,6 @@
-ghost use Rattle.std.specs.Prelude.{◌≡◌, ◌++◌, ℕ, List, [], OnOk};
+ghost use Rattle.std.specs.Prelude.{◌≡◌, ◌<◌, ◌++◌, [], OnOk, replicate, string_bytes};
 ghost use Rattle.base.specs.Answers.{Gives};
-ghost use Rattle.call_values.specs.Drafts.{drafted, finished};
+ghost use Rattle.call_values.specs.Drafts.{Adds, drafted, finished};
 ghost use Rattle.path_tree.specs.Refusals.{refusal};
 
 use crate::texts::string_value;
@@ -39,8 +39,7 @@ impl Draft {
     /// Adds a piece at the end.
     #[tactic(auto, using(crate::proofs::Drafting::kept_over, crate::proofs::Drafting::passes_over, crate::proofs::Drafting::grows))]
     pub fn push(&mut self, more: &str) -> Result<(), AllocError>
-        ensures { OnOk result ((w : List ℕ) → self.old ≡ drafted w
-            → self.new ≡ drafted (w ++ more.now)) }
+        ensures { OnOk result (Adds self.old self.new more.now) }
     {
         if self.over {
             return Ok(());
@@ -53,6 +52,24 @@ impl Draft {
         Ok(())
     }
 
+    /// Adds a character so many times at the end.
+    #[tactic(auto, using(crate::proofs::Drafting::kept_over, crate::proofs::Drafting::passes_over_times, crate::proofs::Drafting::grows_times))]
+    pub fn push_times(&mut self, character: char, count: u64) -> Result<(), AllocError>
+        requires { character < 128 }
+        ensures { OnOk result (Adds self.old self.new (replicate count character)) }
+    {
+        if self.over {
+            return Ok(());
+        }
+        let count = count as usize;
+        if count > MAX_TEXT_BYTES || self.text.len() > MAX_TEXT_BYTES - count {
+            self.over = true;
+            return Ok(());
+        }
+        push_times(&mut self.text, character, count)?;
+        Ok(())
+    }
+
     /// The text as a value. `TooLarge` exactly where it has over `MAX_TEXT_BYTES` bytes.
     pub fn finish(self) -> Result<Tree, Refused>
         ensures { Gives (λ t. t) refusal result (finished self) }
@@ -62,4 +79,16 @@ impl Draft {
         }
         string_value(self.text)
     }
+}
+
+/// Adds a character so many times.
+fn push_times(text: &mut String, character: char, count: usize) -> Result<(), AllocError>
+    requires { character < 128 }
+    ensures { OnOk result
+        (string_bytes text.new ≡ string_bytes text.old ++ replicate count character) }
+{
+    for _ in 0..count {
+        text.push(character)?;
+    }
+    Ok(())
 }

@@ -25,6 +25,17 @@ pub struct Site {
     pub functions: Functions,
 }
 
+/// What stands around an item that is in no call of a function.
+fn around_in<'a>(frame: &'a Frame<'a>, site: &Site) -> Around<'a> {
+    Around {
+        frame,
+        self_use: SelfUse::Changeable,
+        called: None,
+        calls_left: site.limits.max_recursion,
+        includes_left: site.includes,
+    }
+}
+
 /// The value of a statement's DML, where SELF has this value.
 fn value_of<L: Ledger>(
     alloc: Global,
@@ -44,13 +55,7 @@ fn value_of<L: Ledger>(
         dirs: &site.dirs,
         max_iteration: site.limits.max_iteration,
     };
-    let around = Around {
-        frame: &frame,
-        self_use: SelfUse::Changeable,
-        called: None,
-        calls_left: site.limits.max_recursion,
-        includes_left: site.includes,
-    };
+    let around = around_in(&frame, site);
     run_dml(
         alloc,
         item,

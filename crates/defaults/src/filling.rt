@@ -65,6 +65,7 @@ pub(crate) fn fill_value<L: Ledger>(
 }
 
 /// Visits a value that is there.
+#[inline(always)]
 #[cycle(filling)]
 #[tactic(auto, using(crate::proofs::Lawful::leaving))]
 fn fill_present<L: Ledger>(
@@ -88,6 +89,7 @@ fn fill_present<L: Ledger>(
 }
 
 /// Fills a value that is there inside.
+#[inline(always)]
 #[cycle(filling)]
 #[tactic(auto, using(type_defs::proofs::Shapes::shapes))]
 fn fill_shape<L: Ledger>(
@@ -163,6 +165,7 @@ fn index_term(i: usize) -> Result<Term, AllocError>
 
 /// Goes one term below the path, to what stands there: in the value at the path where that is
 /// known, else from the root.
+#[inline(always)]
 #[tactic(auto, using(path_tree::proofs::Growing::get_push))]
 fn go_below(
     whole: &Option<Tree>,
@@ -191,6 +194,7 @@ fn go_below(
 }
 
 /// Fills what stands one term below the path.
+#[inline(always)]
 #[cycle(filling)]
 #[tactic(auto, using(crate::proofs::Lawful::leaving))]
 fn fill_term<L: Ledger>(
@@ -335,6 +339,7 @@ fn fill_entry<L: Ledger>(
     fill_below(alloc, place, inner, term, whole, target, steps)
 }
 
+#[inline(always)]
 #[cycle(filling)]
 #[tactic(auto, using(crate::proofs::Loops::no_record, crate::proofs::Loops::a_record))]
 fn fill_record<L: Ledger>(
@@ -358,6 +363,7 @@ fn fill_record<L: Ledger>(
     }
 }
 
+#[inline(always)]
 #[cycle(filling)]
 #[tactic(auto, using(crate::proofs::Loops::fields_more, crate::proofs::Lawful::leaving))]
 fn fill_fields<L: Ledger>(
@@ -382,6 +388,7 @@ fn fill_fields<L: Ledger>(
     Ok(())
 }
 
+#[inline(always)]
 #[cycle(filling)]
 #[tactic(auto, using(type_defs::proofs::Shapes::seen_field, crate::proofs::Lawful::leaving))]
 fn fill_field<L: Ledger>(

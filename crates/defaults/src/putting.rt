@@ -41,6 +41,7 @@ fn default_change(
 
 /// Puts a default where the value is missing, and logs it. A place to which no walk leads is left
 /// as it is.
+#[inline(never)]
 #[tactic(auto, unfolding(crate::specs::Filled::defaulted))]
 pub(crate) fn put_missing(
     alloc: Global,

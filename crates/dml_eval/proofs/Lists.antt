@@ -5,7 +5,7 @@ use Rattle.path_tree.specs.Plain.{Plain, dict, list, text, long, boolean, undef,
 use Rattle.path_tree.specs.Find.{child_count, item_count, field_count, item_at}
 use Rattle.pan_ast.specs.declared.place.Place.{Place}
 use Rattle.pan_ast.specs.declared.syntax.Item.{Item as RItem}
-use Rattle.pan_ast.specs.Syntax.{Item, none}
+use Rattle.pan_ast.specs.Syntax.{Item, more, none}
 use Rattle.pan_ast.specs.Seen.{item_seen, items_seen}
 use Rattle.questions.specs.Contents.{Answers}
 use Rattle.questions.specs.Run.{Meter, Done, give, then}
@@ -43,6 +43,13 @@ pub no_values : (go : Means) (a : Around) (done : List Plain) (o : Answers) (e :
     → values_from go a none done o e m ≡ Done done e m
 unfolding values_from
 no_values go a done o e m = refl
+
+-- one item
+pub one_value : (go : Means) (a : Around) (i : Item) (o : Answers) (e : Env) (m : Meter)
+    → values_from go a (more i none) [] o e m
+    ≡ then (go.opens a i o e m) (λ t. give (t ∷ []) o)
+unfolding values_from
+one_value go a i o e m = refl
 
 -- a turn, and those after it
 pub while_more : (n : ℕ) (go : Means) (a : Around) (p : Place) (c b : Item) (last : Plain)

@@ -1,7 +1,7 @@
 -- How an evaluation ends where a part of it does: with what the part ends with, and at want of
 -- memory
 -- as what goes on behind it leaves no more work.
-use Rattle.std.proofs.Common.{◌≡◌, refl, subst, ℕ, zero, suc, ◌+◌, ◌-◌, ◌<◌, nat_eq, Bool, true, false, not, ◌&&◌, cond, List, [], ◌∷◌, ◌++◌, map, length, drop, get_or, Option, Some, None, is_none, arith}
+use Rattle.std.proofs.Common.{◌≡◌, ◌∙◌, ap, refl, subst, ℕ, zero, suc, ◌+◌, ◌-◌, ◌<◌, nat_eq, Bool, true, false, not, ◌&&◌, cond, List, [], ◌∷◌, ◌++◌, map, length, drop, get_or, Option, Some, None, is_none, arith}
 use Rattle.std.specs.Borrow.{Bor}
 use Rattle.std.proofs.lemmas.Bool.Decides.{nat_tests}
 use Rattle.path_tree.specs.Plain.{Plain, dict, no_fields, undef}
@@ -14,13 +14,13 @@ use Rattle.pan_ast.specs.declared.fault.Code.TheVariants as code
 use Rattle.pan_ast.specs.declared.syntax.Item.{Item as RItem}
 use Rattle.pan_ast.specs.declared.template.Statement.{Statement as RStatement}
 use Rattle.pan_ast.specs.Seen.{item_seen, items_seen}
-use Rattle.pan_ast.specs.Syntax.{Item, Items, Node, Reference, Refer, Step, AtBinary, AtAnd, AtOr, none}
+use Rattle.pan_ast.specs.Syntax.{Item, Items, Node, Reference, Refer, Step, AtBinary, AtAnd, AtOr, more, none}
 use Rattle.pan_ast.specs.Templates.{Template}
 use Rattle.pan_ast.specs.Templates as statement
 use Rattle.pan_ast.specs.TemplatesSeen.{statement_seen}
 use Rattle.questions.specs.Laws.{MayAsk}
 use Rattle.questions.specs.Contents.{Answers}
-use Rattle.questions.specs.Run.{Meter, Done, ◌>>=◌, give, fail, step, still}
+use Rattle.questions.specs.Run.{Meter, Done, ◌>>=◌, give, fail, step, still, then}
 use Rattle.questions.specs.Told.{LeavesAtMost}
 use Rattle.questions.proofs.Lawful.{Lawful}
 use Rattle.questions.proofs.Runs.{Leaves, left_within}
@@ -30,24 +30,24 @@ use Rattle.dml_meaning.specs.Around.{Around, in_create, in_include, in_template}
 use Rattle.dml_meaning.specs.Laws.{IsReading}
 use Rattle.dml_meaning.specs.Lookups.{structure_named}
 use Rattle.dml_meaning.specs.Means.{Purpose, ToChange, Reached}
-use Rattle.dml_meaning.specs.Leaves.{apply_binary, apply_boolean, apply_unary, both, either, on_text}
+use Rattle.dml_meaning.specs.Leaves.{apply_binary, apply_boolean, apply_index, apply_unary, both, either, on_text}
 use Rattle.dml_meaning.specs.References.{block_from, index_step, is_change, reach_from, reach_run, reference_in, started, values_from}
 use Rattle.dml_meaning.specs.Loops.{after_turn, and_step, body_turn, condition_run, for_turn, for_turns, pair_turn, set_pair, while_turn, while_turns}
 use Rattle.dml_meaning.specs.Structures.{assign_by, assign_value, assignment_run, begin_statement, created, dml_run, include_value, included, relative_terms, statement_run, statements_from}
 use Rattle.dml_meaning.specs.BuiltIns.{copy_extended, delete_by, exists_by, extend_list, extend_reached, path_exists_run, reference_extended, value_or_nothing}
 use Rattle.dml_meaning.specs.Meaning.{eval, node_run, second_run, set_run, set_value, spine_run, step_run, steps_run}
 use Rattle.dml_meaning.proofs.Leaves.{LawfulMeans, pieces}
-use Rattle.dml_meaning.proofs.Values.{apply_binary_lawful, apply_unary_lawful, set_value_lawful, text_lawful}
+use Rattle.dml_meaning.proofs.Values.{apply_binary_lawful, apply_index_lawful, apply_unary_lawful, set_value_lawful, text_lawful}
 use Rattle.dml_meaning.proofs.Create.{assign_value_lawful, include_lawful, included_lawful}
-use Rattle.dml_meaning.proofs.Items.{and_step_lawful, argument_lawful, body_turn_lawful, delete_lawful, eval_lawful, exists_by_lawful, exists_lawful, extend_list_lawful, extend_reached_lawful, index_step_lawful, reach_from_lawful}
+use Rattle.dml_meaning.proofs.Items.{and_step_lawful, argument_lawful, body_turn_lawful, delete_lawful, eval_lawful, exists_by_lawful, exists_lawful, extend_list_lawful, extend_reached_lawful, index_step_lawful, node_lawful, reach_from_lawful}
 use Rattle.dml_meaning.proofs.Evaluated.{fits}
-use Rattle.dml_meaning.proofs.Leaving.{assignment_leaves, block_leaves, chain_leaves, dml_leaves, extend_leaves, for_leaves, opens_leaves, reach_from_leaves, reach_leaves, statements_leave, values_leave, while_leaves}
+use Rattle.dml_meaning.proofs.Leaving.{assignment_leaves, block_leaves, chain_leaves, extend_leaves, for_leaves, opens_leaves, reach_from_leaves, reach_leaves, statements_leave, values_leave, while_leaves}
 use Rattle.dml_world.specs.declared.stop.Exit.{Exit}
 use Rattle.dml_world.specs.Exits.{Ends}
 use Rattle.dml_world.proofs.Ends.{ends_then}
 use Rattle.dml_leaves.specs.References.{indexes_back}
 use Rattle.dml_eval.specs.Waits.{with_steps}
-use Rattle.dml_eval.proofs.Lists.{block_more, no_values, values_more}
+use Rattle.dml_eval.proofs.Lists.{block_more, no_values, one_value, values_more}
 use Rattle.dml_eval.proofs.Owns.{exists_other, one_include, statements_more}
 use Rattle.dml_eval.proofs.Reaching.{reach_more}
 
@@ -177,6 +177,22 @@ module _ (a : Around) (w : IsReading a.reading) where
     whole_stops x p y i o e s m k end =
         right_stops x p y none i [] o e e s m k m (no_values (eval n) a [] o e m) end
 
+    pub place_stops : (x : Exit) (p : Place) (y : List ℕ) (h i : Item) (o : Answers) (e s : Env)
+        (m k : Meter) → Ends x s k ((eval n).opens a h o e m)
+        → Ends x s k (set_run (eval n) a p y (more h none) i o e m)
+    place_stops x p y h i o e s m k end =
+        keys_stop x p y (more h none) i o e s m k
+        (rw (one_value (eval n) a h o e m) (ends_then x s k ((eval n).opens a h o e m)
+        (λ t. give (t ∷ []) o) (λ t. give_leaves (t ∷ []) o) end))
+
+    pub set_stops : (x : Exit) (p : Place) (y : List ℕ) (h i : Item) (t : Plain) (o : Answers)
+        (e s c : Env) (m k l : Meter) → (eval n).opens a h o e m ≡ Done t s l
+        → Ends x c k ((eval n).opens a i o s l)
+        → Ends x c k (set_run (eval n) a p y (more h none) i o e m)
+    set_stops x p y h i t o e s c m k l opened end =
+        right_stops x p y (more h none) i (t ∷ []) o e s c m k l
+        (one_value (eval n) a h o e m ∙ ap (λ z. then z (λ u. give (u ∷ []) o)) opened) end
+
     -- chains
 
     pub spine_stops : (x : Exit) (p : Place) (y : Node) (ss : List Step) (o : Answers) (e s : Env)
@@ -185,6 +201,52 @@ module _ (a : Around) (w : IsReading a.reading) where
     spine_stops x p y ss o e s m k end =
         ends_then x s k (node_run (eval n) a y o e m) (λ t. steps_run (eval n) a p ss t o)
         (λ t. chain_leaves a w n p ss t o) end
+
+    right_after : (p : Place) (op : BinaryOp) (y : Node) (t : Plain)
+        → Leaves (node_run (eval n) a y >>= apply_binary p op t)
+    right_after p op y t = let suited = fits a w in
+        leaves (node_run (eval n) a y >>= apply_binary p op t)
+        (search (pieces, go, node_lawful, apply_binary_lawful))
+
+    pub pair_stops_left : (x : Exit) (p : Place) (op : BinaryOp) (y z : Node) (o : Answers)
+        (e s : Env) (m k : Meter) → Ends x s k (node_run (eval n) a y o e m)
+        → Ends x s k ((node_run (eval n) a y
+        >>= (λ t. node_run (eval n) a z >>= apply_binary p op t)) o e m)
+    pair_stops_left x p op y z o e s m k end =
+        ends_then x s k (node_run (eval n) a y o e m)
+        (λ t. (node_run (eval n) a z >>= apply_binary p op t) o) (λ t. right_after p op z t o) end
+
+    pub pair_stops_right : (x : Exit) (p : Place) (op : BinaryOp) (y z : Node) (t : Plain)
+        (o : Answers) (e s c : Env) (m k l : Meter) → node_run (eval n) a y o e m ≡ Done t s l
+        → Ends x c k (node_run (eval n) a z o s l)
+        → Ends x c k ((node_run (eval n) a y
+        >>= (λ u. node_run (eval n) a z >>= apply_binary p op u)) o e m)
+    pair_stops_right x p op y z t o e s c m k l ready end =
+        rw ready (ends_then x c k (node_run (eval n) a z o s l) (λ u. apply_binary p op t u o)
+        (λ u. leaves (apply_binary p op t u) (apply_binary_lawful (MayAsk a.object) p op t u) o) end)
+
+    index_after : (p : Place) (i : Item) (t : Plain)
+        → Leaves ((eval n).opens a i >>= apply_index p t)
+    index_after p i t = let suited = fits a w in
+        leaves ((eval n).opens a i >>= apply_index p t)
+        (search (pieces, go, apply_index_lawful))
+
+    pub container_stops : (x : Exit) (p : Place) (y : Node) (i : Item) (o : Answers) (e s : Env)
+        (m k : Meter) → Ends x s k (node_run (eval n) a y o e m)
+        → Ends x s k ((node_run (eval n) a y >>= (λ t. (eval n).opens a i >>= apply_index p t)) o
+        e m)
+    container_stops x p y i o e s m k end =
+        ends_then x s k (node_run (eval n) a y o e m)
+        (λ t. ((eval n).opens a i >>= apply_index p t) o) (λ t. index_after p i t o) end
+
+    pub element_stops : (x : Exit) (p : Place) (y : Node) (i : Item) (t : Plain) (o : Answers)
+        (e s c : Env) (m k l : Meter) → node_run (eval n) a y o e m ≡ Done t s l
+        → Ends x c k ((eval n).opens a i o s l)
+        → Ends x c k ((node_run (eval n) a y >>= (λ u. (eval n).opens a i >>= apply_index p u)) o
+        e m)
+    element_stops x p y i t o e s c m k l ready end =
+        rw ready (ends_then x c k ((eval n).opens a i o s l) (λ u. apply_index p t u o)
+        (λ u. leaves (apply_index p t u) (apply_index_lawful (MayAsk a.object) p t u) o) end)
 
     pub chain_stops : (x : Exit) (p : Place) (ss : List Step) (r : Run Plain) (o : Answers)
         (e s : Env) (m k : Meter) → Ends x s k (r o e m)
@@ -297,8 +359,8 @@ module _ (a : Around) (w : IsReading a.reading) where
         → (is_none t && not all) ≡ false → is ≡ js ++ i ∷ []
         → Ends x s k ((eval n).opens a (item_seen i.now) o e m)
         → Ends x s k (reach_from all (eval n) a p (indexes_back is none) ks t o e m)
-    index_stops x all p is js i ks t o e s m k more last end =
-        rw (last, reach_more all (eval n) a p js i ks t o e m more)
+    index_stops x all p is js i ks t o e s m k goes last end =
+        rw (last, reach_more all (eval n) a p js i ks t o e m goes)
         (ends_then x s k ((eval n).opens a (item_seen i.now) o e m)
         (λ u. (index_step p t u >>= reach_from all (eval n) a p (indexes_back js none)
         (ks ++ u ∷ [])) o) (λ u. reached_leaves u o) end)
@@ -431,12 +493,3 @@ module _ (a : Around) (w : IsReading a.reading) where
         (in_template (in_include a) z.name) z.statements t o)
         (λ z. statements_leave (in_template (in_include a) z.name) w n (j - 1) z.statements t o)
         end)
-
-    -- DML of a statement
-    pub alone_leaves : (fixed : Bool) (s : Plain) (i : Item)
-        → Leaves {S = Unit {0}} (dml_run (eval n) a fixed s i)
-    alone_leaves fixed s i = dml_leaves a w n fixed s i
-
-    pub inner_leaves : (fixed : Bool) (s : Plain) (i : Item)
-        → Leaves {S = Env} (dml_run (eval n) a fixed s i)
-    inner_leaves fixed s i = dml_leaves a w n fixed s i

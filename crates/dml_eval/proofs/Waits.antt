@@ -8,7 +8,7 @@ use Rattle.path_tree.specs.Plain.{Plain}
 use Rattle.pan_ast.specs.declared.fault.Fault.{Fault}
 use Rattle.questions.specs.declared.key.Key.{Key}
 use Rattle.questions.specs.Contents.{Answers}
-use Rattle.questions.specs.Run.{Meter, Outcome, Done, Returned, Failed, Asks, then}
+use Rattle.questions.specs.Run.{Meter, Outcome, Done, Returned, Failed, Asks, then, ◌>>=◌}
 use Rattle.dml_meaning.specs.Run.{Env}
 use Rattle.dml_meaning.specs.Around.{Around}
 use Rattle.questions.specs.Laws.{MayAsk}
@@ -16,20 +16,26 @@ use Rattle.questions.specs.Told.{LeavesAtMost}
 use Rattle.questions.proofs.Lawful.{Lawful}
 use Rattle.questions.proofs.Runs.{Leaves, left_within}
 use Rattle.pan_ast.specs.declared.place.Place.{Place}
-use Rattle.pan_ast.specs.Seen.{node_seen, step_seen}
-use Rattle.pan_ast.specs.Syntax.{Step}
+use Rattle.pan_ast.specs.Seen.{item_seen, node_seen, step_seen}
+use Rattle.pan_ast.proofs.Forms.{seen_step_binary, seen_step_index}
+use Rattle.pan_ast.specs.Syntax.{Step, AtBinary, AtIndex}
+use Rattle.path_tree.specs.declared.operators.BinaryOp.{BinaryOp}
 use Rattle.pan_ast.specs.declared.syntax.Node.{Node as RNode}
 use Rattle.pan_ast.specs.declared.syntax.Step.{Step as RStep}
+use Rattle.pan_ast.specs.declared.syntax.Item.{Item as RItem}
+use Rattle.pan_ast.specs.declared.syntax.Step.TheVariants as step
 use Rattle.pan_ast.specs.declared.syntax.Form.TheVariants as form
 use Rattle.dml_meaning.specs.Laws.{IsReading}
 use Rattle.dml_meaning.specs.Means.{Means}
 use Rattle.dml_meaning.specs.Meaning.{eval, node_run, spine_run, step_run, steps_run}
-use Rattle.dml_meaning.proofs.Chains.{at_spine}
+use Rattle.dml_meaning.specs.Leaves.{apply_binary, apply_index}
+use Rattle.dml_meaning.proofs.Chains.{at_spine, chain_run as at_steps, stepped_run}
 use Rattle.dml_meaning.proofs.Leaves.{Fits, LawfulMeans, pieces}
 use Rattle.dml_meaning.proofs.Values.{apply_binary_lawful, apply_boolean_lawful}
 use Rattle.dml_meaning.proofs.Items.{node_lawful, step_lawful, chain_lawful, eval_lawful}
 use Rattle.dml_meaning.proofs.Evaluated.{fits}
 use Rattle.dml_meaning.proofs.Leaving.{chain_leaves, then_leaves}
+use Rattle.dml_eval.specs.declared.chains.Chain.{Chain}
 use Rattle.dml_eval.specs.declared.chains.Role.{Role}
 use Rattle.dml_eval.specs.declared.chains.Turn.{Turn}
 use Rattle.dml_eval.specs.declared.chains.Turn.TheVariants as turn
@@ -39,7 +45,7 @@ use Rattle.dml_world.specs.declared.stop.Exit.TheVariants as exit
 use Rattle.dml_eval.specs.declared.chains.Waiting.{Waiting}
 use Rattle.dml_world.specs.Exits.{Ends}
 use Rattle.dml_leaves.proofs.Weights.{weight_spine}
-use Rattle.dml_eval.specs.Waits.{IsOperand, in_role, resume, resumed, turn_run, with_steps, waiting_weight, waits_weight}
+use Rattle.dml_eval.specs.Waits.{IsOperand, chain_run, in_role, resume, resumed, turn_run, with_steps, waiting_weight, waits_weight}
 
 -- a chain in memory means its left operand, and then its steps
 pub spine_is : (n : RNode) (x : Box RNode Global) (s : Box RStep Global) (ss : Vec RStep Global)
@@ -54,6 +60,40 @@ pub no_operand : (n : RNode) (x : Box RNode Global) (s : Box RStep Global) (ss :
 no_operand n x s ss is none =
     let heavy = weight_spine n x s ss is in
     omega (arith, heavy, none)
+
+-- the steps of a chain that has one
+one_step : (s : RStep) (ss : List RStep) (t : Step) → step_seen s ≡ t → length ss ≡ 0
+    → step_seen s ∷ map step_seen ss ≡ t ∷ []
+one_step s [] t is none = ap (λ u. u ∷ []) is
+one_step s (r ∷ rs) t is none = absurd (omega arith)
+
+-- a chain of one step means its left operand, and then the step
+lone_step : (c : Chain) (t : Step) → step_seen c.step.now ≡ t → length c.rest.now ≡ 0
+    → (go : Means) (a : Around) (o : Answers) (e : Env) (m : Meter) → chain_run go a c o e m
+    ≡ then (node_run go a (node_seen c.first.now) o e m) (λ v. step_run go a c.place.now v t o)
+lone_step c t is none go a o e m =
+    ap (λ ss. spine_run go a c.place.now (node_seen c.first.now) ss o e m)
+    (one_step c.step.now c.rest.now t is none)
+    ∙ sym (at_steps (t ∷ []) go a c.place.now (node_seen c.first.now) o e m)
+    ∙ stepped_run t go a c.place.now (node_seen c.first.now) o e m
+
+pub pair_is : (c : Chain) (op : BinaryOp) (y : RNode) → c.step.now ≡ step.Binary op y
+    → length c.rest.now ≡ 0 → (go : Means) (a : Around) → chain_run go a c
+    ≡ (node_run go a (node_seen c.first.now)
+    >>= (λ s. node_run go a (node_seen y) >>= apply_binary c.place.now op s))
+unfolding step_run
+pair_is c op y is none go a =
+    fun_ext (λ o. fun_ext (λ e. fun_ext (λ m.
+    lone_step c (AtBinary op (node_seen y)) (seen_step_binary c.step.now op y is) none go a o e m)))
+
+pub element_is : (c : Chain) (i : RItem) → c.step.now ≡ step.Index i → length c.rest.now ≡ 0
+    → (go : Means) (a : Around) → chain_run go a c
+    ≡ (node_run go a (node_seen c.first.now)
+    >>= (λ s. go.opens a (item_seen i) >>= apply_index c.place.now s))
+unfolding step_run
+element_is c i is none go a =
+    fun_ext (λ o. fun_ext (λ e. fun_ext (λ m.
+    lone_step c (AtIndex (item_seen i)) (seen_step_index c.step.now i is) none go a o e m)))
 
 -- one more that waits is the first to go on
 pub resumed_more : (go : Means) (a : Around) (answers : Answers) (ws : List Waiting) (w : Waiting)

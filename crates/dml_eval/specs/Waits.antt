@@ -4,14 +4,14 @@ use Rattle.path_tree.specs.Plain.{Plain}
 use Rattle.pan_ast.specs.declared.place.Place.{Place}
 use Rattle.pan_ast.specs.Syntax.{Step}
 use Rattle.pan_ast.specs.declared.syntax.Node.{Node}
-use Rattle.pan_ast.specs.Seen.{node_seen, step_seen}
+use Rattle.pan_ast.specs.Seen.{item_seen, node_seen, step_seen}
 use Rattle.questions.specs.Contents.{Answers}
 use Rattle.questions.specs.Run.{Meter, Outcome, then, ◌>>=◌}
 use Rattle.questions.specs.Told.{ToldEnough}
 use Rattle.dml_meaning.specs.Run.{Env, Run}
 use Rattle.dml_meaning.specs.Around.{Around}
 use Rattle.dml_meaning.specs.Means.{Means}
-use Rattle.dml_meaning.specs.Leaves.{apply_binary, apply_boolean}
+use Rattle.dml_meaning.specs.Leaves.{apply_binary, apply_boolean, apply_index}
 use Rattle.dml_meaning.specs.Meaning.{node_run, spine_run, step_run, steps_run}
 use Rattle.dml_world.specs.declared.stop.Exit.{Exit}
 use Rattle.dml_world.specs.declared.evaluation.Evaluation.{Evaluation}
@@ -23,6 +23,8 @@ use Rattle.dml_eval.specs.declared.chains.Role.TheVariants as role
 use Rattle.dml_eval.specs.declared.chains.Waiting.{Waiting}
 use Rattle.dml_eval.specs.declared.chains.Turn.{Turn}
 use Rattle.dml_eval.specs.declared.chains.Turn.TheVariants as turn
+use Rattle.dml_eval.specs.declared.pairs.Pair.{Pair}
+use Rattle.dml_eval.specs.declared.pairs.Element.{Element}
 use Rattle.dml_world.specs.Evaluations.{env_of, meter_of}
 use Rattle.dml_world.specs.Exits.{Ends}
 
@@ -86,6 +88,29 @@ IsOperand n = node_weight (node_seen n) ≡ 0
 abbrev pub IsChainOf : Node → Chain → Type 0
 IsChainOf n c = ((go : Means) (a : Around) → node_run go a (node_seen n) ≡ chain_run go a c)
     × (chain_weight c ≤ node_weight (node_seen n))
+
+-- two operands, and then the operator
+abbrev pub pair_run : Means → Around → Pair → Run Plain
+pair_run go a p = do
+  s ← node_run go a (node_seen p.left.now)
+  t ← node_run go a (node_seen p.right.now)
+  apply_binary p.place.now p.op s t
+
+-- an operand and an index, and then what is there
+abbrev pub element_run : Means → Around → Element → Run Plain
+element_run go a x = do
+  t ← node_run go a (node_seen x.container.now)
+  k ← go.opens a (item_seen x.index.now)
+  apply_index x.place.now t k
+
+-- a chain means what the pair does, whose operands are no chains
+abbrev pub IsPairOf : Chain → Pair → Type 0
+IsPairOf c p = ((go : Means) (a : Around) → chain_run go a c ≡ pair_run go a p)
+    × IsOperand p.left.now × IsOperand p.right.now
+
+abbrev pub IsElementOf : Chain → Element → Type 0
+IsElementOf c x = ((go : Means) (a : Around) → chain_run go a c ≡ element_run go a x)
+    × IsOperand x.container.now
 
 abbrev pub role_weight : Role → ℕ
 role_weight (role.Left s) = step_weight (step_seen s.now)

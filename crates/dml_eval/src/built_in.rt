@@ -26,6 +26,7 @@ use std::sync::ledger::Ledger;
 
 /// A built-in function that looks at more than values. Those that take references look at how an
 /// argument is written.
+#[inline(never)]
 #[cycle(eval)]
 #[tactic(auto, unfolding(dml_meaning::specs::BuiltIns::own_call_run))]
 pub(crate) fn run_own<W: World, L: Ledger>(

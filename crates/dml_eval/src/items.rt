@@ -6,7 +6,7 @@ ghost use Rattle.dml_meaning.specs.Loops.{choose, condition_run};
 ghost use Rattle.dml_meaning.specs.Meaning.{assign_run, eval, item_run, set_run};
 ghost use Rattle.questions.specs.Run.{give};
 ghost use Rattle.pan_ast.specs.Seen.{item_seen, items_seen, reference_seen};
-ghost use Rattle.pan_ast.specs.Syntax.{none};
+ghost use Rattle.pan_ast.specs.Syntax.{more, none};
 ghost use Rattle.path_tree.specs.Plain.{undef};
 
 use crate::here::Here;
@@ -14,6 +14,7 @@ use crate::loops::{ForeachLoop, WhileLoop, run_for, run_foreach, run_while};
 use crate::nodes::run_node;
 use base::Text;
 use dml_leaves::names::{is_whole, may_change, set_value};
+use dml_leaves::references::lone;
 use dml_world::leaf::{boolean, fault, take_step};
 use dml_world::{Evaluation, Exit, World};
 use pan_ast::{Code, Item, ItemForm, Place, Reference};
@@ -255,6 +256,9 @@ fn run_set<W: World, L: Ledger>(
     if let [] = indexes {
         return run_whole(place, name, right, here, evaluation);
     }
+    if let Some(index) = lone(indexes) {
+        return run_at(place, name, index, right, here, evaluation);
+    }
     let keys = open_values(Vec::new(evaluation.alloc), indexes, here, evaluation)?;
     let value = open_item(right, here, evaluation)?;
     set_value(place, name, &keys, value, evaluation)
@@ -279,4 +283,28 @@ fn run_whole<W: World, L: Ledger>(
 {
     let value = open_item(right, here, evaluation)?;
     set_value(place, name, &[], value, evaluation)
+}
+
+/// The index and the right side of an assignment with one index, and then the change.
+#[inline(never)]
+#[cycle(eval)]
+#[tactic(auto, using(crate::proofs::Lists::one_value), unfolding(dml_meaning::specs::Meaning::set_run))]
+fn run_at<W: World, L: Ledger>(
+    place: &Place,
+    name: &Text,
+    index: &Item,
+    right: &Item,
+    here: Here<'_>,
+    evaluation: &mut Evaluation<'_, '_, W, L>,
+) -> Result<Tree, Exit>
+    ensures gives { Evaluates (λ t. t) result W.World evaluation.old evaluation.new
+        (set_run (eval here.entry.room) (around_in W.World here.entry) place.now
+        name.now (more (item_seen index.now) none) (item_seen right.now)) }
+    ensures counted { total evaluation.new ≡ total evaluation.old }
+    ensures lent { KeepsLoans evaluation.old evaluation.new }
+{
+    let key = open_item(index, here, evaluation)?;
+    let value = open_item(right, here, evaluation)?;
+    let keys = [key];
+    set_value(place, name, &keys, value, evaluation)
 }

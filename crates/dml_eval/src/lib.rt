@@ -3,10 +3,10 @@
 //!
 //! What it stands on are the crates `dml_world` (what is asked, and what stands around an item) and
 //! `dml_leaves` (all that opens no item). In reading order, one file per part of the evaluation:
-//! `here` (where an item is opened), `items`, `loops`, `nodes` (operands), `chains` (operators),
-//! `calls`, `references` (arguments that are references), `built_in` (the built-in functions that
-//! look at more than values), `creating` (the statements of structure templates), and `dml`, the
-//! call from outside.
+//! `here` (where an item is opened), `items`, `loops`, `nodes` (operands), `pairs` (chains of one
+//! step), `chains` (the others), `calls`, `references` (arguments that are references), `built_in`
+//! (the built-in functions that look at more than values), `creating` (the statements of structure
+//! templates), and `dml`, the call from outside.
 #![tactic(auto)]
 
 mod built_in;
@@ -18,6 +18,7 @@ mod here;
 mod items;
 mod loops;
 mod nodes;
+mod pairs;
 mod references;
 
 pub use dml::run_dml;

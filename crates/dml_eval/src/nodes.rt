@@ -1,7 +1,7 @@
 ghost use Rattle.std.specs.Prelude.{◌≡◌, ◌+◌, MatchOption};
 ghost use Rattle.dml_eval.specs.Heres.{around_in};
 ghost use Rattle.dml_world.specs.Evaluations.{Evaluates, KeepsLoans, total};
-ghost use Rattle.dml_eval.specs.Waits.{IsChainOf, IsOperand};
+ghost use Rattle.dml_eval.specs.Waits.{IsChainOf, IsOperand, chain_run};
 ghost use Rattle.dml_meaning.specs.Meaning.{eval, node_run};
 ghost use Rattle.pan_ast.specs.Seen.{node_seen};
 
@@ -9,6 +9,7 @@ use crate::calls::run_call;
 use crate::chains::{Chain, run_chain};
 use crate::here::Here;
 use crate::items::open_item;
+use crate::pairs::{element_of, pair_of, run_element, run_pair};
 use dml_leaves::names::run_name;
 use dml_world::leaf::{apply_unary, fault, literal, text_value};
 use dml_world::{Evaluation, Exit, World};
@@ -49,12 +50,35 @@ pub(crate) fn run_node<W: World, L: Ledger>(
     ensures lent { KeepsLoans evaluation.old evaluation.new }
 {
     match chain_of(node) {
-        Some(chain) => run_chain(chain, here, evaluation),
+        Some(chain) => run_spine(chain, here, evaluation),
         None => run_operand(node, here, evaluation),
     }
 }
 
+/// A chain: one of a single step at once, and others with what waits in them.
+#[inline(always)]
+#[cycle(eval)]
+fn run_spine<W: World, L: Ledger>(
+    chain: Chain<'_>,
+    here: Here<'_>,
+    evaluation: &mut Evaluation<'_, '_, W, L>,
+) -> Result<Tree, Exit>
+    ensures gives { Evaluates (λ t. t) result W.World evaluation.old evaluation.new
+        (chain_run (eval here.entry.room) (around_in W.World here.entry) chain.entry) }
+    ensures counted { total evaluation.new ≡ total evaluation.old }
+    ensures lent { KeepsLoans evaluation.old evaluation.new }
+{
+    if let Some(pair) = pair_of(&chain) {
+        return run_pair(pair, here, evaluation);
+    }
+    if let Some(element) = element_of(&chain) {
+        return run_element(element, here, evaluation);
+    }
+    run_chain(chain, here, evaluation)
+}
+
 /// An operand that is no chain.
+#[inline(always)]
 #[cycle(eval)]
 #[tactic(auto, using(pan_ast::proofs::Forms::nodes, dml_leaves::proofs::Weights::weight_spine), unfolding(dml_meaning::specs::Meaning::node_run))]
 pub(crate) fn run_operand<W: World, L: Ledger>(

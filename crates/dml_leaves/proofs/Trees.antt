@@ -13,7 +13,8 @@ use Rattle.dml_leaves.specs.declared.indexes.Unchanged.{Unchanged}
 use Rattle.dml_leaves.specs.Changes.{IsRefusal, IsUnput}
 use Rattle.pan_ast.specs.declared.syntax.Item.{Item as RItem}
 use Rattle.pan_ast.specs.Seen.{items_seen}
-use Rattle.dml_meaning.specs.Indexes.{put_code, term_for, terms_from}
+use Rattle.dml_meaning.specs.Indexes.{changed, changed_at, put_code, term_for, terms_from}
+use Rattle.pan_ast.specs.declared.fault.Code.TheVariants.{BadIndex}
 use Rattle.dml_meaning.specs.Values.{is_nothing}
 use Rattle.dml_meaning.specs.Names.{no_indexes}
 use Rattle.dml_meaning.specs.Loops.{key_value}
@@ -104,6 +105,23 @@ pub terms_none : (done : List Term) (ks : List Plain) (i : ℕ) (k v : Plain) �
 terms_none done ks i k v h is e = terms_more done ks i k (get done v) h is ∙ rw e refl
 
 pub ruleset terms = (terms_step, terms_none)
+
+-- a change at one index is one at its term
+pub at_term : (k v t : Plain) (m : Term) → term_for k (Some t) ≡ Some m → changed (k ∷ []) v t
+    ≡ changed_at (Some (m ∷ [])) v t
+at_term k v t m h = rw h refl
+
+pub at_no_term : (k v t : Plain) → term_for k (Some t) ≡ None → changed (k ∷ []) v t ≡ Err BadIndex
+at_no_term k v t h = rw h refl
+
+pub ruleset lone_index = (at_term, at_no_term)
+
+-- the one key of a list
+pub one_key : (ks : List Plain) (k v t : Plain) → length ks ≡ 1 → k ≡ get_or ks 0 k
+    → changed ks v t ≡ changed (k ∷ []) v t
+one_key [] k v t h e = absurd (omega arith)
+one_key (j ∷ []) k v t h e = ap (λ i. changed (i ∷ []) v t) (sym e)
+one_key (j ∷ i ∷ ks) k v t h e = absurd (omega arith)
 
 -- there is an index, or none
 pub some_indexes : (is : List RItem) → length is ≢ 0 → no_indexes (items_seen is) ≡ false

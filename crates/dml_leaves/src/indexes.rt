@@ -1,4 +1,4 @@
-ghost use Rattle.std.specs.Prelude.{◌≡◌, IfOk, OnOk, Some, option_copied, option_and_then, option_map, false, ◌+◌, int_lt, nat_abs, pos, if◌then◌else◌};
+ghost use Rattle.std.specs.Prelude.{◌≡◌, ◌∷◌, [], IfOk, OnOk, Some, option_copied, option_and_then, option_map, false, ◌+◌, int_lt, nat_abs, pos, if◌then◌else◌};
 ghost use Rattle.dml_meaning.specs.Indexes.{at_index, changed, changed_at, deleted, from_end, index_term, key_term, put_code, removed, term_for, terms_for};
 ghost use Rattle.dml_meaning.specs.Values.{is_nothing};
 ghost use Rattle.path_tree.specs.Put.{put};
@@ -179,7 +179,33 @@ pub fn remove_found(alloc: Global, terms: &[Term], tree: &mut Tree) -> Result<()
     }
 }
 
+/// Changes what is at terms of a value: null removes.
+fn change_at(alloc: Global, terms: &[Term], value: &Tree, tree: &mut Tree) -> Result<(), Unchanged>
+    ensures { IsChange result tree.new (changed_at (Some terms.now) value.now tree.old) }
+{
+    if passes(Test::Null, value.kind()) {
+        Ok(remove(alloc, terms, tree)?)
+    } else {
+        put(alloc, terms, value, tree)
+    }
+}
+
+/// The same at the term of one index, for which no list of terms is made.
+#[tactic(auto, using(crate::proofs::Trees::lone_index))]
+fn change_one(alloc: Global, key: &Tree, value: &Tree, tree: &mut Tree) -> Result<(), Unchanged>
+    ensures { IsChange result tree.new (changed (key.now ∷ []) value.now tree.old) }
+{
+    match term_for(key, Some(&*tree))? {
+        None => Err(Unchanged::Code(Code::BadIndex)),
+        Some(term) => {
+            let terms = [term];
+            change_at(alloc, &terms, value, tree)
+        }
+    }
+}
+
 /// Changes what is at indexes of a value: null removes.
+#[tactic(auto, using(crate::proofs::Trees::one_key))]
 pub fn change_tree(
     alloc: Global,
     keys: &[Tree],
@@ -188,13 +214,12 @@ pub fn change_tree(
 ) -> Result<(), Unchanged>
     ensures { IsChange result tree.new (changed keys.now value.now tree.old) }
 {
-    let Some(terms) = terms_for(alloc, keys, tree)? else {
-        return Err(Unchanged::Code(Code::BadIndex));
-    };
-    if passes(Test::Null, value.kind()) {
-        Ok(remove(alloc, &terms, tree)?)
-    } else {
-        put(alloc, &terms, value, tree)
+    if let [key] = keys {
+        return change_one(alloc, key, value, tree);
+    }
+    match terms_for(alloc, keys, tree)? {
+        None => Err(Unchanged::Code(Code::BadIndex)),
+        Some(terms) => change_at(alloc, &terms, value, tree),
     }
 }
 

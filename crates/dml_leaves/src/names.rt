@@ -19,26 +19,16 @@ use crate::indexes::{Unchanged, change_tree};
 use assign_rules::Variables;
 use base::Text;
 use dml_meaning::{Automatic, automatic_name};
-use dml_world::leaf::{fault, fault_on, take_step, take_steps};
+use dml_world::leaf::{fault, fault_on, take_step, take_steps, text_value};
 use dml_world::{Around, Called, Evaluation, Exit, Live, World};
 use pan_ast::{Code, Item, Place};
 use path_tree::Tree;
 use std::alloc::{AllocError, Global};
 use std::sync::ledger::Ledger;
 
-/// The text of a name as a value.
-fn name_value(alloc: Global, text: &str) -> Result<Tree, AllocError>
-    ensures { IfOk result (λ t. t ≡ plain.text text.now) }
-{
-    match Tree::text(alloc, text) {
-        Ok(value) => Ok(value),
-        Err(_) => Err(AllocError),
-    }
-}
-
 /// How many arguments the open call has.
 #[tactic(auto, using(path_tree::proofs::Counts::few_children))]
-fn argument_count(called: &Called) -> Tree
+fn argument_count(called: &Called<'_>) -> Tree
     ensures { result ≡ plain.long (pos (child_count called.now.arguments)) }
 {
     let _size = called.arguments.size();
@@ -56,22 +46,19 @@ fn automatic_value<W: World, L: Ledger>(
 {
     match name {
         Automatic::OwnValue => Ok(Some(evaluation.live.self_value.copy()?)),
-        Automatic::Object => Ok(Some(name_value(evaluation.alloc, around.frame.object.as_str())?)),
-        Automatic::Template => Ok(Some(name_value(
-            evaluation.alloc,
-            around.frame.template.as_str(),
-        )?)),
-        Automatic::Arguments => match &around.called {
+        Automatic::Object => Ok(Some(text_value(around.frame.object.text_handle())?)),
+        Automatic::Template => Ok(Some(text_value(around.frame.template.text_handle())?)),
+        Automatic::Arguments => match around.called {
             None => Ok(None),
             Some(called) => Ok(Some(called.arguments.copy()?)),
         },
-        Automatic::Count => match &around.called {
+        Automatic::Count => match around.called {
             None => Ok(None),
             Some(called) => Ok(Some(argument_count(called))),
         },
-        Automatic::Function => match &around.called {
+        Automatic::Function => match around.called {
             None => Ok(None),
-            Some(called) => Ok(Some(name_value(evaluation.alloc, called.name.as_str())?)),
+            Some(called) => Ok(Some(text_value(called.name)?)),
         },
     }
 }

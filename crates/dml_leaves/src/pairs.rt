@@ -6,25 +6,23 @@ ghost use Rattle.path_tree.specs.Find.{child_count};
 
 use crate::names::assign_name;
 use base::Text;
+use dml_world::leaf::text_value;
 use dml_world::{Around, Evaluation, Exit, World};
 use pan_ast::Place;
 use path_tree::Tree;
-use std::alloc::{AllocError, Global};
+use std::alloc::AllocError;
 use std::sync::ledger::Ledger;
 
 /// The key of the child at a place: its index in a list, its key in a dict.
 #[tactic(auto, using(crate::proofs::Trees::keys))]
-fn key_at(alloc: Global, walked: &Tree, i: usize) -> Result<Tree, AllocError>
+fn key_at(walked: &Tree, i: usize) -> Result<Tree, AllocError>
     requires { i < child_count walked.now }
     ensures { IfOk result (λ t. t ≡ key_value i walked.now) }
 {
     let _size = walked.size();
-    match walked.key_at(i) {
+    match walked.key_handle(i) {
         None => Ok(Tree::long(i as i64)),
-        Some(key) => match Tree::text(alloc, key) {
-            Ok(value) => Ok(value),
-            Err(_) => Err(AllocError),
-        },
+        Some(key) => text_value(key.text_handle()),
     }
 }
 
@@ -48,12 +46,6 @@ pub fn set_pair<W: World, L: Ledger>(
     let Some(child) = walked.child_at(i) else {
         return Err(Exit::Memory);
     };
-    assign_name(
-        place,
-        key,
-        &key_at(evaluation.alloc, walked, i)?,
-        around,
-        evaluation,
-    )?;
+    assign_name(place, key, &key_at(walked, i)?, around, evaluation)?;
     assign_name(place, value, child, around, evaluation)
 }

@@ -1,8 +1,6 @@
 -- What the definitions see of the evaluator's values.
 use Rattle.std.specs.Prelude.{ℕ, Bool, true, false, List, Option, Some, None, Result, map, option_map}
 use Rattle.std.specs.Borrow.{Bor}
-use Rattle.std.specs.declared.rc.Rc.{Rc}
-use Rattle.std.specs.declared.alloc.Global.{Global}
 use Rattle.pan_ast.specs.Seen.{item_seen}
 use Rattle.pan_ast.specs.Syntax.{Item}
 use Rattle.pan_ast.specs.declared.syntax.Item.{Item as RItem}
@@ -37,8 +35,8 @@ function_of f = record { name = f.name; body = item_seen f.body.value }
 abbrev pub functions_of : Functions → List Function
 functions_of fs = map function_of fs.entries.items
 
-abbrev pub called_of : Rc RCalled Global → Called
-called_of c = record { name = c.value.name; arguments = c.value.arguments }
+abbrev pub called_of : Bor RCalled → Called
+called_of c = record { name = c.now.name.now; arguments = c.now.arguments }
 
 abbrev pub around_of : RAround → (List ℕ → List ℕ → Result Template Fault) → ValueCalls → Around
 around_of a reading calls = record {

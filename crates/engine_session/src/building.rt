@@ -11,7 +11,6 @@ ghost use Rattle.engine_session.specs.Standing.{IsFaithful, Gives, compiled_in, 
 use crate::answering::shown_by;
 use crate::kept_texts::KeptTexts;
 use crate::works::Works;
-use base::Text;
 use path_tree::Name;
 use publication::Profile;
 use runner::Runner;
@@ -47,7 +46,7 @@ fn answer<R: Runner>(
 {
     match shown_by(alloc, works, name.as_str(), texts)? {
         Shown::Settled(outcome) => Ok(Answer {
-            name: Text::new(alloc, name.as_str())?,
+            name: name.text_handle().share()?,
             outcome,
         }),
         // Only an engine that is not faithful says so where all is settled.

@@ -1,8 +1,10 @@
-ghost use Rattle.std.specs.Prelude.{◌≡◌, ◌+◌, IfOk};
+ghost use Rattle.std.specs.Prelude.{◌≡◌, ◌+◌, IfOk, None};
 ghost use Rattle.questions.specs.declared.key.Key.TheVariants.{Under};
 ghost use Rattle.object_run.specs.Testing.{IsStopOf, case_means, case_of, case_site};
 ghost use Rattle.object_meaning.proofs.BothLawful.{tests_leave};
+ghost use Rattle.dml_meaning.specs.declared.limits.TheConstants.{MAX_INCLUDES};
 ghost use Rattle.dml_world.specs.Answers.{looked_of};
+ghost use Rattle.dml_world.specs.declared.frame.SelfUse.TheVariants.{Changeable};
 ghost use Rattle.validate.specs.Means.{value_there};
 ghost use Rattle.object_run.specs.TestingSets.{IsCase-prop};
 
@@ -67,6 +69,25 @@ fn stop_of(alloc: Global, stop: dml_world::Stop) -> Stop
     }
 }
 
+/// What stands around a test, which is in no call of a function.
+fn around_in<'a>(frame: &'a Frame<'a>, max_recursion: u64) -> Around<'a>
+    ensures { result ≡ record {
+      frame = frame.entry;
+      self_use = Changeable;
+      called = None;
+      calls_left = max_recursion;
+      includes_left = MAX_INCLUDES;
+    } }
+{
+    Around {
+        frame,
+        self_use: SelfUse::Changeable,
+        called: None,
+        calls_left: max_recursion,
+        includes_left: MAX_INCLUDES,
+    }
+}
+
 /// The value that was seen at a path, where there is one.
 fn value_of(looked: Looked) -> Option<Tree>
     ensures { result ≡ value_there (looked_of looked) }
@@ -106,13 +127,7 @@ impl<'a, W: World, T: Tested> Evaluator for Tester<'a, W, T> {
             dirs: self.site.dirs,
             max_iteration: self.site.limits.max_iteration,
         };
-        let around = Around {
-            frame: &frame,
-            self_use: SelfUse::Changeable,
-            called: None,
-            calls_left: self.site.limits.max_recursion,
-            includes_left: MAX_INCLUDES,
-        };
+        let around = around_in(&frame, self.site.limits.max_recursion);
         let value = self_value.copy()?;
         match run_dml(
             alloc,
@@ -148,13 +163,7 @@ impl<'a, W: World, T: Tested> Evaluator for Tester<'a, W, T> {
             dirs: self.site.dirs,
             max_iteration: self.site.limits.max_iteration,
         };
-        let around = Around {
-            frame: &frame,
-            self_use: SelfUse::Changeable,
-            called: None,
-            calls_left: self.site.limits.max_recursion,
-            includes_left: MAX_INCLUDES,
-        };
+        let around = around_in(&frame, self.site.limits.max_recursion);
         match look_at(
             alloc,
             place,

@@ -125,6 +125,13 @@ impl Name {
         self.text.as_str()
     }
 
+    /// The same text as one that can be shared.
+    pub fn text_handle(&self) -> &Text
+        ensures { result.now ≡ self.now }
+    {
+        &self.text
+    }
+
     /// The same name, with its text shared.
     pub fn share(&self) -> Result<Name, AllocError>
         ensures { IfOk result (λ k. k ≡ self.now) }

@@ -23,6 +23,7 @@ ghost use Rattle.publication.specs.Troubles.{name_of};
 ghost use Rattle.publication.specs.declared.publisher.Known.{Known};
 
 use crate::answer::{Publication, is_within};
+use crate::named_profile::{NamedProfile, named};
 use crate::own_name::is_own;
 use crate::profile::Profile;
 use crate::reading::holds;
@@ -109,36 +110,23 @@ fn remove_name<H: Shelf>(shelf: &mut H, name: &str) -> Result<bool, AllocError>
     }
 }
 
-fn file_name(alloc: Global, object: &str, which: Which) -> Result<Text, AllocError>
-    ensures { IfOk result (λ name. name ≡ name_of which object.now) }
-{
-    match which {
-        Which::Json => Text::joined(alloc, object, ".json"),
-        Which::Dep => Text::joined(alloc, object, ".dep"),
-    }
-}
-
-fn add_name(
-    alloc: Global,
-    names: &mut HashSet<Text>,
-    object: &Text,
-    which: Which,
-) -> Result<(), AllocError>
+fn add_name(names: &mut HashSet<Text>, name: &Text) -> Result<(), AllocError>
     ensures { OnOk result ((n : List ℕ) → contains bytes_eq names.new n
-        ≡ cond (bytes_eq (name_of which object.now) n) true (contains bytes_eq names.old n)) }
+        ≡ cond (bytes_eq name.now n) true (contains bytes_eq names.old n)) }
 {
-    names.insert(file_name(alloc, object.as_str(), which)?)?;
+    names.insert(name.share()?)?;
     Ok(())
 }
 
 /// The names that profiles want.
-fn wanted_names(alloc: Global, profiles: &[Profile]) -> Result<HashSet<Text>, AllocError>
+fn wanted_names(alloc: Global, profiles: &[NamedProfile<'_>]) -> Result<HashSet<Text>, AllocError>
     ensures { IfOk result (λ names. Names names (wants_of profiles.now)) }
 {
-    let mut names = HashSet::new(alloc);
+    let room = profiles.len().saturating_add(profiles.len());
+    let mut names = HashSet::with_capacity(alloc, room)?;
     for profile in profiles {
-        add_name(alloc, &mut names, &profile.name, Which::Json)?;
-        add_name(alloc, &mut names, &profile.name, Which::Dep)?;
+        add_name(&mut names, profile.json_name())?;
+        add_name(&mut names, profile.dep_name())?;
     }
     Ok(names)
 }
@@ -268,15 +256,16 @@ impl Publisher {
     /// A file of an object gets its bytes, or gives the call that failed.
     fn bring_file<H: Shelf>(
         &mut self,
-        alloc: Global,
         shelf: &mut H,
         object: &Text,
+        name: &Text,
         which: Which,
         bytes: &Bytes,
         held: &mut Vec<u8>,
     ) -> Result<Option<Trouble>, AllocError>
         requires open { IsSome (H.opened shelf.old) }
         requires own { is_own (name_of which object.now) ≡ true }
+        requires named { name.now ≡ name_of which object.now }
         requires knows { Knows self.old (H.cell shelf.old) }
         ensures ok { IfOk result (λ trouble. BringsFile object.now which bytes.now trouble
             (H.fault_count shelf.old) (H.fault_count shelf.new) (H.cell shelf.old)
@@ -294,8 +283,7 @@ impl Publisher {
             (LogsPut (name_of which object.now) bytes.now (option_map call_of trouble)
             (H.changes shelf.old) (H.changes shelf.new))) }
     {
-        let name = file_name(alloc, object.as_str(), which)?;
-        match self.bring(shelf, &name, bytes, held)? {
+        match self.bring(shelf, name, bytes, held)? {
             Some(call) => Ok(Some(Trouble {
                 object: object.share()?,
                 which,
@@ -305,12 +293,54 @@ impl Publisher {
         }
     }
 
-    /// The files of an object get their bytes, or gives the call that failed.
-    fn bring_profile<H: Shelf>(
+    /// The files of an object, which have these names, get their bytes, or gives the call that failed.
+    fn bring_files<H: Shelf>(
         &mut self,
-        alloc: Global,
         shelf: &mut H,
         profile: &Profile,
+        json_name: &Text,
+        dep_name: &Text,
+        held: &mut Vec<u8>,
+    ) -> Result<Option<Trouble>, AllocError>
+        requires open { IsSome (H.opened shelf.old) }
+        requires proper { proper (wants_of (profile.now ∷ [])) ≡ true }
+        requires json { json_name.now ≡ name_of Which.Json profile.now.name }
+        requires dep { dep_name.now ≡ name_of Which.Dep profile.now.name }
+        requires knows { Knows self.old (H.cell shelf.old) }
+        ensures ok { IfOk result (λ trouble. BringsProfile profile.now trouble
+            (H.fault_count shelf.old) (H.fault_count shelf.new) (H.cell shelf.old)
+            (H.cell shelf.new)) }
+        ensures knows { OnOk result (Knows self.new (H.cell shelf.new)) }
+        ensures err { OnErr result (Partly profile.now (H.cell shelf.old) (H.cell shelf.new)) }
+        ensures later { H.fault_count shelf.old ≤ H.fault_count shelf.new }
+        ensures opened { H.opened shelf.new ≡ H.opened shelf.old }
+        ensures keys { IfOk result (λ trouble. MayBring profile.now trouble
+            (may_stand_in self.old) (may_stand_in self.new)) }
+        ensures most { self.new.most ≡ self.old.most }
+        ensures removals { removals_in (H.changes shelf.new) ≡ removals_in (H.changes shelf.old) }
+        ensures log { IfOk result (λ trouble. Tells (H.cell shelf.old) → H.changes shelf.new
+            ≡ done (H.changes shelf.old) (put_of (H.cell shelf.old) profile.now trouble)) }
+    {
+        let json = &profile.json;
+        if let Some(trouble) = self.bring_file(
+            shelf,
+            &profile.name,
+            json_name,
+            Which::Json,
+            json,
+            held,
+        )? {
+            return Ok(Some(trouble));
+        }
+        let dep = &profile.dep;
+        self.bring_file(shelf, &profile.name, dep_name, Which::Dep, dep, held)
+    }
+
+    /// The same of an object with the names of its files.
+    fn bring_profile<H: Shelf>(
+        &mut self,
+        shelf: &mut H,
+        profile: &NamedProfile<'_>,
         held: &mut Vec<u8>,
     ) -> Result<Option<Trouble>, AllocError>
         requires open { IsSome (H.opened shelf.old) }
@@ -330,19 +360,13 @@ impl Publisher {
         ensures log { IfOk result (λ trouble. Tells (H.cell shelf.old) → H.changes shelf.new
             ≡ done (H.changes shelf.old) (put_of (H.cell shelf.old) profile.now trouble)) }
     {
-        let json = &profile.json;
-        if let Some(trouble) = self.bring_file(
-            alloc,
+        self.bring_files(
             shelf,
-            &profile.name,
-            Which::Json,
-            json,
+            profile.profile(),
+            profile.json_name(),
+            profile.dep_name(),
             held,
-        )? {
-            return Ok(Some(trouble));
-        }
-        let dep = &profile.dep;
-        self.bring_file(alloc, shelf, &profile.name, Which::Dep, dep, held)
+        )
     }
 
     /// Each profile's files get their bytes, in the order of the list; calls that fail are added to the troubles.
@@ -350,7 +374,7 @@ impl Publisher {
         &mut self,
         alloc: Global,
         shelf: &mut H,
-        profiles: &[Profile],
+        profiles: &[NamedProfile<'_>],
         troubles: &mut Vec<Trouble>,
     ) -> Result<(), AllocError>
         requires open { IsSome (H.opened shelf.old) }
@@ -379,7 +403,7 @@ impl Publisher {
     {
         let mut held = Vec::new(alloc);
         for profile in profiles {
-            let trouble = self.bring_profile(alloc, shelf, profile, &mut held)?;
+            let trouble = self.bring_profile(shelf, profile, &mut held)?;
             keep(troubles, trouble)?;
         }
         Ok(())
@@ -425,7 +449,7 @@ impl Publisher {
         alloc: Global,
         shelf: &mut H,
         names: &[Text],
-        wants: &[Profile],
+        wants: &[NamedProfile<'_>],
         troubles: &mut Vec<Trouble>,
     ) -> Result<(), AllocError>
         requires open { IsSome (H.opened shelf.old) }
@@ -460,7 +484,11 @@ impl Publisher {
     }
 
     /// The own names that may be there and that no profile wants, in byte order, each once.
-    fn unwanted(&self, alloc: Global, profiles: &[Profile]) -> Result<Vec<Text>, AllocError>
+    fn unwanted(
+        &self,
+        alloc: Global,
+        profiles: &[NamedProfile<'_>],
+    ) -> Result<Vec<Text>, AllocError>
         ensures going { IfOk result (λ gone. list_all (goes (wants_of profiles.now)) gone.items
             ≡ true) }
         ensures covers { IfOk result (λ gone. Covers gone.items (wants_of profiles.now) self.now) }
@@ -485,7 +513,7 @@ impl Publisher {
         alloc: Global,
         shelf: &mut H,
         gone: &[Text],
-        profiles: &[Profile],
+        profiles: &[NamedProfile<'_>],
     ) -> Result<Vec<Trouble>, AllocError>
         requires open { IsSome (H.opened shelf.old) }
         requires proper { proper (wants_of profiles.now) ≡ true }
@@ -519,6 +547,41 @@ impl Publisher {
         Ok(troubles)
     }
 
+    /// Publishes profiles with the names of their files.
+    fn publish_named<H: Shelf>(
+        &mut self,
+        alloc: Global,
+        shelf: &mut H,
+        profiles: &[NamedProfile<'_>],
+    ) -> Result<Publication, AllocError>
+        requires open { IsSome (H.opened shelf.old) }
+        requires proper { proper (wants_of profiles.now) ≡ true }
+        requires knows { Knows self.old (H.cell shelf.old) }
+        ensures ok { IfOk result (λ p. Published (wants_of profiles.now) p (H.fault_count shelf.old)
+            (H.fault_count shelf.new) (H.cell shelf.old) (H.cell shelf.new)) }
+        ensures bounded { IfOk result
+            (Bounded self.old.most (wants_of profiles.now) (may_stand_in self.old)) }
+        ensures within { RemovesWithin self.old.most (H.changes shelf.old) (H.changes shelf.new) }
+        ensures knows { OnOk result (Knows self.new (H.cell shelf.new)) }
+        ensures keys { IfOk result (λ p. (n : List ℕ) → may_stand_in self.new n
+            ≡ may_stand_after (wants_of profiles.now) p (may_stand_in self.old) n) }
+        ensures err { OnErr result (InterruptedWithin self.old.most (wants_of profiles.now)
+            (may_stand_in self.old) (H.fault_count shelf.old) (H.fault_count shelf.new)
+            (H.cell shelf.old) (H.cell shelf.new)) }
+        ensures later { H.fault_count shelf.old ≤ H.fault_count shelf.new }
+        ensures opened { H.opened shelf.new ≡ H.opened shelf.old }
+        ensures most { self.new.most ≡ self.old.most }
+        ensures log { IfOk result (λ p. Tells (H.cell shelf.old) → LoggedBy self.old profiles.now p
+            (H.cell shelf.old) (H.changes shelf.old) (H.changes shelf.new)) }
+    {
+        let gone = self.unwanted(alloc, profiles)?;
+        if !is_within(self.most, gone.len()) {
+            return Ok(Publication::TooManyRemovals(gone.len()));
+        }
+        let troubles = self.replace(alloc, shelf, &gone, profiles)?;
+        Ok(Publication::Done(Seq::from_vec(troubles)))
+    }
+
     /// Publishes profiles: first each own name that no profile wants is removed, in byte order, and then each file
     /// of theirs is read, where nothing is known of it but that it may be there, and put where its bytes differ. It goes
     /// on behind calls that fail, and gives them in the order in which they were made. Where more names were to go than it
@@ -549,12 +612,8 @@ impl Publisher {
         ensures log { IfOk result (λ p. Tells (H.cell shelf.old) → LoggedBy self.old profiles.now p
             (H.cell shelf.old) (H.changes shelf.old) (H.changes shelf.new)) }
     {
-        let gone = self.unwanted(alloc, profiles)?;
-        if !is_within(self.most, gone.len()) {
-            return Ok(Publication::TooManyRemovals(gone.len()));
-        }
-        let troubles = self.replace(alloc, shelf, &gone, profiles)?;
-        Ok(Publication::Done(Seq::from_vec(troubles)))
+        let profiles = named(alloc, profiles)?;
+        self.publish_named(alloc, shelf, &profiles)
     }
 
     /// A publisher for a shelf on which these names are. No publication of it removes more names than `most`.

@@ -27,7 +27,9 @@ impl Rooms {
     {
         match self.free.pop() {
             Some(mut room) => {
-                room.clear();
+                if !room.is_empty() {
+                    room.clear();
+                }
                 room
             }
             None => Vec::new(alloc),

@@ -49,6 +49,7 @@ pub(crate) fn check_value<L: Ledger, E: Evaluator>(
     )
 }
 
+#[inline(always)]
 #[cycle(checking)]
 #[tactic(auto, using(type_defs::proofs::Shapes::shapes))]
 fn check_shape<L: Ledger, E: Evaluator>(
@@ -93,6 +94,7 @@ fn check_shape<L: Ledger, E: Evaluator>(
     }
 }
 
+#[inline(always)]
 #[cycle(checking)]
 fn check_ranged<L: Ledger, E: Evaluator>(
     alloc: Global,
@@ -270,6 +272,7 @@ fn check_entry<L: Ledger, E: Evaluator>(
     )
 }
 
+#[inline(never)]
 #[cycle(checking)]
 #[tactic(auto, using(crate::proofs::Leaving::leaving))]
 fn check_link<L: Ledger, E: Evaluator>(
@@ -293,6 +296,7 @@ fn check_link<L: Ledger, E: Evaluator>(
     )
 }
 
+#[inline(always)]
 #[cycle(checking)]
 #[tactic(auto, using(crate::proofs::Walking::record_is, crate::proofs::Walking::no_record))]
 fn check_record<L: Ledger, E: Evaluator>(
@@ -320,6 +324,7 @@ fn check_record<L: Ledger, E: Evaluator>(
     check_no_other(alloc, fields, value, evaluator, work)
 }
 
+#[inline(always)]
 #[cycle(checking)]
 #[tactic(auto, using(crate::proofs::Walking::typed_more, crate::proofs::Leaving::leaving))]
 fn check_fields<L: Ledger, E: Evaluator>(
@@ -367,6 +372,7 @@ fn check_present<L: Ledger, E: Evaluator>(
     )
 }
 
+#[inline(always)]
 #[cycle(checking)]
 #[tactic(auto, using(type_defs::proofs::Shapes::seen_field))]
 fn check_field<L: Ledger, E: Evaluator>(

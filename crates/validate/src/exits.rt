@@ -22,6 +22,7 @@ fn with_term(term: Term, refusal: Refusal) -> Exit
 }
 
 /// What a check of the i-th item gave, told from the list.
+#[inline(always)]
 pub(crate) fn below_index(i: usize, checked: Result<(), Exit>) -> Result<(), Exit>
     ensures { (z : Outcome (Unit {0}) (Result (Unit {0}) Refused)) (m : Meter)
         → ComesOrRefuses (λ x. x) checked m z
@@ -38,6 +39,7 @@ pub(crate) fn below_index(i: usize, checked: Result<(), Exit>) -> Result<(), Exi
 }
 
 /// What a check of the value of a key gave, told from the dict.
+#[inline(always)]
 pub(crate) fn below_key(key: &Key, checked: Result<(), Exit>) -> Result<(), Exit>
     ensures { (z : Outcome (Unit {0}) (Result (Unit {0}) Refused)) (m : Meter)
         → ComesOrRefuses (λ x. x) checked m z

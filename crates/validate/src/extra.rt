@@ -1,4 +1,5 @@
-ghost use Rattle.std.specs.Prelude.{◌≡◌, IfOk, option_copied};
+ghost use Rattle.std.specs.HashSet.{contains};
+ghost use Rattle.std.specs.Prelude.{◌≡◌, IfOk, bytes_eq, option_copied};
 ghost use Rattle.path_tree.specs.Children.{child_fields};
 ghost use Rattle.path_tree.specs.Find.{key_at, kind_of};
 ghost use Rattle.path_tree.specs.declared.kind.Kind.TheVariants as kind;
@@ -37,12 +38,13 @@ fn has_key(fields: &[RecordField], key: &Key) -> bool
     false
 }
 
+#[inline(never)]
 fn set_of(alloc: Global, fields: &[RecordField]) -> Result<HashSet<Text>, AllocError>
     ensures { IfOk result (λ keys. AreKeys keys (fields_of (all_seen fields.now))) }
 {
     let mut keys = HashSet::with_capacity(alloc, fields.len())?;
     for field in fields {
-        keys.insert(Text::new(alloc, field.key.as_str())?)?;
+        keys.insert(field.key.text_handle().share()?)?;
     }
     Ok(keys)
 }
@@ -56,34 +58,31 @@ fn keys_of(alloc: Global, fields: &[RecordField]) -> Result<Keys<'_>, AllocError
     Ok(Keys::Many(set_of(alloc, fields)?))
 }
 
+/// Whether a key is one of a set, which is seldom made: apart, it takes no room where it is not.
+#[inline(never)]
+fn is_in(keys: &HashSet<Text>, key: &Key) -> bool
+    ensures { result ≡ contains bytes_eq keys.now key.now }
+{
+    keys.contains(key.text_handle())
+}
+
 /// Whether a key is that of a field.
-fn is_among(alloc: Global, keys: &Keys<'_>, key: &Key) -> Result<bool, AllocError>
-    ensures { (fs : Fields) → HasKeys keys.now fs → IfOk result (λ b. b ≡ has_key key.now fs) }
+fn is_among(keys: &Keys<'_>, key: &Key) -> bool
+    ensures { (fs : Fields) → HasKeys keys.now fs → result ≡ has_key key.now fs }
 {
     match keys {
-        Keys::Few(fields) => Ok(has_key(fields, key)),
-        Keys::Many(keys) => Ok(keys.contains(&Text::new(alloc, key.as_str())?)),
+        Keys::Few(fields) => has_key(fields, key),
+        Keys::Many(keys) => is_in(keys, key),
     }
 }
 
 /// The i-th key of a dict, where no field has it.
-fn extra_key<'a>(
-    alloc: Global,
-    keys: &Keys<'_>,
-    value: &'a Tree,
-    i: usize,
-) -> Result<Option<&'a Key>, AllocError>
+fn extra_key<'a>(keys: &Keys<'_>, value: &'a Tree, i: usize) -> Option<&'a Key>
     ensures { (fs : Fields) → HasKeys keys.now fs
-        → IfOk result (λ k. option_copied k ≡ extra_key fs (key_at i value.now)) }
+        → option_copied result ≡ extra_key fs (key_at i value.now) }
 {
-    let Some(key) = value.key_handle(i) else {
-        return Ok(None);
-    };
-    if is_among(alloc, keys, key)? {
-        Ok(None)
-    } else {
-        Ok(Some(key))
-    }
+    let key = value.key_handle(i)?;
+    if is_among(keys, key) { None } else { Some(key) }
 }
 
 /// The least key of a dict that no field has.
@@ -99,7 +98,7 @@ pub(crate) fn other_key<'a>(
 {
     let keys = keys_of(alloc, fields)?;
     for i in 0..value.len() {
-        let extra = extra_key(alloc, &keys, value, i)?;
+        let extra = extra_key(&keys, value, i);
         if extra.is_some() {
             return Ok(extra);
         }

@@ -43,6 +43,7 @@ pub(crate) fn fault(alloc: Global, code: Code, place: &Place) -> Stop
 }
 
 /// The step of a visit, for a binding at the place.
+#[inline(always)]
 #[tactic(auto, unfolding(crate::specs::Check::visit))]
 pub(crate) fn take_step<L: Ledger, E: Evaluator>(
     alloc: Global,

@@ -27,6 +27,7 @@ use std::sync::ledger::Ledger;
 use type_defs::{Base, RecordField};
 
 /// A value and a type that the language gives.
+#[inline(always)]
 pub(crate) fn check_base<E: Evaluator>(
     alloc: Global,
     place: &Place,
@@ -46,6 +47,7 @@ pub(crate) fn check_base<E: Evaluator>(
 }
 
 /// A value and the texts that it may be.
+#[inline(never)]
 pub(crate) fn check_choice<E: Evaluator>(
     alloc: Global,
     place: &Place,
@@ -68,6 +70,7 @@ pub(crate) fn check_choice<E: Evaluator>(
 }
 
 /// What `with` tests, of a value.
+#[inline(never)]
 #[tactic(auto, unfolding(crate::specs::Check::condition_run))]
 fn check_test<L: Ledger, E: Evaluator>(
     alloc: Global,
@@ -93,6 +96,7 @@ fn check_test<L: Ledger, E: Evaluator>(
 }
 
 /// What `with` tests, where it is written.
+#[inline(always)]
 #[tactic(auto, unfolding(crate::specs::Check::condition_run))]
 pub(crate) fn check_condition<L: Ledger, E: Evaluator>(
     alloc: Global,

@@ -1,12 +1,11 @@
-use Rattle.std.proofs.Common.{◌≡◌, ◌∙◌, ◌<◌, ◌-◌, true, [], ◌∷◌, ◌++◌, ap, sym, length, map, rules, arith}
+use Rattle.std.proofs.Common.{◌≡◌, ◌∙◌, ◌<◌, ◌-◌, true, [], ◌∷◌, ◌++◌, ap, subst, sym, length, map, rules, arith}
 use Rattle.pan_ast.specs.Seen.{item_seen, items_seen, node_seen, step_seen}
 use Rattle.pan_ast.specs.Syntax.{AtBinary, AtAnd, AtOr, none}
 use Rattle.pan_ast.specs.TemplatesSeen.{template_seen}
 use Rattle.pan_ast.proofs.Places.{item_place_seen}
 use Rattle.questions.proofs.Parts.{none_beyond}
 use Rattle.dml_meaning.proofs.Leaving.{leaving}
-use Rattle.dml_world.specs.Evaluations.{env_of, meter_of}
-use Rattle.dml_world.specs.Seen.{is_fixed}
+use Rattle.dml_world.specs.Evaluations.{Evaluates, env_of, meter_of}
 use Rattle.dml_eval.specs.Heres.{around_in}
 use Rattle.dml_world.proofs.Booleans.{others_both, others_either}
 use Rattle.dml_leaves.specs.References.{argument_of, indexes_back, purpose_of, reached_of}
@@ -16,7 +15,7 @@ use Rattle.dml_eval.specs.Waits.{chain_run, in_role, resume, turn_run}
 use Rattle.dml_eval.proofs.Lists.{for_over, while_over}
 use Rattle.dml_eval.proofs.Owns.{extends, includes_on, statements, tests}
 use Rattle.dml_eval.proofs.Reaching.{reaches}
-use Rattle.dml_eval.proofs.Stopping.{applied_stops, assigned_leaves, block_stops, both_stop, chain_stops, condition_stops, copy_stops, delete_leaves, either_stops, exists_leaves, exists_stops, extended_stops, for_stops, include_stops, included_stops, index_stops, inner_leaves, keys_stop, made_leaves, operand_stops, pair_stops, reached_stops, reference_goes, reference_stops, right_stops, second_stops, sign_stops, spine_stops, start_stops, statements_stop, terms_stop, turn_stops, value_leaves, values_left, values_stop, while_stops, whole_stops}
+use Rattle.dml_eval.proofs.Stopping.{applied_stops, assigned_leaves, block_stops, both_stop, chain_stops, condition_stops, copy_stops, delete_leaves, either_stops, exists_leaves, exists_stops, extended_stops, for_stops, include_stops, included_stops, index_stops, keys_stop, made_leaves, operand_stops, pair_stops, reached_stops, reference_goes, reference_stops, right_stops, second_stops, sign_stops, container_stops, element_stops, pair_stops_left, pair_stops_right, place_stops, set_stops, spine_stops, start_stops, statements_stop, terms_stop, turn_stops, value_leaves, values_left, values_stop, while_stops, whole_stops}
 use Rattle.dml_eval.proofs.Waits.{no_operand, resumed_ends, resumed_more, resumed_none, steps_end, steps_more, turns_leave}
 use Rattle.dml_meaning.specs.References.{reference_in}
 use Rattle.dml_meaning.specs.Loops.{pair_at}
@@ -429,15 +428,6 @@ creating::run_included-returns-in_err-template-clause-gives g t c = λ keys.
     (meter_of g.W.World c.structure_named.new.evaluation) in
     grind (arith, stops)
 
-pub creating::run_inner-returns-in_err-share_called-clause-gives :
-    goal.creating::run_inner-returns-in_err-share_called-clause-gives
-creating::run_inner-returns-in_err-share_called-clause-gives g t c = λ keys.
-    let leaves = inner_leaves (around_in g.W.World c.args.here)
-    g.W.World.plain c.args.here.room (is_fixed c.args.self_use) c.args.self_value
-    (item_seen c.args.item.now) (only keys g.W.World.answers) (env_of c.args.evaluation.now)
-    (meter_of g.W.World c.args.evaluation.now) in
-    grind (arith, leaves)
-
 pub items::run_block-returns-in_err-last-clause-gives :
     goal.items::run_block-returns-in_err-last-clause-gives
 items::run_block-returns-in_err-last-clause-gives g t c = λ keys.
@@ -504,6 +494,77 @@ items::run_whole-returns-in_err-value-clause-gives g t c = λ keys.
     g.W.World.plain c.args.here.room c.in_err-value.field-0.0 c.args.place.now c.args.name.now
     (item_seen c.args.right.now) (only keys g.W.World.answers) (env_of c.args.evaluation.now)
     (env_of c.open_item.new.evaluation) (meter_of g.W.World c.args.evaluation.now)
+    (meter_of g.W.World c.open_item.new.evaluation) in
+    grind (arith, stops)
+
+pub pairs::run_pair-returns-in_err-left-clause-gives : goal.pairs::run_pair-returns-in_err-left-clause-gives
+pairs::run_pair-returns-in_err-left-clause-gives g t c = λ keys.
+    let stops = pair_stops_left (around_in g.W.World c.args.here)
+    g.W.World.plain c.args.here.room c.in_err-left.field-0.0 c.args.pair.place.now c.args.pair.op
+    (node_seen c.args.pair.left.now) (node_seen c.args.pair.right.now)
+    (only keys g.W.World.answers)
+    (env_of c.args.evaluation.now) (env_of c.run_operand.new.evaluation)
+    (meter_of g.W.World c.args.evaluation.now)
+    (meter_of g.W.World c.run_operand.new.evaluation) in
+    grind (arith, stops)
+
+pub pairs::run_pair-returns-in_err-right-clause-gives : goal.pairs::run_pair-returns-in_err-right-clause-gives
+pairs::run_pair-returns-in_err-right-clause-gives g t c = λ keys.
+    let stops = pair_stops_right (around_in g.W.World c.args.here)
+    g.W.World.plain c.args.here.room c.in_err-right.field-0.0 c.args.pair.place.now c.args.pair.op
+    (node_seen c.args.pair.left.now) (node_seen c.args.pair.right.now) c.in_ok-left.left
+    (only keys g.W.World.answers)
+    (env_of c.args.evaluation.now) (env_of c.run_operand.new.evaluation)
+    (env_of c.run_operand-2.new.evaluation)
+    (meter_of g.W.World c.args.evaluation.now)
+    (meter_of g.W.World c.run_operand-2.new.evaluation)
+    (meter_of g.W.World c.run_operand.new.evaluation) in
+    grind (arith, stops)
+
+pub pairs::run_element-returns-in_err-container-clause-gives : goal.pairs::run_element-returns-in_err-container-clause-gives
+pairs::run_element-returns-in_err-container-clause-gives g t c = λ keys.
+    let stops = container_stops (around_in g.W.World c.args.here)
+    g.W.World.plain c.args.here.room c.in_err-container.field-0.0 c.args.element.place.now
+    (node_seen c.args.element.container.now) (item_seen c.args.element.index.now)
+    (only keys g.W.World.answers)
+    (env_of c.args.evaluation.now) (env_of c.run_operand.new.evaluation)
+    (meter_of g.W.World c.args.evaluation.now)
+    (meter_of g.W.World c.run_operand.new.evaluation) in
+    grind (arith, stops)
+
+pub pairs::run_element-returns-in_err-index-clause-gives : goal.pairs::run_element-returns-in_err-index-clause-gives
+pairs::run_element-returns-in_err-index-clause-gives g t c = λ keys.
+    let stops = element_stops (around_in g.W.World c.args.here)
+    g.W.World.plain c.args.here.room c.in_err-index.field-0.0 c.args.element.place.now
+    (node_seen c.args.element.container.now) (item_seen c.args.element.index.now)
+    c.in_ok-container.container (only keys g.W.World.answers)
+    (env_of c.args.evaluation.now) (env_of c.run_operand.new.evaluation)
+    (env_of c.open_item.new.evaluation)
+    (meter_of g.W.World c.args.evaluation.now)
+    (meter_of g.W.World c.open_item.new.evaluation)
+    (meter_of g.W.World c.run_operand.new.evaluation) in
+    grind (arith, stops)
+
+pub items::run_at-returns-in_err-key-clause-gives : goal.items::run_at-returns-in_err-key-clause-gives
+items::run_at-returns-in_err-key-clause-gives g t c = λ keys.
+    let stops = place_stops (around_in g.W.World c.args.here)
+    g.W.World.plain c.args.here.room c.in_err-key.field-0.0 c.args.place.now c.args.name.now
+    (item_seen c.args.index.now) (item_seen c.args.right.now) (only keys g.W.World.answers)
+    (env_of c.args.evaluation.now) (env_of c.open_item.new.evaluation)
+    (meter_of g.W.World c.args.evaluation.now)
+    (meter_of g.W.World c.open_item.new.evaluation) in
+    grind (arith, stops)
+
+pub items::run_at-returns-in_err-value-clause-gives :
+    goal.items::run_at-returns-in_err-value-clause-gives
+items::run_at-returns-in_err-value-clause-gives g t c = λ keys.
+    let stops = set_stops (around_in g.W.World c.args.here)
+    g.W.World.plain c.args.here.room c.in_err-value.field-0.0 c.args.place.now c.args.name.now
+    (item_seen c.args.index.now) (item_seen c.args.right.now) c.in_ok-key.key
+    (only keys g.W.World.answers) (env_of c.args.evaluation.now)
+    (env_of c.open_item.new.evaluation)
+    (env_of c.open_item-2.new.evaluation) (meter_of g.W.World c.args.evaluation.now)
+    (meter_of g.W.World c.open_item-2.new.evaluation)
     (meter_of g.W.World c.open_item.new.evaluation) in
     grind (arith, stops)
 
@@ -713,3 +774,17 @@ references::reach_from-returns-in_err-push-clause-gives g t c = λ keys.
 pub nodes::run_operand-unreachable-requires : goal.nodes::run_operand-unreachable-requires
 nodes::run_operand-unreachable-requires g t c = no_operand c.args.node.now c.in-Spine.field-0
     c.in-Spine.field-1 c.in-Spine.field-2 c.in-Spine.is c.requires.operand
+
+pub nodes::run_spine-returns-in-Some-clause-gives : goal.nodes::run_spine-returns-in-Some-clause-gives
+nodes::run_spine-returns-in-Some-clause-gives g t c =
+    let same = c.in-Some.ensures.0 (eval c.args.here.room) (around_in g.W.World c.args.here) in
+    subst (λ run. Evaluates (λ t. t) c.run_pair.result g.W.World c.args.evaluation.now
+    c.run_pair.new.evaluation run) (sym same) c.run_pair.ensures.gives
+
+pub nodes::run_spine-returns-in-Some-element_of-clause-gives :
+    goal.nodes::run_spine-returns-in-Some-element_of-clause-gives
+nodes::run_spine-returns-in-Some-element_of-clause-gives g t c =
+    let same = c.in-Some-element_of.ensures.0 (eval c.args.here.room)
+    (around_in g.W.World c.args.here) in
+    subst (λ run. Evaluates (λ t. t) c.run_element.result g.W.World c.args.evaluation.now
+    c.run_element.new.evaluation run) (sym same) c.run_element.ensures.gives

@@ -21,7 +21,7 @@ abbrev pub decreases-items::open_item : goal.decreases-items::open_item
 decreases-items::open_item g l = l.here.room * 2 ^ 70
 
 abbrev pub decreases-items::run_item : goal.decreases-items::run_item
-decreases-items::run_item g l = l.here.room * 2 ^ 70 + 2 ^ 69 + 2007
+decreases-items::run_item g l = l.here.room * 2 ^ 70 + 2 ^ 69 + 2008
 
 abbrev pub decreases-items::run_block : goal.decreases-items::run_block
 decreases-items::run_block g l = l.here.room * 2 ^ 70 + 1
@@ -46,6 +46,9 @@ decreases-items::run_set g l = l.here.room * 2 ^ 70 + 2
 
 abbrev pub decreases-items::run_whole : goal.decreases-items::run_whole
 decreases-items::run_whole g l = l.here.room * 2 ^ 70 + 1
+
+abbrev pub decreases-items::run_at : goal.decreases-items::run_at
+decreases-items::run_at g l = l.here.room * 2 ^ 70 + 1
 
 abbrev pub decreases-loops::turn_while : goal.decreases-loops::turn_while
 decreases-loops::turn_while g l = l.here.room * 2 ^ 70 + 2
@@ -72,7 +75,16 @@ abbrev pub decreases-loops::run_foreach : goal.decreases-loops::run_foreach
 decreases-loops::run_foreach g l = l.here.room * 2 ^ 70 + 3
 
 abbrev pub decreases-nodes::run_node : goal.decreases-nodes::run_node
-decreases-nodes::run_node g l = l.here.room * 2 ^ 70 + 2 ^ 69 + 2006
+decreases-nodes::run_node g l = l.here.room * 2 ^ 70 + 2 ^ 69 + 2007
+
+abbrev pub decreases-nodes::run_spine : goal.decreases-nodes::run_spine
+decreases-nodes::run_spine g l = l.here.room * 2 ^ 70 + 2 ^ 69 + 2006
+
+abbrev pub decreases-pairs::run_pair : goal.decreases-pairs::run_pair
+decreases-pairs::run_pair g l = l.here.room * 2 ^ 70 + 2 ^ 69 + 2001
+
+abbrev pub decreases-pairs::run_element : goal.decreases-pairs::run_element
+decreases-pairs::run_element g l = l.here.room * 2 ^ 70 + 2 ^ 69 + 2001
 
 abbrev pub decreases-nodes::run_operand : goal.decreases-nodes::run_operand
 decreases-nodes::run_operand g l = l.here.room * 2 ^ 70 + 2 ^ 69 + 2000

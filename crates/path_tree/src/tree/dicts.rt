@@ -116,12 +116,12 @@ fn scanned<'a>(entries: &'a [Entry], key: &str) -> Option<&'a Tree>
     None
 }
 
-// The dict once more, with the same entries.
+// The dict once more, with the same entries and room for one more: mostly it is copied to get one.
 pub(super) fn copy(alloc: Global, dict: &Dict) -> Result<Dict, AllocError>
     ensures { IfOk result (λ d. (d.entries.items ≡ dict.now.entries.items)
         × (d.size ≡ dict.now.size) × (d.height ≡ dict.now.height)) }
 {
-    let mut entries = Vec::with_capacity(alloc, dict.entries.len())?;
+    let mut entries = Vec::with_capacity(alloc, dict.entries.len().saturating_add(1))?;
     for entry in &dict.entries {
         entries.push(Entry {
             key: entry.key.share()?,

@@ -34,12 +34,12 @@ pub(super) fn item_at(items: &[Tree], index: usize) -> Option<&Tree>
     }
 }
 
-// The list once more, with the same items.
+// The list once more, with the same items and room for one more.
 pub(super) fn copy(alloc: Global, list: &Items) -> Result<Items, AllocError>
     ensures { IfOk result (λ d. (d.items.items ≡ list.now.items.items) × (d.size ≡ list.now.size)
         × (d.height ≡ list.now.height)) }
 {
-    let mut items = Vec::with_capacity(alloc, list.items.len())?;
+    let mut items = Vec::with_capacity(alloc, list.items.len().saturating_add(1))?;
     for item in &list.items {
         items.push(item.copy()?)?;
     }

@@ -1,8 +1,6 @@
-use Rattle.std.proofs.Common.{◌<◌, List, ℕ, ◌++◌, Some, None, subst, sym, ap, ◌∙◌, arith}
-use Rattle.std.specs.Prelude.{string_bytes}
+use Rattle.std.proofs.Common.{◌<◌, List, ℕ, ◌++◌, Some, None, subst, sym, ◌∙◌, arith}
 use Rattle.std.proofs.lemmas.Str.Pattern.{split_parts}
 use Rattle.base.specs.Answers.{Gives}
-use Rattle.call_values.specs.Drafts.{drafted}
 use Rattle.path_tree.specs.Refusals.{refusal}
 use Rattle.builtins_text.proofs.Joined.{finished_is}
 use Rattle.builtins_text.proofs.Walks.{end_done, end_refused, none_left, refused_alike, some_left, step_done, step_refused}
@@ -28,16 +26,15 @@ loop-plain-preserved c =
     let parts = split_parts 37 c.loop-plain.rest.now (Some (c.in-Some.plain, c.in-Some.behind))
     c.in-Some.ensures.cases ascii in
     let made : List ℕ = c.loop-plain.invariant.1.0 in
-    let both : List ℕ = made ++ c.in-Some.plain.now in (
+    let both : List ℕ = made ++ c.in-Some.plain.now in
+    let next = c.in-Ok.ensures.ok in (
       c.in-Ok.ensures.utf8,
       (
-        both ++ string_bytes c.in-Ok.next.text,
-        c.in_ok-push-2.ensures both (c.in_ok-push.ensures made c.loop-plain.invariant.1.1)
-            ∙ ap (λ x. drafted (both ++ x)) c.as_str.ensures.value,
+        both ++ next.0,
+        next.1 both (c.in_ok-push.ensures made c.loop-plain.invariant.1.1),
         step_done c.args.text.now c.loop-plain.rest.now c.args.values.now made c.in-Some.plain.now
-            c.in-Some.behind.now c.in-Ok.next.rest.now (string_bytes c.in-Ok.next.text)
-            c.loop-plain.left.now c.in-Ok.next.values.now c.loop-plain.invariant.1.2 parts.0 parts.1
-            c.in-Ok.ensures.ok,
+            c.in-Some.behind.now c.in-Ok.next.text.now next.0 c.loop-plain.left.now
+            c.in-Ok.next.values.now c.loop-plain.invariant.1.2 parts.0 parts.1 next.2,
       ),
     )
 
@@ -59,4 +56,4 @@ returns c =
     c.if-not-is_empty.false) in
     subst (Gives (λ t. t) refusal c.finish.result)
     (finished_is _ (made ++ c.loop-plain.rest.now)
-    (c.in_ok-push-3.ensures made c.loop-plain.invariant.1.1) ∙ sym done) c.finish.ensures
+    (c.in_ok-push-2.ensures made c.loop-plain.invariant.1.1) ∙ sym done) c.finish.ensures

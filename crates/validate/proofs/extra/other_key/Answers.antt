@@ -11,10 +11,10 @@ returns-then-is_some c =
     let fs = fields_of (all_seen c.args.fields.now) in
     let within : c.loop-i.i < child_count c.args.value.now =
     omega (arith, c.loop-i-test.true, c.len-i-end.ensures) in
-    let here : option_copied c.in_ok-extra.extra ≡ extra_key fs
-    (key_at c.loop-i.i c.args.value.now) = c.in_ok-extra.ensures fs c.loop-i.invariant.keys in
-    other_found fs c.loop-i.i c.args.value.now (option_copied c.in_ok-extra.extra) c.requires within
-    here (copied_some c.in_ok-extra.extra ∙ sym c.is_some.ensures ∙ c.if-is_some.true)
+    let here : option_copied c.extra_key-extra.result ≡ extra_key fs
+    (key_at c.loop-i.i c.args.value.now) = c.extra_key-extra.ensures fs c.loop-i.invariant.keys in
+    other_found fs c.loop-i.i c.args.value.now (option_copied c.extra_key-extra.result) c.requires within
+    here (copied_some c.extra_key-extra.result ∙ sym c.is_some.ensures ∙ c.if-is_some.true)
     ∙ c.loop-i.invariant.other
 
 pub loop-i-preserved : goal.loop-i-preserved
@@ -22,11 +22,11 @@ loop-i-preserved c =
     let fs = fields_of (all_seen c.args.fields.now) in
     let within : c.loop-i.i < child_count c.args.value.now =
     omega (arith, c.loop-i-test.true, c.len-i-end.ensures) in
-    let here : option_copied c.in_ok-extra.extra ≡ extra_key fs
-    (key_at c.loop-i.i c.args.value.now) = c.in_ok-extra.ensures fs c.loop-i.invariant.keys in
+    let here : option_copied c.extra_key-extra.result ≡ extra_key fs
+    (key_at c.loop-i.i c.args.value.now) = c.extra_key-extra.ensures fs c.loop-i.invariant.keys in
     record {
       keys = c.loop-i.invariant.keys;
-      other = other_on fs c.loop-i.i c.args.value.now (option_copied c.in_ok-extra.extra) c.requires
-          within here (copied_some c.in_ok-extra.extra ∙ sym c.is_some.ensures ∙ c.if-is_some.false)
+      other = other_on fs c.loop-i.i c.args.value.now (option_copied c.extra_key-extra.result) c.requires
+          within here (copied_some c.extra_key-extra.result ∙ sym c.is_some.ensures ∙ c.if-is_some.false)
           ∙ c.loop-i.invariant.other;
     }

@@ -14,7 +14,7 @@ loop-field-preserved c k =
     let held = contains bytes_eq c.loop-field.keys k in
     let rest = has_key k (fields_of
     (all_seen (drop (c.loop-field.field-index + 1) c.args.fields.now))) in
-    let same : c.in_ok-new.field-0 ≡ key = search (rules, seen_field) in
+    let same : c.in_ok-share.field-0 ≡ key = search (rules, seen_field) in
     let within : c.loop-field.field-index < length c.args.fields.now =
     omega (arith, c.loop-field-test.true) in
     let grown : contains bytes_eq c.insert.new.self k ≡ cond (bytes_eq key k) true held =

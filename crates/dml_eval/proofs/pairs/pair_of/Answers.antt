@@ -1,0 +1,13 @@
+use Rattle.std.proofs.Common.{◌≡◌, length, arith}
+use Rattle.std.proofs.lemmas.Bool.Decides.{nat_tests}
+use Rattle.dml_eval.proofs.Waits.{pair_is}
+use Rattle.dml_eval.proofs.pairs.pair_of.Goals as goal
+
+pub returns : goal.returns
+returns c =
+    let none : length c.args.chain.now.rest.now ≡ 0 =
+    grind (arith, nat_tests, c.is_empty.ensures, c.if-not-is_empty.false) in (
+      pair_is c.args.chain.now c.in-Binary.op c.in-Binary.right c.in-Binary.is none,
+      c.is_operand.ensures c.if-not-is_operand.false,
+      c.is_operand-else-not-is_operand.ensures c.if-not-is_operand-2.false,
+    )
