@@ -4,7 +4,7 @@ use std::alloc::Global;
 use std::marker::Model;
 
 /// A list of values, seen by contracts as the plain list.
-#[derive(Debug, Drop)]
+#[derive(Drop)]
 pub struct Seq<T> {
     inner: Vec<T>,
 }

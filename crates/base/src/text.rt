@@ -18,11 +18,20 @@ use std::str::from_utf8_unchecked;
 /// A text, seen by contracts as the list of its UTF-8 bytes. Copies of a text, and texts that stand
 /// in it, share one text in memory: each is the bytes of a whole from `start` to before `end`. A
 /// text of 2^32 bytes or more is refused as want of memory, so that a text takes two words.
-#[derive(Debug, Drop)]
 pub struct Text {
     whole: RcStr,
     start: u32,
     end: u32,
+}
+
+impl Drop for Text {
+    fn drop(self) {
+        let Text {
+            whole: _whole,
+            start: _start,
+            end: _end,
+        } = self;
+    }
 }
 
 impl Model for Text {

@@ -2,7 +2,7 @@ ghost use Rattle.std.specs.Prelude.{◌≡◌};
 ghost use Rattle.builtins_text.specs.Calls.{find_of};
 
 /// A built-in function on texts and numbers (Pan Book, "Built-in Functions").
-#[derive(Clone, Copy, Debug, PartialEq, Eq)]
+#[derive(Clone, Copy, PartialEq, Eq)]
 pub enum Call {
     /// `escape`
     Escape,

@@ -4,6 +4,7 @@ use Rattle.std.specs.Prelude.{◌≢◌, not, nat_lt, is_some, IfSome, unwrap_or
 use Rattle.std.specs.List.{fold, list_all}
 use Rattle.std.proofs.lemmas.List.{append-nil}
 use Rattle.std.proofs.lemmas.Bool.{cond-true, ltb-true, lt-ltb}
+use Rattle.std.proofs.Math.Seq.{take-suc}
 use Rattle.base.specs.declared.limits.TheConstants.{MAX_TREE_HEIGHT, MAX_TREE_SIZE}
 use Rattle.path_tree.specs.Children.{child_fields, fields_from}
 use Rattle.path_tree.specs.Find.{child_at, child_count, find_field, key_at, kind_of, text_of, value_at}
@@ -75,6 +76,24 @@ refused t f h = by (is_too_large t) refl h where
   by true e h = (e, cc)
   by false e h = absurd cc
 
+-- a dict that was made is within the limits
+made : (t u : Plain) → within_limits t ≡ Ok u → (u ≡ t) × (is_too_large u ≡ false)
+made t u h = by (is_too_large t) refl h where
+  by : (b : Bool) → is_too_large t ≡ b → cond b (Err TooLarge) (Ok t) ≡ Ok u
+      → (u ≡ t) × (is_too_large u ≡ false)
+  by true e h = absurd cc
+  by false e h =
+      let same : u ≡ t = cc in
+      (same, ap is_too_large same ∙ e)
+
+-- a pair more of those that go from the end
+pub part_made : (pairs : List Pair) (j : ℕ) (pair : Pair) (rest : List Pair) (u : Plain)
+    → drop j pairs ≡ pair ∷ rest → within_limits (dict (put_new pair (fields_of_pairs rest))) ≡ Ok u
+    → (u ≡ dict (fields_of_pairs (drop j pairs))) × (is_too_large u ≡ false)
+part_made pairs j pair rest u here h =
+    let got = made (dict (put_new pair (fields_of_pairs rest))) u h in
+    (got.0 ∙ ap (λ ps. dict (fields_of_pairs ps)) (sym here), got.1)
+
 -- where a part is refused, the whole is
 pub part_refused : (e : Refused) (pairs : List Pair) (j : ℕ) (pair : Pair) (rest : List Pair)
     → drop j pairs ≡ pair ∷ rest →
@@ -108,6 +127,20 @@ pub parted : (i : ℕ) (xs : List Pair) (x : Pair) → x ≡ get_or xs i x → i
 parted i [] x e h = absurd (omega (arith, h))
 parted zero (y ∷ ys) x e h = ap (λ z. z ∷ ys) (sym e)
 parted (suc i) (y ∷ ys) x e h = ap (λ zs. y ∷ zs) (parted i ys x e (omega (arith, h)))
+
+-- a pair more of those that go from the start
+pub turn_made : (pairs : List Pair) (i n : ℕ) (pair : Pair) (u : Plain) → pair
+    ≡ get_or pairs i pair → i < length pairs → n ≡ suc i
+    → within_limits (dict (put_new pair (fields_in_turn (take i pairs)))) ≡ Ok u
+    → (u ≡ dict (fields_in_turn (take n pairs))) × (is_too_large u ≡ false)
+turn_made pairs i n pair u is low next h =
+    let got = made (dict (put_new pair (fields_in_turn (take i pairs)))) u h in
+    let step : take n pairs ≡ take i pairs ++ pair ∷ [] =
+    ap (λ k. take k pairs) next ∙ take-suc pairs i pair low
+    ∙ ap (λ p. take i pairs ++ p ∷ []) (sym is) in
+    let fields : fields_in_turn (take n pairs) ≡ put_new pair (fields_in_turn (take i pairs)) =
+    ap fields_in_turn step ∙ turn_append no_fields (take i pairs) (pair ∷ []) in
+    (got.0 ∙ ap dict (sym fields), got.1)
 
 -- where a first part is refused, the whole is
 pub turn_refused : (e : Refused) (pairs xs : List Pair) (pair : Pair) (rest : List Pair) → pairs

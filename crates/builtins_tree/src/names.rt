@@ -2,7 +2,7 @@ ghost use Rattle.std.specs.Prelude.{◌≡◌};
 ghost use Rattle.builtins_tree.specs.Calls.{find_of};
 
 /// A built-in function on trees (Pan Book, "Built-in Functions").
-#[derive(Clone, Copy, Debug, PartialEq, Eq)]
+#[derive(Clone, Copy, PartialEq, Eq)]
 pub enum Call {
     /// `list`
     List,

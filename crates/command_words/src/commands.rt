@@ -16,7 +16,7 @@ use numbers::number_of;
 use std::alloc::{AllocError, Global};
 
 /// What `build` and `watch` work on.
-#[derive(Debug, Drop)]
+#[derive(Drop)]
 pub struct Work {
     pub source: Text,
     pub out: Text,
@@ -41,7 +41,7 @@ struct Limits {
 }
 
 /// What `demo` works on.
-#[derive(Clone, Copy, Debug, PartialEq, Eq)]
+#[derive(Clone, Copy, PartialEq, Eq)]
 pub struct Demonstration {
     /// How many machines the site has.
     pub count: u32,
@@ -54,14 +54,14 @@ pub struct Demonstration {
 }
 
 /// What `format` works on.
-#[derive(Debug, Drop)]
+#[derive(Drop)]
 pub struct Pair {
     pub source: Text,
     pub out: Text,
 }
 
 /// What the words ask for.
-#[derive(Debug, Drop)]
+#[derive(Drop)]
 pub enum Command {
     Build(Work),
     Watch(Work),

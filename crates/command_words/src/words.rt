@@ -59,7 +59,7 @@ fn the_command<'a>(alloc: Global) -> Result<Command<'a>, AllocError>
 }
 
 /// The values of the words: what was given for each argument of the command.
-#[derive(Debug, Drop)]
+#[derive(Drop)]
 pub struct Words {
     pub mode: Option<Text>,
     pub source: Option<Text>,

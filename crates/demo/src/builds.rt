@@ -27,7 +27,7 @@ use std::sync::ledger::Ledger;
 const BUILDS: u32 = 4;
 
 /// How a build leaves a session.
-#[derive(Clone, Copy, Debug, PartialEq, Eq)]
+#[derive(Clone, Copy, PartialEq, Eq)]
 pub enum Step {
     Reports,
     SpendsNumbers,

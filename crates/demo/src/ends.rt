@@ -4,7 +4,7 @@ ghost use Rattle.demo.specs.declared.ends.End.TheVariants.{Memory};
 use std::alloc::{AllocError, AllocFailed};
 
 /// Why a demo ended before its builds did.
-#[derive(Clone, Copy, Debug, PartialEq, Eq)]
+#[derive(Clone, Copy, PartialEq, Eq)]
 pub enum End {
     /// A line could not be written.
     Out,

@@ -2,7 +2,7 @@ use dml_world::Around;
 
 /// Where an item is opened: what stands around it, and how many more may be open.
 #[derive(Clone, Copy)]
-pub(crate) struct Here<'a> {
+pub struct Here<'a> {
     pub around: &'a Around<'a>,
     pub room: u64,
 }

@@ -24,7 +24,7 @@ use std::sync::ledger::Ledger;
 /// An item, where `room` more may be open.
 #[cycle(eval)]
 #[tactic(auto, using(pan_ast::proofs::Places::item_place_seen, dml_meaning::proofs::Leaving::leaving), unfolding(dml_meaning::specs::Meaning::eval))]
-pub(crate) fn open_item<W: World, L: Ledger>(
+pub fn open_item<W: World, L: Ledger>(
     item: &Item,
     here: Here<'_>,
     evaluation: &mut Evaluation<'_, '_, W, L>,

@@ -5,15 +5,14 @@
 //! `dml_leaves` (all that opens no item). In reading order, one file per part of the evaluation:
 //! `here` (where an item is opened), `items`, `loops`, `nodes` (operands), `pairs` (chains of one
 //! step), `chains` (the others), `calls`, `references` (arguments that are references), `built_in`
-//! (the built-in functions that look at more than values), `creating` (the statements of structure
-//! templates), and `dml`, the call from outside.
+//! (the built-in functions that look at more than values) and `creating` (the statements of
+//! structure templates). The call from outside is `dml_call`.
 #![tactic(auto)]
 
 mod built_in;
 mod calls;
 mod chains;
 mod creating;
-mod dml;
 mod here;
 mod items;
 mod loops;
@@ -21,4 +20,5 @@ mod nodes;
 mod pairs;
 mod references;
 
-pub use dml::run_dml;
+pub use here::Here;
+pub use items::open_item;

@@ -6,7 +6,7 @@ use base::Text;
 use std::alloc::{AllocError, Global};
 
 /// A place of a command.
-#[derive(Clone, Copy, Debug, PartialEq, Eq)]
+#[derive(Clone, Copy, PartialEq, Eq)]
 pub enum Place {
     Mode,
     Source,
@@ -14,7 +14,7 @@ pub enum Place {
 }
 
 /// What is wrong with words that are no command.
-#[derive(Debug, Drop)]
+#[derive(Drop)]
 pub enum Wrong {
     /// A word that looks like an option and is none, or one whose value is missing or not of its form.
     BadOption(Text),

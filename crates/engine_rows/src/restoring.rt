@@ -34,7 +34,7 @@ use std::alloc::{AllocError, AllocFailed, Global};
 use stored_rows::are_rising;
 
 /// Why an engine was not restored.
-#[derive(Clone, Copy, Debug, PartialEq, Eq)]
+#[derive(Clone, Copy, PartialEq, Eq)]
 pub enum RestoreError {
     /// An engine cannot hold what was kept: its counter is below 3 or past the end of numbers, names of files or of
     /// objects do not rise, a file has no number or over [MAX_FILE_BYTES], a result has no number of its kind, or there

@@ -8,7 +8,7 @@ use std::alloc::{AllocError, Global};
 
 /// A token that may be expected: a sign or a word of the language, or one that stands for all that may stand where it
 /// may.
-#[derive(Clone, Copy, Debug, PartialEq, Eq)]
+#[derive(Clone, Copy, PartialEq, Eq)]
 pub enum Candidate {
     /// `!`, with which an item may begin and nothing else.
     Value,

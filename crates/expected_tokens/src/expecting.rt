@@ -116,6 +116,6 @@ pub fn expected(alloc: Global, file: &Text, bytes: &[u8]) -> Result<Option<Expec
     if fault.code != Code::BadSyntax {
         return Ok(None);
     }
-    let wrong = expected_at(alloc, file, bytes, tokens.as_slice(), fault.place)?;
+    let wrong = expected_at(alloc, file, bytes, tokens.as_slice(), fault.into_place())?;
     Ok(Some(wrong))
 }

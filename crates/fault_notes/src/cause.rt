@@ -24,7 +24,7 @@ const VALUE_CODES: [Code; 7] = [
 ];
 
 /// Who set a value last.
-#[derive(Debug, Drop)]
+#[derive(Drop)]
 pub struct Setter {
     /// `FILE:LINE:COLUMN` of the statement or the binding.
     pub place: Bytes,
@@ -33,7 +33,7 @@ pub struct Setter {
 }
 
 /// What is known of the value that a fault is about, or of the file that is not there, and what led to the fault.
-#[derive(Debug, Drop)]
+#[derive(Drop)]
 pub struct Cause {
     /// The value, as it is shown.
     pub value: Option<Bytes>,

@@ -18,7 +18,7 @@ use std::alloc::{AllocError, Global};
 pub const MAX_TRACE_LINES: usize = 8;
 
 /// Whether a note has the colours of a terminal.
-#[derive(Clone, Copy, Debug, PartialEq, Eq)]
+#[derive(Clone, Copy, PartialEq, Eq)]
 pub enum Colours {
     On,
     Off,

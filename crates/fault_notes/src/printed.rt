@@ -18,7 +18,7 @@ use std::alloc::{AllocError, Global};
 
 /// A line of a report that tells a fault, `fault NAME CODE FILE:LINE:COLUMN DETAIL`, and what is known of the value that
 /// it is about.
-#[derive(Debug, Drop)]
+#[derive(Drop)]
 pub struct Explained {
     pub line: Bytes,
     pub cause: Cause,

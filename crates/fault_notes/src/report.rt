@@ -11,7 +11,7 @@ use std::alloc::{AllocError, Global};
 pub const MAX_NOTES: usize = 20;
 
 /// A fault of a report, and the objects that have it.
-#[derive(Debug, Drop)]
+#[derive(Drop)]
 pub struct Repeated {
     /// `CODE FILE:LINE:COLUMN DETAIL`.
     pub fault: Bytes,
@@ -20,7 +20,7 @@ pub struct Repeated {
 }
 
 /// The faults of a report that are told.
-#[derive(Debug, Drop)]
+#[derive(Drop)]
 pub struct Report {
     /// The first different faults, at most `MAX_NOTES`.
     pub faults: Seq<Repeated>,

@@ -15,19 +15,46 @@ use stored_rows::StoredRow;
 /// It tells the file that it was opened with, and nothing of its rows. What stands beside the file
 /// belongs to it, until `close` copies it back: the log of the changes. Its last failure is kept in
 /// words.
-#[derive(Drop)]
 pub struct HostKeeper {
     rt: HostRuntime,
     opened: Option<OpenFile>,
     troubles: Troubles,
 }
 
+impl Drop for HostKeeper {
+    fn drop(self) {
+        let HostKeeper {
+            rt: _rt,
+            opened: _opened,
+            troubles: _troubles,
+        } = self;
+    }
+}
+
 /// A file that is open, by its name, and the keeper over it.
-#[derive(Drop)]
 struct OpenFile {
     name: Text,
     keeper: SqliteKeeper<FileStore<File>>,
     ghost ready: { IsSome keeper.opened },
+}
+
+impl Drop for OpenFile {
+    fn drop(self) {
+        let OpenFile {
+            name: _name,
+            keeper: _keeper,
+        } = self;
+    }
+}
+
+impl OpenFile {
+    fn into_keeper(self) -> SqliteKeeper<FileStore<File>> {
+        let OpenFile {
+            name: _name,
+            keeper,
+        } = self;
+        keeper
+    }
 }
 
 /// A keeper over this connection, made ready.
@@ -119,10 +146,10 @@ impl HostKeeper {
             opened,
             troubles: _,
         } = self;
-        let Some(OpenFile { name: _, keeper }) = opened else {
+        let Some(file) = opened else {
             return Ok(());
         };
-        match keeper.into_connection().close() {
+        match file.into_keeper().into_connection().close() {
             Ok(()) => Ok(()),
             Err(error) => Err(store_error(&error)),
         }

@@ -7,7 +7,7 @@ use sqlite_keeper::Refusal;
 use std::alloc::{AllocError, Global};
 
 /// The faults of a keeper of the host, counted, and the last of them in words.
-#[derive(Debug, Drop)]
+#[derive(Drop)]
 pub(crate) struct Troubles {
     faults: Faults,
     last: Option<Trouble>,

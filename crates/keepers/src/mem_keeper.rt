@@ -13,7 +13,7 @@ use std::alloc::Global;
 use stored_rows::StoredRow;
 
 /// A keeper in memory, with a list of the calls that are to fail.
-#[derive(Debug, Drop)]
+#[derive(Drop)]
 pub struct MemKeeper {
     keeper: SureKeeper,
     calls: Calls,

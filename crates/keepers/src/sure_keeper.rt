@@ -10,7 +10,7 @@ use std::marker::Model;
 use stored_rows::StoredRow;
 
 /// A keeper in memory. No call fails.
-#[derive(Debug, Drop)]
+#[derive(Drop)]
 pub struct SureKeeper {
     alloc: Global,
     opened: Option<Text>,

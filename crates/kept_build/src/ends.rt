@@ -6,7 +6,7 @@ use site_build::End as BuildEnd;
 use std::alloc::{AllocError, AllocFailed};
 
 /// Why a build with a keeper ended before its session did.
-#[derive(Debug, Drop)]
+#[derive(Drop)]
 pub enum End {
     /// As a build without a keeper ends.
     Build(BuildEnd),

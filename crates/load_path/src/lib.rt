@@ -13,6 +13,3 @@ mod picture;
 pub use file_name::is_file_name;
 pub use lookup::candidates;
 pub use picture::{Content, Picture, PictureFile};
-
-#[cfg(test)]
-mod tests;

@@ -7,7 +7,7 @@ use std::alloc::{AllocError, Global};
 use std::marker::Model;
 
 /// What a file of a picture holds.
-#[derive(Debug, Drop)]
+#[derive(Drop)]
 pub enum Content {
     /// At most `MAX_FILE_BYTES` bytes.
     Bytes(Bytes),
@@ -16,14 +16,14 @@ pub enum Content {
 }
 
 /// A file of a picture.
-#[derive(Debug, Drop)]
+#[derive(Drop)]
 pub struct PictureFile {
     pub name: Text,
     pub content: Content,
 }
 
 /// Files by name, in byte order of names.
-#[derive(Debug, Drop)]
+#[derive(Drop)]
 pub struct Picture {
     files: Vec<PictureFile>,
 }

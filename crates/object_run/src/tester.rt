@@ -10,7 +10,7 @@ ghost use Rattle.object_run.specs.TestingSets.{IsCase-prop};
 
 use crate::rest::Rest;
 use base::{Steps, Text};
-use dml_eval::run_dml;
+use dml_call::run_dml;
 use dml_meaning::limits::MAX_INCLUDES;
 use dml_world::paths::{Looked, look_at};
 use dml_world::{Around, Frame, Question, SelfUse, World};

@@ -6,7 +6,7 @@ use crate::faults::Faults;
 use std::marker::Model;
 
 /// The calls on an object in memory: how many there were, which are to fail, and how many failed.
-#[derive(Debug, Drop)]
+#[derive(Drop)]
 pub struct Calls {
     failing: Vec<u64>,
     made: u64,

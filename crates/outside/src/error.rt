@@ -4,7 +4,7 @@ ghost use Rattle.outside.specs.declared.error.StoreError.TheVariants.{Memory};
 use std::alloc::{AllocError, AllocFailed};
 
 /// Why a call on an outside object failed.
-#[derive(Clone, Copy, Debug, PartialEq, Eq)]
+#[derive(Clone, Copy, PartialEq, Eq)]
 pub enum StoreError {
     /// The object itself failed, and its count of faults rose.
     Failed,

@@ -9,7 +9,7 @@ use std::marker::Model;
 pub const MAX_FAULT_LINES: usize = 10_000;
 
 /// The first lines of a text that begin with `fault `, as the text comes in pieces.
-#[derive(Debug, Drop)]
+#[derive(Drop)]
 pub(crate) struct FaultLines {
     alloc: Global,
     lines: Vec<Bytes>,

@@ -7,7 +7,7 @@ use std::io;
 use std::io::ErrorKind;
 
 /// The faults of an object, counted up to the last value of the type.
-#[derive(Debug, Drop)]
+#[derive(Drop)]
 pub struct Faults {
     count: u64,
 }

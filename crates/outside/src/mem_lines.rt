@@ -10,7 +10,7 @@ use crate::sure_lines::SureLines;
 use base::Bytes;
 
 /// Lines in memory, with a list of the calls that are to fail.
-#[derive(Debug, Drop)]
+#[derive(Drop)]
 pub struct MemLines {
     lines: SureLines,
     calls: Calls,

@@ -14,7 +14,7 @@ use base::Text;
 use std::alloc::Global;
 
 /// A shelf in memory, with a list of the calls that are to fail.
-#[derive(Debug, Drop)]
+#[derive(Drop)]
 pub struct MemShelf {
     shelf: SureShelf,
     calls: Calls,

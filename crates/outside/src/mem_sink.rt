@@ -10,7 +10,7 @@ use crate::sure_sink::SureSink;
 use std::alloc::Global;
 
 /// Bytes in memory, with a list of the calls that are to fail.
-#[derive(Debug, Drop)]
+#[derive(Drop)]
 pub struct MemSink {
     sink: SureSink,
     calls: Calls,

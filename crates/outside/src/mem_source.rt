@@ -12,7 +12,7 @@ use base::{Seq, Text};
 use std::alloc::Global;
 
 /// Pictures in memory, with a list of the calls that are to fail.
-#[derive(Debug, Drop)]
+#[derive(Drop)]
 pub struct MemSource {
     source: SureSource,
     calls: Calls,

@@ -9,7 +9,7 @@ use crate::error::StoreError;
 use base::Text;
 
 /// What was done to a shelf.
-#[derive(Debug, Drop)]
+#[derive(Drop)]
 pub enum Change {
     /// The name got bytes.
     Put(Text),

@@ -8,14 +8,14 @@ use crate::error::StoreError;
 use base::{Bytes, Text};
 
 /// A file of a source: its name, and its bytes, or None where it is gone when it is read.
-#[derive(Debug, Drop)]
+#[derive(Drop)]
 pub struct MemFile {
     pub name: Text,
     pub content: Option<Bytes>,
 }
 
 /// What a read of a file found.
-#[derive(Clone, Copy, Debug, PartialEq, Eq)]
+#[derive(Clone, Copy, PartialEq, Eq)]
 pub enum Got {
     /// At most `MAX_FILE_BYTES` bytes.
     Bytes,

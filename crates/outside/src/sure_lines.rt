@@ -6,7 +6,7 @@ use base::Bytes;
 use std::marker::Model;
 
 /// Lines in memory. No call fails.
-#[derive(Debug, Drop)]
+#[derive(Drop)]
 pub struct SureLines {
     lines: Vec<Bytes>,
     position: usize,

@@ -8,14 +8,14 @@ use std::alloc::{AllocError, Global};
 use std::marker::Model;
 
 /// A name of a shelf in memory, with its bytes.
-#[derive(Debug, Drop)]
+#[derive(Drop)]
 pub struct Held {
     pub name: Text,
     pub bytes: Bytes,
 }
 
 /// A shelf in memory. No call fails.
-#[derive(Debug, Drop)]
+#[derive(Drop)]
 pub struct SureShelf {
     alloc: Global,
     root: Option<Text>,

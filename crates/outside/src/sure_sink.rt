@@ -6,7 +6,7 @@ use std::alloc::Global;
 use std::marker::Model;
 
 /// Bytes in memory. No call fails.
-#[derive(Debug, Drop)]
+#[derive(Drop)]
 pub struct SureSink {
     written: Vec<u8>,
 }

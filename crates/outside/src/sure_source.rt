@@ -10,7 +10,7 @@ use std::alloc::Global;
 use std::marker::Model;
 
 /// Pictures in memory. No call fails.
-#[derive(Debug, Drop)]
+#[derive(Drop)]
 pub struct SureSource {
     alloc: Global,
     root: Option<Text>,

@@ -8,7 +8,7 @@ use std::alloc::{AllocError, Global};
 use std::io;
 
 /// What a failed call on the host was about, and why it failed.
-#[derive(Debug, Drop)]
+#[derive(Drop)]
 pub struct Trouble {
     /// The path of the file or folder.
     pub path: Text,
@@ -17,7 +17,7 @@ pub struct Trouble {
 }
 
 /// The faults of a device of the host, counted, and the last of them in words.
-#[derive(Debug, Drop)]
+#[derive(Drop)]
 pub(crate) struct Troubles {
     faults: Faults,
     last: Option<Trouble>,

@@ -171,11 +171,34 @@ impl Code {
 }
 
 /// A fault of a template: what is wrong, where, and a detail, which is empty for many codes.
-#[derive(Drop)]
 pub struct Fault {
     pub code: Code,
     pub place: Place,
     pub detail: Text,
+}
+
+impl Drop for Fault {
+    fn drop(self) {
+        let Fault {
+            code: _code,
+            place: _place,
+            detail: _detail,
+        } = self;
+    }
+}
+
+impl Fault {
+    /// Where it is.
+    pub fn into_place(self) -> Place
+        ensures { result ≡ self.place }
+    {
+        let Fault {
+            code: _,
+            place,
+            detail: _detail,
+        } = self;
+        place
+    }
 }
 
 fn is_continuation(byte: u8) -> bool

@@ -150,7 +150,7 @@ fn with_step(alloc: Global, left: Node, step: Step) -> Result<Node, AllocError>
     ensures pointers { IfOk result (λ y. left_pointers y ≡ max (left_pointers left)
         (step_pointers step)) }
 {
-    let Node { place, form } = left;
+    let (place, form) = left.into_parts();
     match form {
         Form::Spine(first, second, mut rest) => {
             rest.push(step)?;

@@ -4,11 +4,21 @@ use base::Text;
 use std::alloc::AllocError;
 
 /// A place in a file. Lines and columns count from 1, columns in characters. Copies share the file's name.
-#[derive(Clone, Drop, PartialEq, Eq)]
+#[derive(Clone, PartialEq, Eq)]
 pub struct Place {
     pub file: Text,
     pub line: u32,
     pub column: u32,
+}
+
+impl Drop for Place {
+    fn drop(self) {
+        let Place {
+            file: _file,
+            line: _line,
+            column: _column,
+        } = self;
+    }
 }
 
 impl Place {

@@ -1,13 +1,24 @@
+ghost use Rattle.std.specs.Prelude.{◌≡◌};
+
 use crate::place::Place;
 use base::Text;
 use path_tree::{BinaryOp, UnaryOp};
 
 /// An expression that may stand for a statement list, a condition or a loop, with the place of its first token.
-#[derive(Drop)]
 #[cycle(syntax)]
 pub struct Item {
     pub place: Place,
     pub form: ItemForm,
+}
+
+impl Drop for Item {
+    #[cycle(letting_go)]
+    fn drop(self) {
+        let Item {
+            place: _place,
+            form: _form,
+        } = self;
+    }
 }
 
 /// What an item is.
@@ -31,7 +42,6 @@ pub enum ItemForm {
 }
 
 /// What may stand before `=`: a name and the indexes after it, `name[item][item]..`.
-#[derive(Drop)]
 #[cycle(syntax)]
 pub struct Reference {
     pub place: Place,
@@ -39,12 +49,43 @@ pub struct Reference {
     pub indexes: Vec<Item>,
 }
 
+impl Drop for Reference {
+    #[cycle(letting_go)]
+    fn drop(self) {
+        let Reference {
+            place: _place,
+            name: _name,
+            indexes: _indexes,
+        } = self;
+    }
+}
+
 /// An operand, or a chain of operators over operands, with the place of its first token.
-#[derive(Drop)]
 #[cycle(syntax)]
 pub struct Node {
     pub place: Place,
     pub form: Form,
+}
+
+impl Drop for Node {
+    #[cycle(letting_go)]
+    fn drop(self) {
+        let Node {
+            place: _place,
+            form: _form,
+        } = self;
+    }
+}
+
+impl Node {
+    /// Its place and what it is.
+    pub(crate) fn into_parts(self) -> (Place, Form)
+        ensures place { result.0 ≡ self.place }
+        ensures form { result.1 ≡ self.form }
+    {
+        let Node { place, form } = self;
+        (place, form)
+    }
 }
 
 /// What a node is.
@@ -75,7 +116,6 @@ pub enum Form {
 }
 
 /// What stands to the right of a left operand.
-#[derive(Drop)]
 #[cycle(syntax)]
 pub enum Step {
     /// `[item]`
@@ -86,4 +126,16 @@ pub enum Step {
     And(Node),
     /// `|| node`
     Or(Node),
+}
+
+impl Drop for Step {
+    #[cycle(letting_go)]
+    fn drop(self) {
+        match self {
+            Step::Index(_first) => (),
+            Step::Binary(_first, _second) => (),
+            Step::And(_first) => (),
+            Step::Or(_first) => (),
+        }
+    }
 }

@@ -16,7 +16,6 @@ pub enum TemplateKind {
 }
 
 /// A template: its header, `kind template name;`, and its statements. The place is that of the first token.
-#[derive(Drop)]
 pub struct Template {
     pub kind: TemplateKind,
     pub name: Name,
@@ -25,11 +24,31 @@ pub struct Template {
     pub statements: Vec<Statement>,
 }
 
+impl Drop for Template {
+    fn drop(self) {
+        let Template {
+            kind: _kind,
+            name: _name,
+            name_place: _name_place,
+            place: _place,
+            statements: _statements,
+        } = self;
+    }
+}
+
 /// A statement with the place of its first token.
-#[derive(Drop)]
 pub struct Statement {
     pub place: Place,
     pub form: StatementForm,
+}
+
+impl Drop for Statement {
+    fn drop(self) {
+        let Statement {
+            place: _place,
+            form: _form,
+        } = self;
+    }
 }
 
 /// What a statement is. `last` says that `final` stands before the statement, `conditional` that it has `?=` in place of `=`. A path is

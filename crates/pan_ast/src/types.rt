@@ -5,7 +5,6 @@ use path_tree::Key;
 use std::rc::Rc;
 
 /// A type with its default and its test: `type = item with item`, each of the two where it is written.
-#[derive(Drop)]
 #[cycle(types)]
 pub struct FullType {
     pub form: TypeForm,
@@ -13,12 +12,32 @@ pub struct FullType {
     pub with: Option<Rc<Item>>,
 }
 
+impl Drop for FullType {
+    #[cycle(letting_go_of_types)]
+    fn drop(self) {
+        let FullType {
+            form: _form,
+            default: _default,
+            with: _with,
+        } = self;
+    }
+}
+
 /// A head and the suffixes after it, in the order of the text.
-#[derive(Drop)]
 #[cycle(types)]
 pub struct TypeForm {
     pub head: Head,
     pub suffixes: Vec<Suffix>,
+}
+
+impl Drop for TypeForm {
+    #[cycle(letting_go_of_types)]
+    fn drop(self) {
+        let TypeForm {
+            head: _head,
+            suffixes: _suffixes,
+        } = self;
+    }
 }
 
 /// A type without its suffixes, default and test.
@@ -38,7 +57,6 @@ pub enum Head {
 }
 
 /// What stands behind the head of a type.
-#[derive(Drop)]
 pub enum Suffix {
     /// `[bounds]` or `[]`
     List(Option<Bounds>),
@@ -48,12 +66,31 @@ pub enum Suffix {
     Link,
 }
 
+impl Drop for Suffix {
+    fn drop(self) {
+        match self {
+            Suffix::List(_first) => (),
+            Suffix::Dict(_first) => (),
+            Suffix::Link => (),
+        }
+    }
+}
+
 /// A range of numbers, with the place of its first token. Exactly `n` is from `n` to `n`.
-#[derive(Drop)]
 pub struct Bounds {
     pub place: Place,
     pub low: Option<i64>,
     pub high: Option<i64>,
+}
+
+impl Drop for Bounds {
+    fn drop(self) {
+        let Bounds {
+            place: _place,
+            low: _low,
+            high: _high,
+        } = self;
+    }
 }
 
 /// The fields of a record, in the order of the text.
@@ -65,7 +102,6 @@ pub struct RecordForm {
 }
 
 /// What stands between the braces of a record.
-#[derive(Drop)]
 #[cycle(types)]
 pub enum Field {
     /// `"key" : type` where it is required, `"key" ? type` where it is not. The place is that of the key.
@@ -81,4 +117,23 @@ pub enum Field {
         name: Text,
         name_place: Place,
     },
+}
+
+impl Drop for Field {
+    #[cycle(letting_go_of_types)]
+    fn drop(self) {
+        match self {
+            Field::Own {
+                key: _key,
+                place: _place,
+                required: _required,
+                full: _full,
+            } => (),
+            Field::Include {
+                place: _place,
+                name: _name,
+                name_place: _name_place,
+            } => (),
+        }
+    }
 }

@@ -6,7 +6,7 @@ use session::Ended;
 use site_build::End;
 
 /// How a call of the compiler ended.
-#[derive(Clone, Copy, Debug, PartialEq, Eq)]
+#[derive(Clone, Copy, PartialEq, Eq)]
 pub enum Status {
     /// Each object has its profile.
     Clean,

@@ -16,9 +16,15 @@ use std::marker::Model;
 /// A key of a dict (Pan Book, "Paths"): 1 to `MAX_KEY_BYTES` bytes, an ASCII letter or `_`, then
 /// letters, digits or any of `_ . + -`. Contracts see the list of its bytes. Copies share one text
 /// in memory.
-#[derive(Clone, Debug, Drop, PartialEq, Eq, PartialOrd, Ord)]
+#[derive(Clone, PartialEq, Eq, PartialOrd, Ord)]
 pub struct Key {
     text: Text,
+}
+
+impl Drop for Key {
+    fn drop(self) {
+        let Key { text: _text } = self;
+    }
 }
 
 impl Model for Key {
@@ -35,7 +41,7 @@ impl Model for Key {
 }
 
 /// Why a text is no key.
-#[derive(Clone, Copy, Debug, PartialEq, Eq)]
+#[derive(Clone, Copy, PartialEq, Eq)]
 pub enum KeyError {
     /// It does not follow the grammar of keys.
     BadKey,

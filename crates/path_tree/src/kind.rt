@@ -1,5 +1,5 @@
 /// What a tree is at its root.
-#[derive(Clone, Copy, Debug, PartialEq, Eq)]
+#[derive(Clone, Copy, PartialEq, Eq)]
 pub enum Kind {
     /// Fields, each with a key.
     Dict,

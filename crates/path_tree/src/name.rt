@@ -16,9 +16,15 @@ use std::marker::Model;
 /// A template name (Pan Book, "Templates"): 1 to `MAX_NAME_BYTES` bytes, segments joined by `/`,
 /// each of one or more of `A-Z a-z 0-9 _ . + -` and none equal to `.` or `..`. Contracts see the
 /// list of its bytes. Copies share one text in memory.
-#[derive(Clone, Debug, Drop, PartialEq, Eq, PartialOrd, Ord)]
+#[derive(Clone, PartialEq, Eq, PartialOrd, Ord)]
 pub struct Name {
     text: Text,
+}
+
+impl Drop for Name {
+    fn drop(self) {
+        let Name { text: _text } = self;
+    }
 }
 
 impl Model for Name {
@@ -35,7 +41,7 @@ impl Model for Name {
 }
 
 /// Why a text is no template name.
-#[derive(Clone, Copy, Debug, PartialEq, Eq)]
+#[derive(Clone, Copy, PartialEq, Eq)]
 pub enum NameError {
     /// It does not follow the grammar of template names.
     BadName,

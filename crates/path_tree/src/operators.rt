@@ -1,5 +1,5 @@
 /// The operators of one operand (Pan Book, "Pan Language Syntax").
-#[derive(Clone, Copy, Debug, PartialEq, Eq)]
+#[derive(Clone, Copy, PartialEq, Eq)]
 pub enum UnaryOp {
     /// `+`
     Plus,
@@ -13,7 +13,7 @@ pub enum UnaryOp {
 
 /// The operators of two operands (Pan Book, "Pan Language Syntax"), but for `&&` and `||`, whose
 /// right side is not always evaluated.
-#[derive(Clone, Copy, Debug, PartialEq, Eq)]
+#[derive(Clone, Copy, PartialEq, Eq)]
 pub enum BinaryOp {
     /// `+`
     Add,

@@ -22,7 +22,7 @@ use base::{Seq, Text};
 use std::alloc::{AllocError, AllocFailed, Global};
 
 /// A step of a path: into a dict by a key, or into a list by an index from 0.
-#[derive(Clone, Debug, Drop, PartialEq, Eq)]
+#[derive(Clone, Drop, PartialEq, Eq)]
 pub enum Term {
     /// A key of a dict.
     Key(Key),
@@ -31,7 +31,7 @@ pub enum Term {
 }
 
 /// Where a path begins: at the root, where its statement says, or at the root of another object.
-#[derive(Clone, Debug, Drop, PartialEq, Eq)]
+#[derive(Clone, Drop, PartialEq, Eq)]
 pub enum Anchor {
     /// At the root.
     Absolute,
@@ -42,7 +42,7 @@ pub enum Anchor {
 }
 
 /// A path into a tree (Pan Book, "Paths").
-#[derive(Debug, Drop)]
+#[derive(Drop)]
 pub struct Path {
     /// Where it begins.
     pub anchor: Anchor,
@@ -51,7 +51,7 @@ pub struct Path {
 }
 
 /// Why a text is no path.
-#[derive(Clone, Copy, Debug, PartialEq, Eq)]
+#[derive(Clone, Copy, PartialEq, Eq)]
 pub enum PathError {
     /// It is empty.
     Empty,
@@ -65,7 +65,7 @@ pub enum PathError {
 }
 
 /// Why a tree takes no value at a path.
-#[derive(Clone, Copy, Debug, PartialEq, Eq)]
+#[derive(Clone, Copy, PartialEq, Eq)]
 pub enum PutError {
     /// After this many terms the path leads through a text, a long or a boolean.
     ThroughProperty(usize),

@@ -4,7 +4,7 @@ ghost use Rattle.path_tree.specs.declared.refused.Refused.TheVariants.{Memory};
 use std::alloc::{AllocError, AllocFailed};
 
 /// Why an operator or a built-in function gives no value.
-#[derive(Clone, Copy, Debug, PartialEq, Eq)]
+#[derive(Clone, Copy, PartialEq, Eq)]
 pub enum Refused {
     /// The operands are of kinds that the operator does not take.
     TypeClash,

@@ -39,9 +39,15 @@ use std::rc::Rc;
 /// memory: each keeps its size and its height, a copy costs one count, and a change copies the
 /// containers along one path.
 #[cycle(tree)]
-#[derive(Drop)]
 pub struct Tree {
     node: Node,
+}
+
+impl Drop for Tree {
+    #[cycle(letting_go)]
+    fn drop(self) {
+        let Tree { node: _node } = self;
+    }
 }
 
 #[cycle(tree)]

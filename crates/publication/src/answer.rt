@@ -5,7 +5,7 @@ use crate::trouble::Trouble;
 use base::Seq;
 
 /// How a publication ended.
-#[derive(Debug, Drop)]
+#[derive(Drop)]
 pub enum Publication {
     /// It was made, but for these calls that failed, in the order in which they were made.
     Done(Seq<Trouble>),

@@ -1,7 +1,7 @@
 use base::{Bytes, Text};
 
 /// The two files of an object.
-#[derive(Debug, Drop)]
+#[derive(Drop)]
 pub struct Profile {
     pub name: Text,
     pub json: Bytes,

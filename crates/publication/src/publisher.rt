@@ -34,7 +34,7 @@ use std::alloc::{AllocError, Global};
 use std::collections::{HashMap, HashSet};
 
 /// What is known of a name that may be on the shelf.
-#[derive(Debug, Drop)]
+#[derive(Drop)]
 pub(crate) enum Known {
     Unread,
     /// It holds these bytes.

@@ -15,7 +15,7 @@ use outside::{Shelf, StoreError};
 use std::alloc::{AllocError, AllocFailed, Global};
 
 /// Why puts ended before all were made.
-#[derive(Debug, Drop)]
+#[derive(Drop)]
 pub enum PutError {
     /// A call on the file of this name failed.
     Failed(Text),

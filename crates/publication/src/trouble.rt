@@ -8,7 +8,7 @@ use std::alloc::{AllocError, Global};
 use std::collections::HashSet;
 
 /// A file of an object.
-#[derive(Clone, Copy, Debug, PartialEq, Eq)]
+#[derive(Clone, Copy, PartialEq, Eq)]
 pub enum Which {
     /// `NAME.json`
     Json,
@@ -17,7 +17,7 @@ pub enum Which {
 }
 
 /// A call on a name of a shelf.
-#[derive(Clone, Copy, Debug, PartialEq, Eq)]
+#[derive(Clone, Copy, PartialEq, Eq)]
 pub enum Call {
     Remove,
     Read,
@@ -25,7 +25,7 @@ pub enum Call {
 }
 
 /// A call of a publication that failed: on which file of which object.
-#[derive(Debug, Drop)]
+#[derive(Drop)]
 pub struct Trouble {
     pub object: Text,
     pub which: Which,

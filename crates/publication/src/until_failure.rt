@@ -31,7 +31,7 @@ use std::alloc::{AllocError, AllocFailed, Global};
 use std::collections::HashSet;
 
 /// Why a publication ended that ends at its first failed call.
-#[derive(Debug, Drop)]
+#[derive(Drop)]
 pub enum PublishError {
     /// A call on a file of this object failed.
     Failed(Text),

@@ -6,7 +6,7 @@ use base::{Bytes, Text};
 use std::alloc::{AllocError, Global};
 
 /// Bytes that are to stand on the shelf.
-#[derive(Debug, Drop)]
+#[derive(Drop)]
 pub struct Want {
     pub name: Text,
     pub bytes: Bytes,

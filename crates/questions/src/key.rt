@@ -8,7 +8,7 @@ use path_tree::{Name, Term};
 use std::hash::{Hash, Hasher};
 
 /// What a run asks for: a file by its name, or what stands at terms in the tree of an object.
-#[derive(Debug, Drop)]
+#[derive(Drop)]
 pub enum Key {
     File(Text),
     Under { object: Name, terms: Seq<Term> },

@@ -8,7 +8,7 @@ use std::alloc::{AllocError, Global};
 use std::marker::Model;
 
 /// A key with the number that it had when it was asked for.
-#[derive(Debug, Drop)]
+#[derive(Drop)]
 pub struct Item {
     pub key: Key,
     pub number: u64,
@@ -16,7 +16,7 @@ pub struct Item {
 
 /// The keys that a run asked for, in order, each once, with their numbers. Contracts see the list. The
 /// places of the items that ask for objects are kept beside them.
-#[derive(Debug, Drop)]
+#[derive(Drop)]
 pub struct Trace {
     items: Vec<Item>,
     places: Vec<usize>,

@@ -17,7 +17,7 @@ use std::alloc::{AllocError, AllocFailed, Global};
 use std::sync::ledger::Ledger;
 
 /// Why a picture was not taken.
-#[derive(Clone, Copy, Debug, PartialEq, Eq)]
+#[derive(Clone, Copy, PartialEq, Eq)]
 pub enum TakeError {
     TooManyObjects,
     NumbersSpent,

@@ -9,7 +9,7 @@ use std::cmp::Ordering;
 use stored_rows::StoredRow;
 
 /// What differs between the rows that are kept and those that are wanted.
-#[derive(Debug, Drop)]
+#[derive(Drop)]
 pub struct Changes {
     /// The names of rows that are not wanted any more, in byte order.
     pub gone: Vec<Text>,

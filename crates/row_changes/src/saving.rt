@@ -12,7 +12,7 @@ use std::alloc::Global;
 use stored_rows::StoredRow;
 
 /// How it went to have rows kept, and which rows are kept now.
-#[derive(Debug, Drop)]
+#[derive(Drop)]
 pub struct Saved {
     /// The rows that are kept now: the wanted ones, or after a refusal those last kept.
     pub rows: Vec<StoredRow>,

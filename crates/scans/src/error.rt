@@ -1,5 +1,5 @@
 /// Why a scan gives no picture.
-#[derive(Clone, Copy, Debug, PartialEq, Eq)]
+#[derive(Clone, Copy, PartialEq, Eq)]
 pub enum ScanError {
     /// A call on the source failed.
     Fault,

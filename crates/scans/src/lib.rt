@@ -8,6 +8,3 @@ mod scanning;
 
 pub use error::ScanError;
 pub use scanning::scan;
-
-#[cfg(test)]
-mod tests;

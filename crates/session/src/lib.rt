@@ -15,7 +15,7 @@ use base::{Bytes, Text};
 pub use texts::{count_faults, push_too_many, report};
 
 /// How a session comes to its end.
-#[derive(Clone, Copy, Debug, PartialEq, Eq)]
+#[derive(Clone, Copy, PartialEq, Eq)]
 pub enum Ended {
     /// No object of the last report has a fault.
     Clean,
@@ -40,7 +40,7 @@ pub fn ended_by(has_faults: bool) -> Ended
 }
 
 /// What compiling an object gives.
-#[derive(Debug, Drop)]
+#[derive(Drop)]
 pub enum Outcome {
     /// The bytes of its profile, and the text of its dependencies.
     Profile { json: Bytes, dep: Bytes },
@@ -49,7 +49,7 @@ pub enum Outcome {
 }
 
 /// What stands under an object's name.
-#[derive(Debug, Drop)]
+#[derive(Drop)]
 pub struct Answer {
     pub name: Text,
     pub outcome: Outcome,

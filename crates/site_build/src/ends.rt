@@ -5,7 +5,7 @@ use base::Text;
 use std::alloc::{AllocError, AllocFailed};
 
 /// What lies outside of a build.
-#[derive(Clone, Copy, Debug, PartialEq, Eq)]
+#[derive(Clone, Copy, PartialEq, Eq)]
 pub enum Device {
     Source,
     Shelf,
@@ -13,7 +13,7 @@ pub enum Device {
 }
 
 /// Why a build ended before its session did.
-#[derive(Debug, Drop)]
+#[derive(Drop)]
 pub enum End {
     /// A call on the source failed.
     Source,

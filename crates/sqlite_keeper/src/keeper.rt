@@ -22,13 +22,24 @@ use stored_rows::StoredRow;
 /// Its rows are those that the last commit left, as long as the connection is open and its disk
 /// returned what was written. A connection with another schema, or within a transaction, is a fault. Why the last call
 /// failed is kept.
-#[derive(Drop)]
 pub struct SqliteKeeper<S: Alter + Drop> {
     alloc: Global,
     connection: Connection<S>,
     opened: Option<Text>,
     faults: Faults,
     last: Refusal,
+}
+
+impl<S: Alter + Drop> Drop for SqliteKeeper<S> {
+    fn drop(self) {
+        let SqliteKeeper {
+            alloc: _alloc,
+            connection: _connection,
+            opened: _opened,
+            faults: _faults,
+            last: _last,
+        } = self;
+    }
 }
 
 /// What an error of the database is to the caller: want of memory, or else a fault.

@@ -2,7 +2,7 @@ use sqlite::Error;
 use std::fmt;
 
 /// Why a call on rows failed.
-#[derive(Clone, Copy, Debug, PartialEq, Eq)]
+#[derive(Clone, Copy, PartialEq, Eq)]
 pub enum Refusal {
     /// The database has something else than one table of rows.
     OtherTables,

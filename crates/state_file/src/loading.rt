@@ -22,7 +22,7 @@ pub struct Loaded {
 }
 
 /// Why a state file was not read.
-#[derive(Clone, Copy, Debug, PartialEq, Eq)]
+#[derive(Clone, Copy, PartialEq, Eq)]
 pub enum LoadError {
     /// A call on the keeper failed.
     Failed,

@@ -5,7 +5,7 @@ use base::{Bytes, Text};
 use std::alloc::AllocError;
 
 /// A row: a name, and the bytes under it.
-#[derive(Debug, Drop)]
+#[derive(Drop)]
 pub struct StoredRow {
     pub name: Text,
     pub bytes: Bytes,

@@ -11,7 +11,7 @@ ghost use Rattle.template_run.specs.Seen.{inside_of, site_in};
 use crate::execution::Execution;
 use crate::program::Program;
 use crate::site::Inside;
-use dml_eval::run_dml;
+use dml_call::run_dml;
 use dml_world::templates::template_named;
 use dml_world::{Around, Frame, SelfUse, Stop, World};
 use pan_ast::{Item, Place, Template};

@@ -22,7 +22,7 @@ use std::mem;
 use stored_rows::StoredRow;
 
 /// What became of the rows of a build.
-#[derive(Clone, Copy, Debug, PartialEq, Eq)]
+#[derive(Clone, Copy, PartialEq, Eq)]
 pub(crate) enum Saving {
     NotSaved,
     IsSaved,

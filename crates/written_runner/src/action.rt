@@ -5,7 +5,7 @@ use base::Text;
 use std::alloc::{AllocError, Global};
 
 /// What a line does. Each letter is a name: of the object of one letter, or of its file.
-#[derive(Clone, Copy, Debug, PartialEq, Eq)]
+#[derive(Clone, Copy, PartialEq, Eq)]
 pub enum Action {
     /// A remark.
     Nothing,

@@ -1,9 +1,0 @@
-use Rattle.std.proofs.Common.{◌≡◌}
-use Rattle.engine_turns.specs.States.{pictured}
-use Rattle.check_objects.proofs.building.obey.Given as goal
-
-abbrev pub invariant-loop-line : goal.invariant-loop-line
-invariant-loop-line g l = record {
-  picture : g.R.Runner.files_of l.runner ≡ pictured l.engine.core.files.items;
-  dirs : g.R.Runner.dirs_of l.runner ≡ l.engine.core.dirs;
-}

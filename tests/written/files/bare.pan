@@ -1,0 +1,2 @@
+object template bare;
+'/y' = 1;

@@ -1,0 +1,2 @@
+object template bring;
+'/x' = value('ring:/x');

@@ -1,0 +1,2 @@
+object template broken;
+'/x' = 1 / 0;

@@ -1,0 +1,2 @@
+object template db;
+'/x' = 7;

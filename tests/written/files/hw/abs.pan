@@ -1,0 +1,1 @@
+structure template hw/abs; '/a' = 1;

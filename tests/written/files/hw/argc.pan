@@ -1,0 +1,1 @@
+structure template hw/argc; 'a' = ARGC;

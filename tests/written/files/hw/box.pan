@@ -1,0 +1,1 @@
+structure template hw/box; 'serial' = 'none'; 'disks/sda' = 500;

@@ -1,0 +1,1 @@
+structure template hw/call; 't' = f(); 'o' = OBJECT;

@@ -1,0 +1,1 @@
+structure template hw/five; include { 5 };

@@ -1,0 +1,1 @@
+structure template hw/fixed; include { SELF['x'] = 1; 'hw/box' };

@@ -1,0 +1,1 @@
+structure template hw/give; include { return('hw/box'); 5 };

@@ -1,0 +1,1 @@
+structure template hw/grown; include { append(1); 'hw/box' };

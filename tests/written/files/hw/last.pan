@@ -1,0 +1,1 @@
+structure template hw/last; final 'a' = 1;

@@ -1,0 +1,1 @@
+structure template hw/long; include { append(SELF, 1); 'hw/box' };

@@ -1,0 +1,1 @@
+structure template hw/loop; include 'hw/loop';

@@ -1,0 +1,1 @@
+structure template hw/name; 't' = TEMPLATE; 'a' = exists('/a');

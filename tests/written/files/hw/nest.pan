@@ -1,0 +1,1 @@
+structure template hw/nest; 'b' = create('hw/box', 'serial', 'in');

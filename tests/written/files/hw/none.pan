@@ -1,0 +1,1 @@
+structure template hw/none; include { undef }; include { null };

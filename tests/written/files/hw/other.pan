@@ -1,0 +1,1 @@
+structure template hw/box; 'a' = 1;

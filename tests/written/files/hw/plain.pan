@@ -1,0 +1,1 @@
+template hw/plain; '/a' = 1;

@@ -1,0 +1,2 @@
+object template ring;
+'/x' = value('bring:/x');
