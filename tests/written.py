@@ -3,17 +3,17 @@
 
     tests/written.py
 
-- `items`, `types` and `calls`: each line at the margin is the statements of an object template of its own, behind its first
-  line, and the line under it what comes of them: the profile, or the fault with its place. Before `|` stand the
-  options of the build; NAME is the object. The files of `written/files` lie beside the template.
-- `layouts`: each line at the margin is a file, in which `\\n`, `\\r`, `\\t` and `\\\\` are what they are in C, and `$N$TEXT$` is
-  N times TEXT; under it stands its layout, each line behind `|`, or its fault, or `laid out` where any layout will do.
+- `items`, `types`, `calls` and `trees`: each line at the margin is the statements of an object template of its own,
+  behind its first line, and the line under it what comes of them: the profile, or the fault with its place. Before `|`
+  stand the options of the build; NAME is the object. The files of `written/files` lie beside the template.
+- `layouts`: each line at the margin is a file, in which `\\n`, `\\r`, `\\t` and `\\\\` are what they are in C, and
+  `$N$TEXT$` is N times TEXT; under it stands its layout, each line behind `|`, or its fault, or `laid out` where any
+  layout will do.
+- `states`: each line at the margin is a database below `written/databases` that no build has kept; a build with it as
+  its file of rows is refused with the line under it as its note, and leaves it as it is.
 - `sites`: a watcher over a folder of its own for each case. `file PATH` writes a file of the lines under it that begin
   with `|`, `gone PATH` removes one, `build` builds; under it stand the lines that it has to write, and each profile that
   then lies there. `files NAME` tells the files of an object's dependency file.
-
-- `states`: each line at the margin is a database that no build has kept, below `written/databases`; a build with it as its
-  file of rows is refused with the line under it as its note, and leaves it as it is.
 
 Lines that begin with `- ` say what is tried. The program is the one that the variable PAN names, else the one that
 contrib/pan-program finds.
@@ -169,8 +169,9 @@ class Watched:
             if not line:
                 break
             lines.append(line.rstrip("\n"))
-        profiles = sorted(self.out.rglob("*.json"))
-        return lines + [f"profile {it.relative_to(self.out).with_suffix('')} {it.read_text().rstrip()}" for it in profiles]
+        for path in sorted(self.out.rglob("*.json")):
+            lines.append(f"profile {path.relative_to(self.out).with_suffix('')} {path.read_text().rstrip()}")
+        return lines
 
     def files(self, name):
         path = self.out / f"{name}.dep"
