@@ -16,14 +16,13 @@ contrib/pan-program finds.
 """
 import os
 import random
-import re
 import subprocess
 import sys
 import tempfile
 import time
 from pathlib import Path
 
-from program import PROGRAM
+from program import PROGRAM, Watcher
 
 TOP = Path(__file__).resolve().parent.parent
 OBJECTS = 400
@@ -102,28 +101,6 @@ def too_many(folder):
     lines = "\n" * MOST_LINES
     ended = subprocess.run([PROGRAM, "watch", source, out], input=lines, capture_output=True, text=True, timeout=120)
     yield "too many lines", (ended.returncode, ended.stdout) == (10, "bad line\n" * MOST_LINES + "too many lines\n")
-
-
-class Watcher:
-    def __init__(self, source, out):
-        words = [PROGRAM, "watch", source, out]
-        self.process = subprocess.Popen(words, stdin=subprocess.PIPE, stdout=subprocess.PIPE, text=True, bufsize=1)
-
-    def ask(self, line, last):
-        """What is written for a line, to the line that ends it."""
-        self.process.stdin.write(line + "\n")
-        self.process.stdin.flush()
-        said = []
-        while not said or not re.match(last, said[-1]):
-            said.append(self.process.stdout.readline().rstrip("\n"))
-            if said[-1] == "" and self.process.poll() is not None:
-                raise RuntimeError(f"the watcher ended at {line}: {said}")
-        return said
-
-    def quit(self):
-        self.process.stdin.write("quit\n")
-        self.process.stdin.close()
-        return self.process.wait(timeout=60)
 
 
 def answers_before_it_asks(folder):

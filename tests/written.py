@@ -24,7 +24,7 @@ import subprocess
 import tempfile
 from pathlib import Path
 
-from program import PROGRAM
+from program import PROGRAM, Watcher
 
 WRITTEN = Path(__file__).resolve().parent / "written"
 SECONDS = 120
@@ -149,26 +149,17 @@ def wrong_states(name):
     return passed, failed
 
 
-class Watched:
-    """A watcher over a source of its own."""
+class Site:
+    """A source of its own, and a watcher over it."""
 
     def __init__(self, room):
         self.source, self.out = room / "source", room / "out"
         self.source.mkdir()
-        self.process = subprocess.Popen(
-            [PROGRAM, "watch", self.source, self.out], stdin=subprocess.PIPE, stdout=subprocess.PIPE, text=True
-        )
+        self.watcher = Watcher(self.source, self.out)
 
     def build(self):
         """The lines of a build, and what then lies there."""
-        self.process.stdin.write("build\n")
-        self.process.stdin.flush()
-        lines = []
-        while not lines or not lines[-1].startswith("objects "):
-            line = self.process.stdout.readline()
-            if not line:
-                break
-            lines.append(line.rstrip("\n"))
+        lines = self.watcher.ask("build", "objects ")
         for path in sorted(self.out.rglob("*.json")):
             lines.append(f"profile {path.relative_to(self.out).with_suffix('')} {path.read_text().rstrip()}")
         return lines
@@ -177,23 +168,20 @@ class Watched:
         path = self.out / f"{name}.dep"
         return path.read_text().splitlines() if path.exists() else []
 
-    def end(self):
-        self.process.communicate("quit\n", timeout=SECONDS)
-
 
 def run_site(steps, room):
     """Plays the steps of a case, and gives those whose text differs."""
-    watched, wrong = Watched(room), []
+    site, wrong = Site(room), []
     for (step, *rest), wanted in steps:
         if step == "file":
-            write(watched.source, rest[0], "".join(line[1:] + "\n" for line in wanted))
+            write(site.source, rest[0], "".join(line[1:] + "\n" for line in wanted))
         elif step == "gone":
-            (watched.source / rest[0]).unlink()
+            (site.source / rest[0]).unlink()
         else:
-            found = watched.build() if step == "build" else watched.files(rest[0])
+            found = site.build() if step == "build" else site.files(rest[0])
             if found != wanted:
                 wrong.append((" ".join([step, *rest]), wanted, found))
-    watched.end()
+    site.watcher.quit()
     return wrong
 
 
