@@ -12,6 +12,7 @@ pub struct Bytes {
     whole: RcSlice<u8>,
 }
 
+// By one call at each exit of who holds one: a derived Drop would let go of each part there.
 impl Drop for Bytes {
     fn drop(self) {
         let Bytes { whole: _whole } = self;

@@ -24,6 +24,7 @@ pub struct Text {
     end: u32,
 }
 
+// By one call at each exit of who holds one: a derived Drop would let go of each part there.
 impl Drop for Text {
     fn drop(self) {
         let Text {

@@ -1,78 +1,67 @@
-ghost use Rattle.std.specs.Prelude.{◌≡◌, ◌+◌};
-ghost use Rattle.dml_meaning.specs.Structures.{dml_run};
-ghost use Rattle.dml_meaning.specs.Meaning.{eval};
-ghost use Rattle.dml_world.specs.Exits.{Looks};
-ghost use Rattle.dml_world.specs.Seen.{around_of, is_fixed};
-ghost use Rattle.pan_ast.specs.Seen.{item_seen};
-
 use assign_rules::Variables;
 use base::Steps;
 use dml_eval::{Here, open_item};
 use dml_meaning::limits::MAX_OPEN_ITEMS;
+use dml_runner::DmlRunner;
 use dml_world::{Around, Evaluation, Exit, Live, SelfUse, Stop, World};
 use pan_ast::{Item, Work};
 use path_tree::Tree;
 use std::alloc::Global;
 use std::sync::ledger::Ledger;
 
-/// The DML of a statement, a default or a test of a type: its value, which `return` gives too (Pan
-/// Book, "Data Manipulation Language"). It has locals of its own, and SELF is a value of its own,
-/// which it may change or not. Where memory is wanting, at least the work is left that the
-/// evaluation leaves where it is told what was answered by then.
-#[tactic(auto, using(dml_meaning::proofs::Leaving::leaving), unfolding(dml_meaning::specs::Structures::dml_run))]
-pub fn run_dml<W: World, L: Ledger>(
-    alloc: Global,
-    item: &Item,
-    self_value: Tree,
-    self_use: SelfUse,
-    around: &Around<'_>,
-    world: &mut W,
-    work: &mut Work,
-    steps: &mut Steps<L>,
-) -> Result<Tree, Stop>
-    ensures gives { Looks (λ t. t) result W.answers work.old (W.asked world.old) work.new
-        (W.asked world.new) (dml_run (eval MAX_OPEN_ITEMS)
-        (around_of around.now W.reading W.calls) (is_fixed self_use) self_value
-        (item_seen item.now)) }
-    ensures counted { steps.new + work.new.left ≡ steps.old + work.old.left }
-{
-    let inner = Around {
-        frame: around.frame,
-        self_use,
-        called: around.called,
-        calls_left: around.calls_left,
-        includes_left: around.includes_left,
-    };
-    let mut evaluation = Evaluation {
-        alloc,
-        live: Live {
-            locals: Variables::new(alloc),
-            self_value,
-            work: *work,
-        },
-        world,
-        steps,
-    };
-    let here = Here {
-        around: &inner,
-        room: MAX_OPEN_ITEMS,
-    };
-    let end = open_item(item, here, &mut evaluation);
-    let Evaluation {
-        alloc: _,
-        live,
-        world: lent_world,
-        steps: lent_steps,
-    } = evaluation;
-    // (each loan ends by itself, so that what stands behind it is known)
-    let _world = lent_world;
-    let _steps = lent_steps;
-    *work = live.work;
-    match end {
-        Ok(value) => Ok(value),
-        Err(Exit::Return(value)) => Ok(Box::into_inner(value)),
-        Err(Exit::Fault(fault)) => Err(Stop::Fault(fault)),
-        Err(Exit::Need(question)) => Err(Stop::Need(question)),
-        Err(Exit::Memory) => Err(Stop::Memory),
+/// The evaluator, for whoever runs DML.
+pub struct DmlEvaluator;
+
+impl DmlRunner for DmlEvaluator {
+    #[tactic(auto, using(dml_meaning::proofs::Leaving::leaving), unfolding(dml_meaning::specs::Structures::dml_run))]
+    fn run_dml<W: World, L: Ledger>(
+        alloc: Global,
+        item: &Item,
+        self_value: Tree,
+        self_use: SelfUse,
+        around: &Around<'_>,
+        world: &mut W,
+        work: &mut Work,
+        steps: &mut Steps<L>,
+    ) -> Result<Tree, Stop> {
+        let inner = Around {
+            frame: around.frame,
+            self_use,
+            called: around.called,
+            calls_left: around.calls_left,
+            includes_left: around.includes_left,
+        };
+        let mut evaluation = Evaluation {
+            alloc,
+            live: Live {
+                locals: Variables::new(alloc),
+                self_value,
+                work: *work,
+            },
+            world,
+            steps,
+        };
+        let here = Here {
+            around: &inner,
+            room: MAX_OPEN_ITEMS,
+        };
+        let end = open_item(item, here, &mut evaluation);
+        let Evaluation {
+            alloc: _,
+            live,
+            world: lent_world,
+            steps: lent_steps,
+        } = evaluation;
+        // (each loan ends by itself, so that what stands behind it is known)
+        let _world = lent_world;
+        let _steps = lent_steps;
+        *work = live.work;
+        match end {
+            Ok(value) => Ok(value),
+            Err(Exit::Return(value)) => Ok(Box::into_inner(value)),
+            Err(Exit::Fault(fault)) => Err(Stop::Fault(fault)),
+            Err(Exit::Need(question)) => Err(Stop::Need(question)),
+            Err(Exit::Memory) => Err(Stop::Memory),
+        }
     }
 }

@@ -21,6 +21,7 @@ pub struct HostKeeper {
     troubles: Troubles,
 }
 
+// The types here are let go by one call at each exit of who holds one: a derived Drop would let go of each part there.
 impl Drop for HostKeeper {
     fn drop(self) {
         let HostKeeper {

@@ -2,9 +2,10 @@ use crate::files::file_cause;
 use crate::tokens::{name_cause, syntax_cause};
 use crate::trails::trace_of;
 use crate::values::value_cause;
-use base::{Bytes, Steps};
+use base::Steps;
+use dml_runner::DmlRunner;
 use engine_session::Works;
-use fault_notes::{Cause, Explained, fault_in, has_cause, misses_file, object_in};
+use fault_notes::{Cause, has_cause, misses_file};
 use object_run::Library;
 use pan_ast::Code;
 use std::alloc::{AllocError, Global};
@@ -16,9 +17,9 @@ fn is_of(code: Code, fault: &[u8]) -> bool {
 }
 
 /// What is known of what a fault of an object is about, by its code.
-fn cause_by_code<L: Ledger>(
+fn cause_by_code<D: DmlRunner, L: Ledger>(
     alloc: Global,
-    works: &mut Works<Library>,
+    works: &mut Works<Library<D>>,
     object: &str,
     fault: &[u8],
     steps: &mut Steps<L>,
@@ -39,9 +40,9 @@ fn cause_by_code<L: Ledger>(
 }
 
 /// What is known beside its line of a fault of an object.
-fn looked_up<L: Ledger>(
+fn looked_up<D: DmlRunner, L: Ledger>(
     alloc: Global,
-    works: &mut Works<Library>,
+    works: &mut Works<Library<D>>,
     object: &[u8],
     fault: &[u8],
     steps: &mut Steps<L>,
@@ -57,9 +58,9 @@ fn looked_up<L: Ledger>(
 }
 
 /// What is known beside its line of a fault of an object, where memory is ample.
-pub fn cause_in<L: Ledger>(
+pub fn cause_in<D: DmlRunner, L: Ledger>(
     alloc: Global,
-    works: &mut Works<Library>,
+    works: &mut Works<Library<D>>,
     object: &[u8],
     fault: &[u8],
     steps: &mut Steps<L>,
@@ -68,23 +69,4 @@ pub fn cause_in<L: Ledger>(
         Ok(cause) => cause,
         Err(AllocError) => Cause::unknown(alloc),
     }
-}
-
-/// The lines of a report that tell a fault, each with what is known beside it.
-pub fn explained<L: Ledger>(
-    alloc: Global,
-    works: &mut Works<Library>,
-    lines: &[Bytes],
-    steps: &mut Steps<L>,
-) -> Result<Vec<Explained>, AllocError> {
-    let mut faults = Vec::new(alloc);
-    for line in lines {
-        let text = line.as_slice();
-        let cause = cause_in(alloc, works, object_in(text), fault_in(text), steps);
-        faults.push(Explained {
-            line: line.share()?,
-            cause,
-        })?;
-    }
-    Ok(faults)
 }

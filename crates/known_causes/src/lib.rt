@@ -14,4 +14,4 @@ mod tokens;
 mod trails;
 mod values;
 
-pub use causes::{cause_in, explained};
+pub use causes::cause_in;

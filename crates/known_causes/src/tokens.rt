@@ -7,7 +7,6 @@ use engine_session::Works;
 use expected_tokens::{Expectation, expected, expected_text};
 use fault_notes::{Cause, detail_in};
 use load_path::Content;
-use object_run::Library;
 use pan_ast::{Failure, Place};
 use runner::Runner;
 use std::alloc::{AllocError, Global};
@@ -29,7 +28,7 @@ fn expectation_text(alloc: Global, told: &Expectation) -> Result<Bytes, AllocErr
 }
 
 /// The bytes of a file of the picture that is not too long to be looked at.
-fn explained_bytes<'a>(works: &'a Works<Library>, file: &Text) -> Option<&'a [u8]>
+fn explained_bytes<'a, R: Runner>(works: &'a Works<R>, file: &Text) -> Option<&'a [u8]>
     ensures { IfSome result (λ bytes. length bytes.now ≤ MAX_FILE_BYTES) }
 {
     match works.runner.picture().find(file.as_str()) {
@@ -41,9 +40,9 @@ fn explained_bytes<'a>(works: &'a Works<Library>, file: &Text) -> Option<&'a [u8
 }
 
 /// What could stand at a place of a file where a wrong token is.
-fn expected_at(
+fn expected_at<R: Runner>(
     alloc: Global,
-    works: &Works<Library>,
+    works: &Works<R>,
     place: &Place,
 ) -> Result<Option<Bytes>, AllocError> {
     let Some(bytes) = explained_bytes(works, &place.file) else {
@@ -56,9 +55,9 @@ fn expected_at(
 }
 
 /// The name in the header of a file's template, where the file reads as one.
-fn header_name(
+fn header_name<R: Runner>(
     alloc: Global,
-    works: &Works<Library>,
+    works: &Works<R>,
     file: &Text,
 ) -> Result<Option<Bytes>, AllocError> {
     let Some(bytes) = explained_bytes(works, file) else {
@@ -75,9 +74,9 @@ fn header_name(
 }
 
 /// What could stand in the place of the wrong token of a file.
-pub(crate) fn syntax_cause(
+pub(crate) fn syntax_cause<R: Runner>(
     alloc: Global,
-    works: &Works<Library>,
+    works: &Works<R>,
     fault: &[u8],
 ) -> Result<Cause, AllocError> {
     let mut cause = Cause::unknown(alloc);
@@ -88,9 +87,9 @@ pub(crate) fn syntax_cause(
 }
 
 /// What a template is named by its header, and the name that it was found by.
-pub(crate) fn name_cause(
+pub(crate) fn name_cause<R: Runner>(
     alloc: Global,
-    works: &Works<Library>,
+    works: &Works<R>,
     fault: &[u8],
 ) -> Result<Cause, AllocError> {
     let mut cause = Cause::unknown(alloc);

@@ -1,5 +1,6 @@
 use crate::places::place_in;
 use base::{Bytes, Seq, Steps};
+use dml_runner::DmlRunner;
 use engine_session::Works;
 use object_run::Library;
 use pan_ast::Place;
@@ -33,8 +34,8 @@ fn texts_of(
 }
 
 /// The calls and includes inside which an object has its fault. Where no run here had it, its build is run again.
-fn trail_of<L: Ledger>(
-    works: &mut Works<Library>,
+fn trail_of<D: DmlRunner, L: Ledger>(
+    works: &mut Works<Library<D>>,
     object: &str,
     steps: &mut Steps<L>,
 ) -> Result<Option<Vec<Place>>, AllocError> {
@@ -46,9 +47,9 @@ fn trail_of<L: Ledger>(
 }
 
 /// The same, as a reader is told them.
-pub(crate) fn trace_of<L: Ledger>(
+pub(crate) fn trace_of<D: DmlRunner, L: Ledger>(
     alloc: Global,
-    works: &mut Works<Library>,
+    works: &mut Works<Library<D>>,
     object: &str,
     fault: &[u8],
     steps: &mut Steps<L>,

@@ -1,5 +1,6 @@
 use crate::places::{path_in, place_in};
 use base::{Bytes, Seq, Steps};
+use dml_runner::DmlRunner;
 use engine_session::Works;
 use fault_causes::{Cause as Known, cause_of};
 use fault_notes::{Cause, Setter, shown_value};
@@ -32,9 +33,9 @@ fn setter_of(alloc: Global, leaf: Option<Leaf>) -> Result<Option<Setter>, AllocE
 }
 
 /// What is known of the value at a path of an object, for a fault at a place.
-fn cause_at<L: Ledger>(
+fn cause_at<D: DmlRunner, L: Ledger>(
     alloc: Global,
-    works: &mut Works<Library>,
+    works: &mut Works<Library<D>>,
     object: &str,
     place: &Place,
     path: &Path,
@@ -60,9 +61,9 @@ fn cause_at<L: Ledger>(
 }
 
 /// What is known of the value that a fault of an object is about.
-pub(crate) fn value_cause<L: Ledger>(
+pub(crate) fn value_cause<D: DmlRunner, L: Ledger>(
     alloc: Global,
-    works: &mut Works<Library>,
+    works: &mut Works<Library<D>>,
     object: &str,
     fault: &[u8],
     steps: &mut Steps<L>,

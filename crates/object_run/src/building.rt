@@ -11,6 +11,7 @@ ghost use Rattle.template_run.specs.Seen.{program_of, site_of};
 use crate::rest::Rest;
 use base::Steps;
 use defaults::fill;
+use dml_runner::DmlRunner;
 use dml_world::{Stop, World};
 use pan_ast::{Failure, Place, Work};
 use runner::Built;
@@ -64,7 +65,7 @@ fn filled<W: World, L: Ledger>(
 
 /// Builds an object in a world: its statements, and then its defaults.
 #[tactic(auto, unfolding(object_meaning::specs::Builds::built_run))]
-pub(crate) fn build_object<W: World, L: Ledger>(
+pub(crate) fn build_object<D: DmlRunner, W: World, L: Ledger>(
     alloc: Global,
     site: &Site<'_>,
     world: &mut W,
@@ -78,6 +79,6 @@ pub(crate) fn build_object<W: World, L: Ledger>(
         (meter work.old (W.asked world.old))))) }
     ensures counted { steps.new + work.new.left ≡ steps.old + work.old.left }
 {
-    let Made { program, header } = run_object(alloc, site, world, work, steps)?;
+    let Made { program, header } = run_object::<D, W, L>(alloc, site, world, work, steps)?;
     filled(alloc, header, program, site, world, work, steps)
 }

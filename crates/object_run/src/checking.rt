@@ -8,6 +8,7 @@ ghost use Rattle.validate.specs.Exits.{Gives};
 use crate::rest::Rest;
 use crate::tester::{Tested, Tester};
 use base::Steps;
+use dml_runner::DmlRunner;
 use dml_world::World;
 use pan_ast::Work;
 use runner::Built;
@@ -26,7 +27,7 @@ pub(crate) struct Tests<W> {
 
 /// Checks what was built, in a world.
 #[tactic(auto, unfolding(object_meaning::specs::Checks::check_run))]
-pub(crate) fn check_object<T: Tested, W: World, L: Ledger>(
+pub(crate) fn check_object<D: DmlRunner, T: Tested, W: World, L: Ledger>(
     alloc: Global,
     site: &Site<'_>,
     built: &Built<Rest>,
@@ -40,10 +41,11 @@ pub(crate) fn check_object<T: Tested, W: World, L: Ledger>(
     ensures counted { steps.new + work.new.left ≡ steps.old + work.old.left }
 {
     let rest = &built.rest;
-    let mut tester: Tester<'_, W, T> = Tester {
+    let mut tester: Tester<'_, D, W, T> = Tester {
         site,
         built,
         world,
+        dml: PhantomData,
         of: PhantomData,
     };
     let end = check(

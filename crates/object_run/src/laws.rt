@@ -11,14 +11,15 @@ ghost use Rattle.runner.specs.declared.ends.Built.{Built};
 ghost use Rattle.sound_profiles.specs.Built.{IsSoundBuilt};
 
 use crate::library::Library;
+use dml_runner::DmlRunner;
 use runner::Runner;
 
 /// Builds and checks mean what the language says, and what is told of how a tree was made is the log of its build; a check
 /// that gives no fault promises that what was built is sound: no undef is left, each path that a type is bound to has a
 /// value that conforms to it, and each valid statement holds.
-pub fn product_runner()
-    ensures means { ⟦<Library as Runner>⟧.meaning ≡ meaning_of }
+pub fn product_runner<D: DmlRunner>()
+    ensures means { ⟦<Library<D> as Runner>⟧.meaning ≡ meaning_of }
     ensures promises { (dirs : List (List ℕ)) (limits : Limits) (b : Built Rest)
-        (pairs : List (Key × Content)) → ⟦<Library as Runner>⟧.promises dirs limits b pairs
+        (pairs : List (Key × Content)) → ⟦<Library<D> as Runner>⟧.promises dirs limits b pairs
         → IsSoundBuilt (site_at dirs limits b.object) b pairs }
 {}

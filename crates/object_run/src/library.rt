@@ -11,25 +11,27 @@ ghost use Rattle.std.specs.Prelude.{◌≡◌, []};
 use crate::rest::Rest;
 use crate::runs::{Ran, build_in, check_in};
 use base::{Seq, Steps, Text};
+use dml_runner::DmlRunner;
 use load_path::Picture;
 use pan_ast::{Change, Limits, Place};
 use path_tree::Name;
 use run_world::Kept;
 use runner::{BuildEnd, Built, CheckEnd, Known, Log, Runner};
 use std::alloc::{AllocError, Global};
-use std::marker::Brand;
+use std::marker::{Brand, PhantomData};
 use std::mem;
 use std::sync::ledger::{Blank, Ledger};
 
-/// The product's runner: builds and checks of objects over one picture. Templates are read once for
-/// the bytes that their files hold, and patterns are compiled once.
+/// The product's runner: builds and checks of objects over one picture, whose DML D runs. Templates are
+/// read once for the bytes that their files hold, and patterns are compiled once.
 #[derive(Drop)]
-pub struct Library {
+pub struct Library<D: DmlRunner> {
     alloc: Global,
     picture: Picture,
     dirs: Seq<Text>,
     kept: Kept,
     runs: u64,
+    dml: PhantomData<D>,
 }
 
 /// A count with one more run; the last one stands.
@@ -72,9 +74,9 @@ fn is_check_fault(end: &CheckEnd) -> bool {
     }
 }
 
-impl Library {
+impl<D: DmlRunner> Library<D> {
     /// An empty picture, no directories, and no runs yet.
-    pub fn new(alloc: Global) -> Library
+    pub fn new(alloc: Global) -> Library<D>
         ensures picture { result.picture ≡ [] }
         ensures dirs { result.dirs ≡ [] }
         ensures runs { result.runs ≡ 0 }
@@ -85,6 +87,7 @@ impl Library {
             dirs: Seq::new(alloc),
             kept: Kept::new(alloc),
             runs: 0,
+            dml: PhantomData,
         }
     }
 
@@ -95,7 +98,7 @@ impl Library {
     }
 }
 
-impl Runner for Library {
+impl<D: DmlRunner> Runner for Library<D> {
     type Rest = Rest;
 
     ghost meaning = { meaning_of };
@@ -137,7 +140,7 @@ impl Runner for Library {
         let alloc = self.alloc;
         let kept = mem::replace(&mut self.kept, Kept::new(alloc));
         kept.trails.begin();
-        let Ran { end, kept, spent } = build_in::<Brand, K, Brand>(
+        let Ran { end, kept, spent } = build_in::<D, Brand, K, Brand>(
             alloc,
             Blank::new(1),
             &self.picture,
@@ -165,7 +168,7 @@ impl Runner for Library {
         let alloc = self.alloc;
         let kept = mem::replace(&mut self.kept, Kept::new(alloc));
         kept.trails.begin();
-        let Ran { end, kept, spent } = check_in::<Brand, K, Brand, Brand>(
+        let Ran { end, kept, spent } = check_in::<D, Brand, K, Brand, Brand>(
             alloc,
             Blank::new(1),
             &self.picture,

@@ -16,6 +16,7 @@ use crate::rest::Rest;
 use crate::tester::Tested;
 use asking::limits::MAX_WORK;
 use base::{Steps, Text};
+use dml_runner::DmlRunner;
 use dml_world::{Question, Stop};
 use load_path::Picture;
 use pan_ast::{Limits, Work};
@@ -56,7 +57,7 @@ fn build_end(built: Result<Built<Rest>, Stop>, trace: Trace) -> Result<BuildEnd<
 }
 
 /// A build of an object, where the keys tell what T says. It counts its steps by itself.
-pub(crate) fn build_in<T: Words, K: Known, N: Ledger>(
+pub(crate) fn build_in<D: DmlRunner, T: Words, K: Known, N: Ledger>(
     alloc: Global,
     blank: Blank,
     picture: &Picture,
@@ -92,7 +93,9 @@ pub(crate) fn build_in<T: Words, K: Known, N: Ledger>(
         limits: *limits,
     };
     let mut work = Work { left: MAX_WORK };
-    let built = build_object(alloc, &site, &mut world, &mut work, &mut steps);
+    let built = build_object::<D, RunWorld<'_, K, T>, N>(
+        alloc, &site, &mut world, &mut work, &mut steps,
+    );
     let RunWorld { kept, notes, .. } = world;
     Ran {
         end: build_end(built, notes.into_trace()),
@@ -127,7 +130,7 @@ fn check_end(end: Result<(), validate::Stop>, trace: Trace) -> Result<CheckEnd, 
 }
 
 /// A check of what was built, where the keys tell what T says. It counts its steps by itself.
-pub(crate) fn check_in<T: Words, K: Known, C: Tested, N: Ledger>(
+pub(crate) fn check_in<D: DmlRunner, T: Words, K: Known, C: Tested, N: Ledger>(
     alloc: Global,
     blank: Blank,
     picture: &Picture,
@@ -169,7 +172,7 @@ pub(crate) fn check_in<T: Words, K: Known, C: Tested, N: Ledger>(
         limits: *limits,
     };
     let mut work = Work { left: MAX_WORK };
-    let Tests { end, world } = check_object::<C, RunWorld<'_, K, T>, N>(
+    let Tests { end, world } = check_object::<D, C, RunWorld<'_, K, T>, N>(
         alloc, &site, built, world, &mut work, &mut steps,
     );
     let RunWorld { kept, notes, .. } = world;

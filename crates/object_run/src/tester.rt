@@ -10,8 +10,8 @@ ghost use Rattle.object_run.specs.TestingSets.{IsCase-prop};
 
 use crate::rest::Rest;
 use base::{Steps, Text};
-use dml_call::run_dml;
 use dml_meaning::limits::MAX_INCLUDES;
+use dml_runner::DmlRunner;
 use dml_world::paths::{Looked, look_at};
 use dml_world::{Around, Frame, Question, SelfUse, World};
 use pan_ast::{Item, Place, Work};
@@ -39,10 +39,11 @@ impl Tested for Brand {
 
 /// What evaluates the tests of a check, in a world.
 #[derive(Drop)]
-pub(crate) struct Tester<'a, W: World, T: Tested> {
+pub(crate) struct Tester<'a, D: DmlRunner, W: World, T: Tested> {
     pub site: &'a Site<'a>,
     pub built: &'a Built<Rest>,
     pub world: W,
+    pub dml: PhantomData<D>,
     pub of: PhantomData<T>,
     ghost is: { case_of site.now built.now ≡ T.case } by { IsCase-prop (case_of site.now built.now) T.case },
 }
@@ -98,7 +99,7 @@ fn value_of(looked: Looked) -> Option<Tree>
     }
 }
 
-impl<'a, W: World, T: Tested> Evaluator for Tester<'a, W, T> {
+impl<'a, D: DmlRunner, W: World, T: Tested> Evaluator for Tester<'a, D, W, T> {
     ghost means = { case_means T.case W.reading W.calls };
 
     ghost answers = { W.answers };
@@ -129,7 +130,7 @@ impl<'a, W: World, T: Tested> Evaluator for Tester<'a, W, T> {
         };
         let around = around_in(&frame, self.site.limits.max_recursion);
         let value = self_value.copy()?;
-        match run_dml(
+        match D::run_dml(
             alloc,
             item,
             value,

@@ -1,17 +1,17 @@
-//! The compiler as a program. It makes a runner of objects and the host's devices, calls `pan_top::pan`, writes notes for
-//! a reader to standard error (`notes`), and ends with the call's status.
+//! The compiler as a program. It makes a runner of objects and the host's devices, calls `pan_top::pan`, has notes for a
+//! reader written to standard error, with what the engine knows of each fault (`causes`), and ends with the call's status.
 #![tactic(auto)]
 
 ghost use Rattle.std.specs.Prelude.{◌≡◌, ◌<◌};
 
-mod aside;
-mod notes;
+mod causes;
 
-use crate::aside::Aside;
-use crate::notes::{Told, write_notes};
+use crate::causes::EngineCauses;
 use base::{Steps, Text};
+use dml_call::DmlEvaluator;
 use end_notes::asked_of;
 use host_keeper::HostKeeper;
+use host_notes::{Aside, Told, write_notes};
 use object_run::Library;
 use outside::{HostLines, HostShelf, HostSink, HostSource, KeepingSink};
 use pan_top::{Devices, HandedBack, Status, pan};
@@ -43,7 +43,7 @@ fn run<L: Ledger>(rt: &HostRuntime, blank: Blank) -> Result<Status, AllocError>
     let none = Vec::new(rt.alloc());
     // Words of which one is not UTF-8 are no command.
     let words = read.as_ref().unwrap_or(&none);
-    let runner = Library::new(rt.alloc());
+    let runner = Library::<DmlEvaluator>::new(rt.alloc());
     let devices = Devices {
         source: HostSource::new(rt.clone()?),
         shelf: HostShelf::new(rt.clone()?, asked_of(rt.alloc(), words)?),
@@ -64,7 +64,12 @@ fn run<L: Ledger>(rt: &HostRuntime, blank: Blank) -> Result<Status, AllocError>
         shelf: devices.shelf.trouble(),
         faults: devices.out.fault_lines(),
     };
-    write_notes(rt, status, &told, keeper.trouble(), &mut works, &mut steps);
+    let mut causes = EngineCauses {
+        alloc: rt.alloc(),
+        works: &mut works,
+        steps: &mut steps,
+    };
+    write_notes(rt, status, &told, keeper.trouble(), &mut causes);
     // What is not copied back stays in the log beside the file, which the next opening reads.
     let _ = keeper.close();
     Ok(status)

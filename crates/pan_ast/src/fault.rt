@@ -177,6 +177,7 @@ pub struct Fault {
     pub detail: Text,
 }
 
+// By one call at each exit of who holds one: a derived Drop would let go of each part there.
 impl Drop for Fault {
     fn drop(self) {
         let Fault {

@@ -11,6 +11,7 @@ pub struct Place {
     pub column: u32,
 }
 
+// By one call at each exit of who holds one: a derived Drop would let go of each part there.
 impl Drop for Place {
     fn drop(self) {
         let Place {

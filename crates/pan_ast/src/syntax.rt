@@ -11,6 +11,7 @@ pub struct Item {
     pub form: ItemForm,
 }
 
+// The types here are let go by one call at each exit of who holds one: a derived Drop would let go of each part there.
 impl Drop for Item {
     #[cycle(letting_go)]
     fn drop(self) {
@@ -132,10 +133,10 @@ impl Drop for Step {
     #[cycle(letting_go)]
     fn drop(self) {
         match self {
-            Step::Index(_first) => (),
-            Step::Binary(_first, _second) => (),
-            Step::And(_first) => (),
-            Step::Or(_first) => (),
+            Step::Index(_item) => (),
+            Step::Binary(_operator, _operand) => (),
+            Step::And(_operand) => (),
+            Step::Or(_operand) => (),
         }
     }
 }

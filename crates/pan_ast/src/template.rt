@@ -24,6 +24,7 @@ pub struct Template {
     pub statements: Vec<Statement>,
 }
 
+// The types here are let go by one call at each exit of who holds one: a derived Drop would let go of each part there.
 impl Drop for Template {
     fn drop(self) {
         let Template {

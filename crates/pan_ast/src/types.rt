@@ -12,6 +12,7 @@ pub struct FullType {
     pub with: Option<Rc<Item>>,
 }
 
+// The types here are let go by one call at each exit of who holds one: a derived Drop would let go of each part there.
 impl Drop for FullType {
     #[cycle(letting_go_of_types)]
     fn drop(self) {
@@ -69,8 +70,8 @@ pub enum Suffix {
 impl Drop for Suffix {
     fn drop(self) {
         match self {
-            Suffix::List(_first) => (),
-            Suffix::Dict(_first) => (),
+            Suffix::List(_bounds) => (),
+            Suffix::Dict(_bounds) => (),
             Suffix::Link => (),
         }
     }

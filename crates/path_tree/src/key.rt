@@ -21,6 +21,7 @@ pub struct Key {
     text: Text,
 }
 
+// By one call at each exit of who holds one: a derived Drop would let go of each part there.
 impl Drop for Key {
     fn drop(self) {
         let Key { text: _text } = self;

@@ -21,6 +21,7 @@ pub struct Name {
     text: Text,
 }
 
+// By one call at each exit of who holds one: a derived Drop would let go of each part there.
 impl Drop for Name {
     fn drop(self) {
         let Name { text: _text } = self;

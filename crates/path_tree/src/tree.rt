@@ -43,6 +43,7 @@ pub struct Tree {
     node: Node,
 }
 
+// By one call at each exit of who holds one: a derived Drop would let go of each part there.
 impl Drop for Tree {
     #[cycle(letting_go)]
     fn drop(self) {

@@ -30,6 +30,7 @@ pub struct SqliteKeeper<S: Alter + Drop> {
     last: Refusal,
 }
 
+// By one call at each exit of who holds one: a derived Drop would let go of each part there.
 impl<S: Alter + Drop> Drop for SqliteKeeper<S> {
     fn drop(self) {
         let SqliteKeeper {

@@ -15,6 +15,7 @@ use crate::program::Program;
 use crate::site::Inside;
 use assign_rules::AssignError;
 use base::Text;
+use dml_runner::DmlRunner;
 use dml_world::leaf::stop_on;
 use dml_world::{SelfUse, Stop, World};
 use pan_ast::{Code, Item, Place};
@@ -76,11 +77,11 @@ fn unassigned(alloc: Global, place: &Place, path: &Text, error: AssignError) -> 
 
 /// Puts a value at terms.
 #[tactic(auto, using(crate::proofs::Refused::unassigned_comes), unfolding(template_meaning::specs::Statements::put_run))]
-fn put_at<W: World, L: Ledger>(
+fn put_at<D: DmlRunner, W: World, L: Ledger>(
     assignment: Assignment<'_>,
     terms: &[Term],
     value: Tree,
-    execution: &mut Execution<'_, '_, '_, W, L>,
+    execution: &mut Execution<'_, '_, '_, D, W, L>,
 ) -> Result<(), Stop>
     ensures gives { Executes (λ u. u) result W.World execution.old execution.new
         (put_run assignment.entry.place.now assignment.entry.path.now assignment.entry.last
@@ -118,11 +119,11 @@ fn is_final(alloc: Global, place: &Place, terms: &[Term]) -> Stop
 
 /// An assignment to terms.
 #[tactic(auto, using(template_meaning::proofs::Leaving::leaving), unfolding(template_meaning::specs::Statements::assign_terms))]
-fn assign_at<W: World, L: Ledger>(
+fn assign_at<D: DmlRunner, W: World, L: Ledger>(
     assignment: Assignment<'_>,
     terms: &[Term],
     inside: &Inside<'_>,
-    execution: &mut Execution<'_, '_, '_, W, L>,
+    execution: &mut Execution<'_, '_, '_, D, W, L>,
 ) -> Result<(), Stop>
     ensures gives { Executes (λ u. u) result W.World execution.old execution.new
         (assign_terms (site_in W.World inside.now) (inside_of inside.now)
@@ -147,11 +148,11 @@ fn assign_at<W: World, L: Ledger>(
 /// An assignment (Pan Book, "Statements"): its path, whether that is final, whether it is set
 /// already, its DML, and the change.
 #[tactic(auto, using(template_meaning::proofs::Leaving::leaving), unfolding(template_meaning::specs::Statements::assign_run))]
-pub(crate) fn assign<W: World, L: Ledger>(
+pub(crate) fn assign<D: DmlRunner, W: World, L: Ledger>(
     assignment: Assignment<'_>,
     prefix: &Prefix,
     inside: &Inside<'_>,
-    execution: &mut Execution<'_, '_, '_, W, L>,
+    execution: &mut Execution<'_, '_, '_, D, W, L>,
 ) -> Result<(), Stop>
     ensures gives { Executes (λ u. u) result W.World execution.old execution.new
         (assign_run (site_in W.World inside.now) (inside_of inside.now) prefix.now

@@ -11,6 +11,7 @@ use crate::paths::{Prefix, path_terms};
 use crate::site::Inside;
 use crate::written_types::run_type;
 use base::{Seq, Text};
+use dml_runner::DmlRunner;
 use dml_world::leaf::stop_on;
 use dml_world::{DefineError, Stop, World};
 use pan_ast::{Code, FullType, Item, Place};
@@ -21,12 +22,12 @@ use type_defs::{Bound, SharedType, Valid};
 
 /// A function statement (Pan Book, "Functions"): the name is not taken yet.
 #[tactic(auto, using(crate::proofs::Refused::defined_ends, template_meaning::proofs::Leaving::leaving), unfolding(template_meaning::specs::Statements::function_run))]
-pub(crate) fn define_function<W: World, L: Ledger>(
+pub(crate) fn define_function<D: DmlRunner, W: World, L: Ledger>(
     place: &Place,
     name: &Text,
     body: &Rc<Item>,
     inside: &Inside<'_>,
-    execution: &mut Execution<'_, '_, '_, W, L>,
+    execution: &mut Execution<'_, '_, '_, D, W, L>,
 ) -> Result<(), Stop>
     ensures gives { Executes (λ u. u) result W.World execution.old execution.new
         (function_run (site_in W.World inside.now) place.now name.now (item_seen body.now.value)) }
@@ -46,10 +47,10 @@ pub(crate) fn define_function<W: World, L: Ledger>(
 
 /// Gives a type a name that is not taken.
 #[tactic(auto, using(crate::proofs::Programs::same_types))]
-fn name_type<W: World, L: Ledger>(
+fn name_type<D: DmlRunner, W: World, L: Ledger>(
     name: &Text,
     resolved: SharedType,
-    execution: &mut Execution<'_, '_, '_, W, L>,
+    execution: &mut Execution<'_, '_, '_, D, W, L>,
 ) -> Result<(), Stop>
     ensures gives { Executes (λ u. u) result W.World execution.old execution.new
         (name_type name.now (resolved_seen resolved)) }
@@ -66,12 +67,12 @@ fn name_type<W: World, L: Ledger>(
 
 /// A type statement (Pan Book, "Types").
 #[tactic(auto, using(template_meaning::proofs::Leaving::leaving), unfolding(template_meaning::specs::Statements::define_run))]
-pub(crate) fn define_type<W: World, L: Ledger>(
+pub(crate) fn define_type<D: DmlRunner, W: World, L: Ledger>(
     place: &Place,
     name: &Text,
     full: &FullType,
     inside: &Inside<'_>,
-    execution: &mut Execution<'_, '_, '_, W, L>,
+    execution: &mut Execution<'_, '_, '_, D, W, L>,
 ) -> Result<(), Stop>
     ensures gives { Executes (λ u. u) result W.World execution.old execution.new
         (define_run (site_in W.World inside.now) (inside_of inside.now) place.now name.now
@@ -88,11 +89,11 @@ pub(crate) fn define_type<W: World, L: Ledger>(
 
 /// Binds a type to terms.
 #[tactic(auto, using(template_meaning::proofs::Leaving::leaving))]
-fn bind_type<W: World, L: Ledger>(
+fn bind_type<D: DmlRunner, W: World, L: Ledger>(
     place: &Place,
     terms: Seq<Term>,
     resolved: SharedType,
-    execution: &mut Execution<'_, '_, '_, W, L>,
+    execution: &mut Execution<'_, '_, '_, D, W, L>,
 ) -> Result<(), Stop>
     ensures gives { Executes (λ u. u) result W.World execution.old execution.new
         (bind_type place.now terms (resolved_seen resolved)) }
@@ -110,13 +111,13 @@ fn bind_type<W: World, L: Ledger>(
 
 /// A bind statement (Pan Book, "Binding").
 #[tactic(auto, using(template_meaning::proofs::Leaving::leaving), unfolding(template_meaning::specs::Statements::bind_run))]
-pub(crate) fn bind<W: World, L: Ledger>(
+pub(crate) fn bind<D: DmlRunner, W: World, L: Ledger>(
     place: &Place,
     path: &Text,
     full: &FullType,
     prefix: &Prefix,
     inside: &Inside<'_>,
-    execution: &mut Execution<'_, '_, '_, W, L>,
+    execution: &mut Execution<'_, '_, '_, D, W, L>,
 ) -> Result<(), Stop>
     ensures gives { Executes (λ u. u) result W.World execution.old execution.new
         (bind_run (site_in W.World inside.now) (inside_of inside.now) prefix.now place.now path.now
@@ -131,12 +132,12 @@ pub(crate) fn bind<W: World, L: Ledger>(
 
 /// Adds what is to hold at terms.
 #[tactic(auto, using(template_meaning::proofs::Leaving::leaving))]
-fn want_valid<W: World, L: Ledger>(
+fn want_valid<D: DmlRunner, W: World, L: Ledger>(
     place: &Place,
     body: &Rc<Item>,
     terms: Seq<Term>,
     inside: &Inside<'_>,
-    execution: &mut Execution<'_, '_, '_, W, L>,
+    execution: &mut Execution<'_, '_, '_, D, W, L>,
 ) -> Result<(), Stop>
     ensures gives { Executes (λ u. u) result W.World execution.old execution.new
         (want_valid (inside_of inside.now) place.now (item_seen body.now.value) terms) }
@@ -155,13 +156,13 @@ fn want_valid<W: World, L: Ledger>(
 
 /// A valid statement (Pan Book, "Validation").
 #[tactic(auto, using(template_meaning::proofs::Leaving::leaving), unfolding(template_meaning::specs::Statements::valid_run))]
-pub(crate) fn add_valid<W: World, L: Ledger>(
+pub(crate) fn add_valid<D: DmlRunner, W: World, L: Ledger>(
     place: &Place,
     path: &Text,
     body: &Rc<Item>,
     prefix: &Prefix,
     inside: &Inside<'_>,
-    execution: &mut Execution<'_, '_, '_, W, L>,
+    execution: &mut Execution<'_, '_, '_, D, W, L>,
 ) -> Result<(), Stop>
     ensures gives { Executes (λ u. u) result W.World execution.old execution.new
         (valid_run (inside_of inside.now) prefix.now place.now path.now

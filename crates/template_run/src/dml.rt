@@ -11,7 +11,7 @@ ghost use Rattle.template_run.specs.Seen.{inside_of, site_in};
 use crate::execution::Execution;
 use crate::program::Program;
 use crate::site::Inside;
-use dml_call::run_dml;
+use dml_runner::DmlRunner;
 use dml_world::templates::template_named;
 use dml_world::{Around, Frame, SelfUse, Stop, World};
 use pan_ast::{Item, Place, Template};
@@ -57,12 +57,12 @@ fn around_in<'a>(frame: &'a Frame<'a>, inside: &Inside<'_>) -> Around<'a>
 
 /// The value of the DML of a statement, whose SELF begins with a value.
 #[tactic(auto, using(template_meaning::proofs::Leaving::leaving), unfolding(template_meaning::specs::Statements::dml_in))]
-pub(crate) fn run_in<W: World, L: Ledger>(
+pub(crate) fn run_in<D: DmlRunner, W: World, L: Ledger>(
     item: &Item,
     self_use: SelfUse,
     self_value: Tree,
     inside: &Inside<'_>,
-    execution: &mut Execution<'_, '_, '_, W, L>,
+    execution: &mut Execution<'_, '_, '_, D, W, L>,
 ) -> Result<Tree, Stop>
     ensures gives { Executes (λ t. t) result W.World execution.old execution.new
         (dml_in (site_in W.World inside.now) (inside_of inside.now) (is_fixed self_use) self_value
@@ -72,7 +72,7 @@ pub(crate) fn run_in<W: World, L: Ledger>(
 {
     let frame = frame_in(inside, &execution.program)?;
     let around = around_in(&frame, inside);
-    run_dml(
+    D::run_dml(
         execution.alloc,
         item,
         self_value,
@@ -86,11 +86,11 @@ pub(crate) fn run_in<W: World, L: Ledger>(
 
 /// The template of a name, looked for from a statement.
 #[tactic(auto, using(template_meaning::proofs::Leaving::leaving))]
-pub(crate) fn find_named<W: World, L: Ledger>(
+pub(crate) fn find_named<D: DmlRunner, W: World, L: Ledger>(
     place: &Place,
     name: &str,
     inside: &Inside<'_>,
-    execution: &mut Execution<'_, '_, '_, W, L>,
+    execution: &mut Execution<'_, '_, '_, D, W, L>,
 ) -> Result<Rc<Template>, Stop>
     ensures gives { Executes (λ t. template_seen t.value) result W.World execution.old
         execution.new (named_in (site_in W.World inside.now) (inside_of inside.now) place.now

@@ -14,11 +14,13 @@ use crate::site::{Inside, Site};
 use crate::statements::run_statements;
 use base::{Steps, Text};
 use dml_meaning::limits::MAX_INCLUDES;
+use dml_runner::DmlRunner;
 use dml_world::leaf::stop_on;
 use dml_world::{Stop, World};
 use pan_ast::{Code, Place, Template, TemplateKind, Work};
 use path_tree::Name;
 use std::alloc::{AllocError, Global};
+use std::marker::PhantomData;
 use std::sync::ledger::Ledger;
 
 /// Line 1, column 1 of the object's file.
@@ -33,11 +35,11 @@ fn top_place(alloc: Global, object: &Name) -> Result<Place, AllocError>
 }
 
 /// Runs the statements of the object's own template.
-fn run_top<W: World, L: Ledger>(
+fn run_top<D: DmlRunner, W: World, L: Ledger>(
     place: &Place,
     template: &Template,
     inside: &Inside<'_>,
-    execution: &mut Execution<'_, '_, '_, W, L>,
+    execution: &mut Execution<'_, '_, '_, D, W, L>,
 ) -> Result<(), Stop>
     requires place { place.now ≡ top_place inside.now.site.now.object.now }
     requires top { inside_of inside.now ≡ at_top (site_in W.World inside.now) }
@@ -56,9 +58,9 @@ fn run_top<W: World, L: Ledger>(
 /// Runs the object template of a name from an empty dict (Pan Book, "Object Template"). Gives the
 /// place of its header.
 #[tactic(auto, using(template_meaning::proofs::Leaving::leaving), unfolding(template_meaning::specs::Objects::object_run))]
-fn run_from<W: World, L: Ledger>(
+fn run_from<D: DmlRunner, W: World, L: Ledger>(
     site: &Site<'_>,
-    execution: &mut Execution<'_, '_, '_, W, L>,
+    execution: &mut Execution<'_, '_, '_, D, W, L>,
 ) -> Result<Place, Stop>
     requires fresh { program_of execution.old.program ≡ no_program }
     ensures gives { Executes (λ p. p) result W.World execution.old execution.new
@@ -90,7 +92,7 @@ pub struct Made {
 /// first. Want of memory may come at any time; then at least the work is left that the run leaves
 /// where it is told what was answered by then.
 #[tactic(auto, using(template_meaning::proofs::Leaving::leaving))]
-pub fn run_object<W: World, L: Ledger>(
+pub fn run_object<D: DmlRunner, W: World, L: Ledger>(
     alloc: Global,
     site: &Site<'_>,
     world: &mut W,
@@ -105,6 +107,7 @@ pub fn run_object<W: World, L: Ledger>(
     let program = Program::new(alloc)?;
     let mut execution = Execution {
         alloc,
+        dml: PhantomData::<D>,
         program,
         world,
         work,
@@ -113,6 +116,7 @@ pub fn run_object<W: World, L: Ledger>(
     let end = run_from(site, &mut execution);
     let Execution {
         alloc: _,
+        dml: _,
         program,
         world: lent_world,
         work: lent_work,

@@ -6,6 +6,7 @@ ghost use Rattle.template_run.specs.Executions.{Executes};
 use crate::execution::Execution;
 use assign_rules::{push_terms, share_terms};
 use base::{Seq, Text};
+use dml_runner::DmlRunner;
 use dml_world::leaf::stop_on;
 use dml_world::{Stop, World};
 use pan_ast::{Code, Place};
@@ -54,11 +55,11 @@ fn terms_of(alloc: Global, prefix: &Prefix, text: &Text) -> Result<Option<Seq<Te
 
 /// The terms of the path of a statement: an absolute one, or a relative one under a prefix.
 #[tactic(auto, using(crate::proofs::Stopping::sought_leaves))]
-pub(crate) fn path_terms<W: World, L: Ledger>(
+pub(crate) fn path_terms<D: DmlRunner, W: World, L: Ledger>(
     prefix: &Prefix,
     place: &Place,
     text: &Text,
-    execution: &Execution<'_, '_, '_, W, L>,
+    execution: &Execution<'_, '_, '_, D, W, L>,
 ) -> Result<Seq<Term>, Stop>
     ensures { Executes (λ ms. ms) result W.World execution.now execution.now
         (path_terms prefix.now place.now text.now) }
@@ -106,10 +107,10 @@ fn prefix_of(alloc: Global, text: &Text) -> Result<Option<Prefix>, AllocError>
 
 /// The prefix that holds from a statement on.
 #[tactic(auto, using(crate::proofs::Stopping::sought_leaves))]
-pub(crate) fn run_prefix<W: World, L: Ledger>(
+pub(crate) fn run_prefix<D: DmlRunner, W: World, L: Ledger>(
     place: &Place,
     text: &Text,
-    execution: &Execution<'_, '_, '_, W, L>,
+    execution: &Execution<'_, '_, '_, D, W, L>,
 ) -> Result<Prefix, Stop>
     ensures { Executes (λ q. q) result W.World execution.now execution.now
         (prefix_run place.now text.now) }

@@ -15,6 +15,7 @@ use crate::paths::{Prefix, run_prefix};
 use crate::site::Inside;
 use crate::variables::{Variable, run_variable};
 use dml_meaning::Test;
+use dml_runner::DmlRunner;
 use dml_world::leaf::{passed, passes, spend_step, stop_on};
 use dml_world::{SelfUse, Stop, World};
 use pan_ast::{Code, Item, Place, Statement, StatementForm, Template, TemplateKind};
@@ -64,10 +65,10 @@ fn is_among(name: &str, names: &[Name]) -> bool
 /// The statements of a template, in order, from no prefix on.
 #[cycle(statements)]
 #[tactic(auto, using(crate::proofs::Items::statements_more, template_meaning::proofs::Leaving::leaving), unfolding(template_meaning::specs::Statements::statements_run))]
-pub(crate) fn run_statements<W: World, L: Ledger>(
+pub(crate) fn run_statements<D: DmlRunner, W: World, L: Ledger>(
     statements: &[Statement],
     inside: &Inside<'_>,
-    execution: &mut Execution<'_, '_, '_, W, L>,
+    execution: &mut Execution<'_, '_, '_, D, W, L>,
 ) -> Result<(), Stop>
     ensures gives { Executes (λ u. u) result W.World execution.old execution.new
         (statements_run (includes_in W.World inside.now) (site_in W.World inside.now)
@@ -85,11 +86,11 @@ pub(crate) fn run_statements<W: World, L: Ledger>(
 /// A statement behind a prefix, and the prefix that holds after it.
 #[cycle(statements)]
 #[tactic(auto, using(template_meaning::proofs::Leaving::leaving), unfolding(template_meaning::specs::Statements::statement_run))]
-fn run_statement<W: World, L: Ledger>(
+fn run_statement<D: DmlRunner, W: World, L: Ledger>(
     statement: &Statement,
     prefix: Prefix,
     inside: &Inside<'_>,
-    execution: &mut Execution<'_, '_, '_, W, L>,
+    execution: &mut Execution<'_, '_, '_, D, W, L>,
 ) -> Result<Prefix, Stop>
     ensures gives { Executes (λ q. q) result W.World execution.old execution.new
         (statement_run (includes_in W.World inside.now) (site_in W.World inside.now)
@@ -114,12 +115,12 @@ fn run_statement<W: World, L: Ledger>(
 /// A statement that may stand where it does.
 #[cycle(statements)]
 #[tactic(auto, using(template_meaning::proofs::Leaving::leaving), unfolding(template_meaning::specs::Statements::form_run))]
-fn run_form<W: World, L: Ledger>(
+fn run_form<D: DmlRunner, W: World, L: Ledger>(
     place: &Place,
     form: &StatementForm,
     prefix: Prefix,
     inside: &Inside<'_>,
-    execution: &mut Execution<'_, '_, '_, W, L>,
+    execution: &mut Execution<'_, '_, '_, D, W, L>,
 ) -> Result<Prefix, Stop>
     ensures gives { Executes (λ q. q) result W.World execution.old execution.new
         (form_run (includes_in W.World inside.now) (site_in W.World inside.now)
@@ -163,11 +164,11 @@ fn run_form<W: World, L: Ledger>(
 /// An include statement (Pan Book, "Include Statements"): its DML gives the name.
 #[cycle(statements)]
 #[tactic(auto, using(template_meaning::proofs::Leaving::leaving), unfolding(template_meaning::specs::Statements::include_run))]
-fn run_include<W: World, L: Ledger>(
+fn run_include<D: DmlRunner, W: World, L: Ledger>(
     place: &Place,
     item: &Item,
     inside: &Inside<'_>,
-    execution: &mut Execution<'_, '_, '_, W, L>,
+    execution: &mut Execution<'_, '_, '_, D, W, L>,
 ) -> Result<(), Stop>
     ensures gives { Executes (λ u. u) result W.World execution.old execution.new
         (include_run (includes_in W.World inside.now) (site_in W.World inside.now)
@@ -181,11 +182,11 @@ fn run_include<W: World, L: Ledger>(
 
 /// Includes the template that a value names; undef and null include nothing.
 #[cycle(statements)]
-fn include_value<W: World, L: Ledger>(
+fn include_value<D: DmlRunner, W: World, L: Ledger>(
     place: &Place,
     value: &Tree,
     inside: &Inside<'_>,
-    execution: &mut Execution<'_, '_, '_, W, L>,
+    execution: &mut Execution<'_, '_, '_, D, W, L>,
 ) -> Result<(), Stop>
     ensures gives { Executes (λ u. u) result W.World execution.old execution.new
         (include_value (includes_in W.World inside.now) (inside_of inside.now) place.now
@@ -206,11 +207,11 @@ fn include_value<W: World, L: Ledger>(
 /// Includes the template of a name, where an include may still be opened.
 #[cycle(statements)]
 #[tactic(auto, using(crate::proofs::Items::included_more, template_meaning::proofs::Leaving::leaving), unfolding(template_meaning::specs::Statements::included))]
-fn include<W: World, L: Ledger>(
+fn include<D: DmlRunner, W: World, L: Ledger>(
     place: &Place,
     name: &str,
     inside: &Inside<'_>,
-    execution: &mut Execution<'_, '_, '_, W, L>,
+    execution: &mut Execution<'_, '_, '_, D, W, L>,
 ) -> Result<(), Stop>
     ensures gives { Executes (λ u. u) result W.World execution.old execution.new
         (includes_in W.World inside.now (inside_of inside.now) place.now name.now) }
@@ -226,9 +227,9 @@ fn include<W: World, L: Ledger>(
 
 /// Whether a template runs now; one of a kind that runs once is marked as run.
 #[tactic(auto, using(template_meaning::proofs::Leaving::leaving), unfolding(template_meaning::specs::Statements::starts))]
-fn starts<W: World, L: Ledger>(
+fn starts<D: DmlRunner, W: World, L: Ledger>(
     template: &Template,
-    execution: &mut Execution<'_, '_, '_, W, L>,
+    execution: &mut Execution<'_, '_, '_, D, W, L>,
 ) -> Result<bool, Stop>
     ensures gives { Executes (λ b. b) result W.World execution.old execution.new
         (starts template.now.kind template.now.name) }
@@ -248,12 +249,12 @@ fn starts<W: World, L: Ledger>(
 /// Runs the statements of a template that is included under a name, where its kind fits.
 #[cycle(statements)]
 #[tactic(auto, using(template_meaning::proofs::Leaving::leaving), unfolding(template_meaning::specs::Statements::template_run))]
-fn run_template<W: World, L: Ledger>(
+fn run_template<D: DmlRunner, W: World, L: Ledger>(
     place: &Place,
     name: &str,
     template: &Template,
     inside: &Inside<'_>,
-    execution: &mut Execution<'_, '_, '_, W, L>,
+    execution: &mut Execution<'_, '_, '_, D, W, L>,
 ) -> Result<(), Stop>
     requires open { 0 < inside.now.includes_left }
     ensures gives { Executes (λ u. u) result W.World execution.old execution.new

@@ -18,6 +18,7 @@ use crate::site::Inside;
 use assign_rules::SetError;
 use base::Text;
 use dml_meaning::automatic_name;
+use dml_runner::DmlRunner;
 use dml_world::leaf::stop_on;
 use dml_world::{SelfUse, Stop, World};
 use pan_ast::{Code, Item, Place};
@@ -130,10 +131,10 @@ fn unset(alloc: Global, place: &Place, name: &Text, error: SetError) -> Stop
 
 /// Sets a variable.
 #[tactic(auto, using(crate::proofs::Refused::unset_comes), unfolding(template_meaning::specs::Statements::set_run))]
-fn set<W: World, L: Ledger>(
+fn set<D: DmlRunner, W: World, L: Ledger>(
     variable: Variable<'_>,
     value: Tree,
-    execution: &mut Execution<'_, '_, '_, W, L>,
+    execution: &mut Execution<'_, '_, '_, D, W, L>,
 ) -> Result<(), Stop>
     ensures gives { Executes (λ u. u) result W.World execution.old execution.new
         (set_run variable.entry.place.now variable.entry.last variable.entry.name.now value) }
@@ -173,10 +174,10 @@ fn is_set(program: &Program, name: &Text) -> bool
 
 /// A statement that may set its variable.
 #[tactic(auto, using(template_meaning::proofs::Leaving::leaving), unfolding(template_meaning::specs::Statements::variable_value))]
-fn run_value<W: World, L: Ledger>(
+fn run_value<D: DmlRunner, W: World, L: Ledger>(
     variable: Variable<'_>,
     inside: &Inside<'_>,
-    execution: &mut Execution<'_, '_, '_, W, L>,
+    execution: &mut Execution<'_, '_, '_, D, W, L>,
 ) -> Result<(), Stop>
     ensures gives { Executes (λ u. u) result W.World execution.old execution.new
         (variable_value (site_in W.World inside.now) (inside_of inside.now)
@@ -198,10 +199,10 @@ fn run_value<W: World, L: Ledger>(
 /// A variable statement (Pan Book, "Variables"): whether its name may be set, whether it is set
 /// already, its DML, and the change.
 #[tactic(auto, unfolding(template_meaning::specs::Statements::variable_run))]
-pub(crate) fn run_variable<W: World, L: Ledger>(
+pub(crate) fn run_variable<D: DmlRunner, W: World, L: Ledger>(
     variable: Variable<'_>,
     inside: &Inside<'_>,
-    execution: &mut Execution<'_, '_, '_, W, L>,
+    execution: &mut Execution<'_, '_, '_, D, W, L>,
 ) -> Result<(), Stop>
     ensures gives { Executes (λ u. u) result W.World execution.old execution.new
         (variable_run (site_in W.World inside.now) (inside_of inside.now)

@@ -13,6 +13,7 @@ ghost use Rattle.type_defs.specs.Tables.{known};
 use crate::dml::run_in;
 use crate::execution::Execution;
 use crate::site::Inside;
+use dml_runner::DmlRunner;
 use dml_world::leaf::stop_on;
 use dml_world::{SelfUse, Stop, World};
 use pan_ast::{Code, Field, FullType, Head, Item, Place};
@@ -73,10 +74,10 @@ fn push_of_field<'a>(list: &mut Vec<&'a Item>, field: &'a Field) -> Result<(), A
 
 /// The value of a default, which is not null.
 #[tactic(auto, using(pan_ast::proofs::Places::item_place_seen, template_meaning::proofs::Leaving::leaving), unfolding(template_meaning::specs::Statements::default_run))]
-fn run_default<W: World, L: Ledger>(
+fn run_default<D: DmlRunner, W: World, L: Ledger>(
     item: &Item,
     inside: &Inside<'_>,
-    execution: &mut Execution<'_, '_, '_, W, L>,
+    execution: &mut Execution<'_, '_, '_, D, W, L>,
 ) -> Result<Tree, Stop>
     ensures gives { Executes (λ t. t) result W.World execution.old execution.new
         (default_run (site_in W.World inside.now) (inside_of inside.now) (item_seen item.now)) }
@@ -92,10 +93,10 @@ fn run_default<W: World, L: Ledger>(
 
 /// The values of defaults, in order.
 #[tactic(auto, using(crate::proofs::Items::defaults_more, template_meaning::proofs::Leaving::leaving), unfolding(template_meaning::specs::Statements::defaults_run))]
-fn run_defaults<W: World, L: Ledger>(
+fn run_defaults<D: DmlRunner, W: World, L: Ledger>(
     items: &[&Item],
     inside: &Inside<'_>,
-    execution: &mut Execution<'_, '_, '_, W, L>,
+    execution: &mut Execution<'_, '_, '_, D, W, L>,
 ) -> Result<Vec<Tree>, Stop>
     ensures gives { Executes (λ v. v.items) result W.World execution.old execution.new
         (defaults_run (site_in W.World inside.now) (inside_of inside.now) (items_at items.now)
@@ -126,12 +127,12 @@ fn untyped(alloc: Global, error: TypeError) -> Stop
 
 /// The type that a written type stands for, with these values of its defaults.
 #[tactic(auto, using(crate::proofs::Refused::untyped_comes))]
-fn resolve<W: World, L: Ledger>(
+fn resolve<D: DmlRunner, W: World, L: Ledger>(
     full: &FullType,
     values: &[Tree],
     place: &Place,
     inside: &Inside<'_>,
-    execution: &Execution<'_, '_, '_, W, L>,
+    execution: &Execution<'_, '_, '_, D, W, L>,
 ) -> Result<SharedType, Stop>
     ensures { Executes resolved_seen result W.World execution.now execution.now
         (or_no_type place.now (type_of (known execution.now.program.types)
@@ -146,11 +147,11 @@ fn resolve<W: World, L: Ledger>(
 
 /// The type of a statement: the values of its defaults (Pan Book, "Types"), and then its names.
 #[tactic(auto, using(template_meaning::proofs::Leaving::leaving), unfolding(template_meaning::specs::Statements::type_run))]
-pub(crate) fn run_type<W: World, L: Ledger>(
+pub(crate) fn run_type<D: DmlRunner, W: World, L: Ledger>(
     full: &FullType,
     place: &Place,
     inside: &Inside<'_>,
-    execution: &mut Execution<'_, '_, '_, W, L>,
+    execution: &mut Execution<'_, '_, '_, D, W, L>,
 ) -> Result<SharedType, Stop>
     ensures gives { Executes resolved_seen result W.World execution.old execution.new
         (type_run (site_in W.World inside.now) (inside_of inside.now) place.now

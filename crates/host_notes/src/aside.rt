@@ -1,4 +1,4 @@
-use crate::notes::wants_notes;
+use crate::forms::form_in;
 use std::io;
 use std::io::{Stderr, Write};
 
@@ -11,7 +11,7 @@ pub struct Aside {
 impl Aside {
     /// Standard error, but where the variable PAN_NOTES is `off`.
     pub fn new(rt: &HostRuntime) -> Aside {
-        if !wants_notes(rt) {
+        if form_in(rt).is_none() {
             return Aside { to: None };
         }
         Aside {
