@@ -43,15 +43,20 @@ fn run<L: Ledger>(rt: &HostRuntime, blank: Blank) -> Result<Status, AllocError>
     let none = Vec::new(rt.alloc());
     // Words of which one is not UTF-8 are no command.
     let words = read.as_ref().unwrap_or(&none);
+    // (what can fail comes before what is large: each exit lets go of all that is there)
+    let asked = asked_of(rt.alloc(), words)?;
+    let for_source = rt.clone()?;
+    let for_shelf = rt.clone()?;
+    let for_keeper = rt.clone()?;
     let runner = Library::<DmlEvaluator>::new(rt.alloc());
     let devices = Devices {
-        source: HostSource::new(rt.clone()?),
-        shelf: HostShelf::new(rt.clone()?, asked_of(rt.alloc(), words)?),
+        source: HostSource::new(for_source),
+        shelf: HostShelf::new(for_shelf, asked),
         lines: HostLines::new(rt.reader()),
         out: KeepingSink::new(rt.alloc(), HostSink::new(rt.stdout(), Aside::new(rt))),
     };
     let mut steps = Steps::<L>::new(blank);
-    let keeper = HostKeeper::new(rt.clone()?);
+    let keeper = HostKeeper::new(for_keeper);
     let HandedBack {
         status,
         mut works,
