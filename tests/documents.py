@@ -5,7 +5,8 @@
 
 - docs/pan.1 is what docs/make_man.py makes of docs/COMMANDS.md, and groff shows it without a warning.
 - Each link of a document leads to a file that is there, as does each path in it, and README.md names each document.
-- What docs/ARCHITECTURE.md names as the definition or the code of a rule is there, as is each edit that docs/PROVED.md names.
+- What docs/ARCHITECTURE.md names as the definition or the code of a rule is there, as are each edit, clause, law and call
+  that docs/PROVED.md names.
 - docs/FAULTS.md and docs/LANGUAGE.md have each fault code of the compiler once; ./pan --help names each option.
 - What README.md shows is examples/first, and the program does it. The examples of the other documents are run by tests/run.
 - Each folder of examples/ is run by a row.
@@ -129,9 +130,26 @@ def edits_gone():
                 yield f"{crate}/{name}"
 
 
-def edits():
-    gone = sorted(set(edits_gone()))
-    yield f"edits of docs/PROVED.md {' '.join(gone)}".rstrip(), not gone
+def words_of_the_crates():
+    """The words of all code, definitions and proofs."""
+    files = (file for part in ("src", "specs", "proofs") for file in TOP.glob(f"crates/*/{part}/**/*.*t*"))
+    return {word for file in files for word in re.findall(r"\w+", file.read_text())}
+
+
+def clauses_gone():
+    """The names in the columns Call and Clause of PROVED.md's tables that stand in no crate; of a path and of a name that
+    is cut off with an ellipsis nothing is asked here."""
+    known = words_of_the_crates() | {crate.name for crate in (TOP / "crates").iterdir()}
+    rows = re.findall(r"^\| [^|]+ \| ([^|]+ \| [^|]+) \| [^|]+ \|$", (DOCS / "PROVED.md").read_text(), re.M)
+    for name in re.findall(r"`([^`]+)`", "\n".join(rows)):
+        words = [] if "/" in name or "…" in name else re.findall(r"[A-Za-z_]\w*", name)
+        yield from (word for word in words if word not in known)
+
+
+def proved():
+    for what, names in (("edits", edits_gone()), ("clauses", clauses_gone())):
+        gone = sorted(set(names))
+        yield f"{what} of docs/PROVED.md {' '.join(gone)}".rstrip(), not gone
 
 
 def codes():
@@ -187,7 +205,7 @@ def examples():
 
 def main():
     passed = failed = 0
-    for part in (man_page, links, paths, edits, codes, options, readme, examples):
+    for part in (man_page, links, paths, proved, codes, options, readme, examples):
         for name, is_well in part():
             passed, failed = passed + is_well, failed + (not is_well)
             if not is_well:
