@@ -107,8 +107,8 @@ impl Globals {
         ensures ok { OnOk result (self.new ≡ changed name.now last value self.old) }
         ensures before { OnErr result (self.new ≡ self.old) }
     {
-        let mark = if last { Some(name.share()?) } else { None };
         self.finals.reserve(1)?;
+        let mark = if last { Some(name.share()?) } else { None };
         if value.is_null() {
             self.variables.remove(name.as_str());
         } else {

@@ -1,9 +1,9 @@
-ghost use Rattle.std.specs.Prelude.{◌≡◌, ◌≢◌, [], false, IfErr, IfOk, OnErr, OnOk};
+ghost use Rattle.std.specs.Prelude.{◌≡◌, ◌≢◌, [], false, true, IfErr, IfOk, MatchOption, OnErr, OnOk};
 ghost use Rattle.std.specs.List.{list_any};
 ghost use Rattle.base.specs.Answers.{Gives};
 ghost use Rattle.path_tree.specs.Plain.{dict, no_fields};
 ghost use Rattle.path_tree.specs.declared.path.PutError.TheVariants as put_error;
-ghost use Rattle.assign_rules.specs.Profiles.{assign_refusal, assigned, are_in_line, begins_with, change_at, is_no_root, is_set, may_assign, put_into, with_change, IsLogOf};
+ghost use Rattle.assign_rules.specs.Profiles.{assign_refusal, assigned, are_in_line, begins_with, change_at, is_no_root, is_set, may_assign, put_into, with_change, with_tree, IsLogOf};
 
 use crate::terms::share_terms;
 use base::Seq;
@@ -166,17 +166,31 @@ impl Profile {
         if is_no_root(terms, &value) {
             return Err(AssignError::NotDict);
         }
-        let change = change_at(alloc, place, terms, &value)?;
-        let mark = if last {
-            Some(share_terms(alloc, terms)?)
-        } else {
-            None
-        };
+        self.put_value(alloc, place, terms, last, value)
+    }
+
+    // Puts a value at a path that is not final, where the whole tree stays a dict.
+    fn put_value(
+        &mut self,
+        alloc: Global,
+        place: &Place,
+        terms: &[Term],
+        last: bool,
+        value: Tree,
+    ) -> Result<(), AssignError>
+        requires { is_no_root terms.now value ≡ false }
+        ensures gives { Gives (λ _. self.new) assign_refusal result
+            (with_tree place.now terms.now last value self.old
+            (put_into (with_change terms.now value self.old.tree))) }
+        ensures before { OnErr result (self.new ≡ self.old) }
+        ensures memory { IfErr result (λ e. e ≢ AssignError.Put put_error.Memory) }
+    {
         self.log.reserve(1)?;
         self.finals.reserve(1)?;
+        let Added { change, path } = added_at(alloc, place, terms, last, &value)?;
         change_tree(alloc, terms, value, &mut self.tree)?;
         self.log.push(change).unwrap();
-        if let Some(path) = mark {
+        if let Some(path) = path {
             self.finals.push(path).unwrap();
         }
         Ok(())
@@ -227,6 +241,37 @@ fn change_at(
         },
         place: place.share()?,
         default: false,
+    })
+}
+
+// What an assignment adds to a profile beside its tree.
+#[derive(Drop)]
+struct Added {
+    // The change for the log.
+    change: Change,
+    // The path, where it is final from then on.
+    path: Option<Seq<Term>>,
+}
+
+fn added_at(
+    alloc: Global,
+    place: &Place,
+    terms: &[Term],
+    last: bool,
+    value: &Tree,
+) -> Result<Added, AllocError>
+    ensures log { IfOk result (λ added. added.change ≡ change_at place.now terms.now value.now) }
+    ensures path { IfOk result (λ added. MatchOption added.path (last ≡ false)
+        (λ path. (last ≡ true) × (path ≡ terms.now))) }
+{
+    let path = if last {
+        Some(share_terms(alloc, terms)?)
+    } else {
+        None
+    };
+    Ok(Added {
+        change: change_at(alloc, place, terms, value)?,
+        path,
     })
 }
 

@@ -1,8 +1,8 @@
-ghost use Rattle.std.specs.Prelude.{◌≡◌, ◌<◌, ◌≤◌, ◌+◌, ◌-◌, ◌*◌, ◌^◌, IfOk, MatchOption, Some, map};
+ghost use Rattle.std.specs.Prelude.{◌≡◌, ◌<◌, ◌≤◌, ◌+◌, ◌-◌, ◌*◌, ◌^◌, IfOk, MatchOption, Some, map, option_map};
 ghost use Rattle.std.specs.Char.{digit_value};
 ghost use Rattle.std.specs.List.{list_all};
 ghost use Rattle.base.specs.Integers.{digits_value};
-ghost use Rattle.command_words.specs.Commands.{number_within, number_given, limit_of, bound_of, is_part, directory_of, parts_of, are_parts, directories_among, directories_of, filled, within, limits_given, state_given, work_of, demonstration_of, pair_with, has_option, pair_of, is_word, command_by, command_of};
+ghost use Rattle.command_words.specs.Commands.{number_within, number_given, limit_of, bound_of, is_part, directory_of, parts_of, are_parts, directories_among, directories_of, filled, within, limits_given, state_given, work_with, work_of, demonstration_of, pair_with, has_option, pair_of, is_word, command_by, command_of};
 
 use crate::limits::{MAX_MACHINES, MAX_MOST_REMOVED, MAX_START};
 use crate::words::{Words, read};
@@ -217,6 +217,30 @@ fn state_given(given: Option<Text>) -> Option<Option<Text>>
     Some(Some(file))
 }
 
+/// What `build` works on, or None where a part of it is none.
+fn work_with(
+    source: Option<Text>,
+    out: Option<Text>,
+    directories: Option<Seq<Text>>,
+    limits: Option<Limits>,
+    state: Option<Option<Text>>,
+) -> Option<Work>
+    ensures { result ≡ work_with source out directories limits state }
+{
+    match (source, out, directories, limits, state) {
+        (Some(source), Some(out), Some(directories), Some(limits), Some(state)) => Some(Work {
+            source,
+            out,
+            directories,
+            iterations: limits.iterations,
+            recursion: limits.recursion,
+            most_removed: limits.most_removed,
+            state,
+        }),
+        _ => None,
+    }
+}
+
 /// What `build` works on, by the values of its words, or None where one is not of its form. LIST is 1 to `MAX_PARTS`
 /// parts joined by `:`, each `.`, which means the empty directory, or a file name; a number is decimal digits without a
 /// leading zero, from 1 to its limit, `--most-removed` from 0; FILE is not empty.
@@ -225,26 +249,13 @@ fn read_work(alloc: Global, words: Words) -> Result<Option<Work>, AllocError>
 {
     let limits = limits_given(&words);
     let directories = directories_of(alloc, &words.include)?;
-    match (
+    Ok(work_with(
         filled(words.source),
         filled(words.out),
         directories,
         limits,
         state_given(words.state),
-    ) {
-        (Some(source), Some(out), Some(directories), Some(limits), Some(state)) => {
-            Ok(Some(Work {
-                source,
-                out,
-                directories,
-                iterations: limits.iterations,
-                recursion: limits.recursion,
-                most_removed: limits.most_removed,
-                state,
-            }))
-        }
-        _ => Ok(None),
-    }
+    ))
 }
 
 /// A number and one more decimal digit, where 64 bits hold it.
@@ -371,33 +382,61 @@ fn is_word(word: &str, given: &Option<Text>) -> bool
     }
 }
 
+/// `build`, by the values of its words.
+fn read_build(alloc: Global, words: Words) -> Result<Option<Command>, AllocError>
+    ensures { IfOk result (λ command. command ≡ option_map Command.Build (work_of words)) }
+{
+    match read_work(alloc, words)? {
+        Some(work) => Ok(Some(Command::Build(work))),
+        None => Ok(None),
+    }
+}
+
+/// `watch`, by the values of its words.
+fn read_watch(alloc: Global, words: Words) -> Result<Option<Command>, AllocError>
+    ensures { IfOk result (λ command. command ≡ option_map Command.Watch (work_of words)) }
+{
+    match read_work(alloc, words)? {
+        Some(work) => Ok(Some(Command::Watch(work))),
+        None => Ok(None),
+    }
+}
+
+/// `demo`, by the values of its words.
+fn read_demo(words: &Words) -> Option<Command>
+    ensures { result ≡ option_map Command.Demo (demonstration_of words.now) }
+{
+    match read_demonstration(words) {
+        Some(demonstration) => Some(Command::Demo(demonstration)),
+        None => None,
+    }
+}
+
+/// `format`, by the values of its words.
+fn read_format(words: Words) -> Option<Command>
+    ensures { result ≡ option_map Command.Format (pair_of words) }
+{
+    match read_pair(words) {
+        Some(pair) => Some(Command::Format(pair)),
+        None => None,
+    }
+}
+
 /// The command, by MODE.
 fn command_by(alloc: Global, words: Words) -> Result<Option<Command>, AllocError>
     ensures { IfOk result (λ command. command ≡ command_by words) }
 {
     if is_word("build", &words.mode) {
-        return match read_work(alloc, words)? {
-            Some(work) => Ok(Some(Command::Build(work))),
-            None => Ok(None),
-        };
+        return read_build(alloc, words);
     }
     if is_word("watch", &words.mode) {
-        return match read_work(alloc, words)? {
-            Some(work) => Ok(Some(Command::Watch(work))),
-            None => Ok(None),
-        };
+        return read_watch(alloc, words);
     }
     if is_word("demo", &words.mode) {
-        return match read_demonstration(&words) {
-            Some(demonstration) => Ok(Some(Command::Demo(demonstration))),
-            None => Ok(None),
-        };
+        return Ok(read_demo(&words));
     }
     if is_word("format", &words.mode) {
-        return match read_pair(words) {
-            Some(pair) => Ok(Some(Command::Format(pair))),
-            None => Ok(None),
-        };
+        return Ok(read_format(words));
     }
     Ok(None)
 }

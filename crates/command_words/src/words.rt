@@ -81,19 +81,37 @@ fn value(alloc: Global, matches: &ArgMatches<'_>, id: &str) -> Result<Option<Tex
     }
 }
 
+/// The values of two arguments.
+fn two_values(
+    alloc: Global,
+    matches: &ArgMatches<'_>,
+    first: &str,
+    second: &str,
+) -> Result<(Option<Text>, Option<Text>), AllocError>
+    ensures { IfOk result (λ both. (both.0 ≡ first_value (found_of matches.now) first.now)
+        × (both.1 ≡ first_value (found_of matches.now) second.now)) }
+{
+    let first = value(alloc, matches, first)?;
+    Ok((first, value(alloc, matches, second)?))
+}
+
 fn values(alloc: Global, matches: &ArgMatches<'_>) -> Result<Words, AllocError>
     ensures { IfOk result (λ words. words ≡ words_by
         (λ id. first_value (found_of matches.now) id)) }
 {
+    let (mode, source) = two_values(alloc, matches, "mode", "source")?;
+    let (out, include) = two_values(alloc, matches, "out", "include")?;
+    let (iteration, recursion) = two_values(alloc, matches, "max-iteration", "max-recursion")?;
+    let (most_removed, state) = two_values(alloc, matches, "most-removed", "state")?;
     Ok(Words {
-        mode: value(alloc, matches, "mode")?,
-        source: value(alloc, matches, "source")?,
-        out: value(alloc, matches, "out")?,
-        include: value(alloc, matches, "include")?,
-        iteration: value(alloc, matches, "max-iteration")?,
-        recursion: value(alloc, matches, "max-recursion")?,
-        most_removed: value(alloc, matches, "most-removed")?,
-        state: value(alloc, matches, "state")?,
+        mode,
+        source,
+        out,
+        include,
+        iteration,
+        recursion,
+        most_removed,
+        state,
     })
 }
 

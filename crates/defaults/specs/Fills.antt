@@ -1,5 +1,5 @@
 -- What a function that fills returned, and left, is what the definition gives.
-use Rattle.std.specs.Prelude.{◌≡◌, List, Result, Ok, Err, Vec}
+use Rattle.std.specs.Prelude.{◌≡◌, ℕ, ◌+◌, List, Result, Ok, Err, Vec}
 use Rattle.std.specs.declared.alloc.Global.{Global}
 use Rattle.path_tree.specs.Plain.{Plain}
 use Rattle.pan_ast.specs.declared.change.Change.{Change}
@@ -32,8 +32,21 @@ abbrev pub Fills : {X : Type 0} → Result X Failure → Store → Work → Stor
 Fills r before work after left run = (answers : Answers) (asked : List Key)
     → Comes r after (meter left asked) (run answers before (meter work asked))
 
-abbrev pub target_store : Target → Store
+abbrev pub target_store : {L : Type 0} → Target L → Store
 target_store t = store t.tree t.log
+
+-- the same, of what is filled
+abbrev pub FillsTarget : {X L : Type 0} → Result X Failure → Target L → Target L → Fill → Type 0
+FillsTarget r before after run =
+    Fills r (target_store before) before.work (target_store after) after.work run
+
+-- the steps that were taken, and the work that is left
+abbrev pub total : {L : Type 0} → Target L → ℕ
+total t = t.steps.now + t.work.left
+
+-- the steps are those that were lent
+abbrev pub KeepsLoan : {L : Type 0} → Target L → Target L → Type 0
+KeepsLoan before after = after.steps.ghost_name ≡ before.steps.ghost_name
 
 -- this fault, or want of memory
 abbrev pub IsFault : Failure → Fault → Type 0

@@ -1,13 +1,11 @@
-ghost use Rattle.std.specs.Prelude.{◌≡◌, ◌+◌, IfSome, Some};
+ghost use Rattle.std.specs.Prelude.{◌≡◌, IfSome, Some};
 ghost use Rattle.type_defs.specs.ResolvedSeen.{resolved_seen, shape_seen};
 ghost use Rattle.defaults.specs.Bare.{bare_inside, bare_visits, each_visited, visited_times, visits_at};
-ghost use Rattle.defaults.specs.Fills.{Fills, target_store};
+ghost use Rattle.defaults.specs.Fills.{FillsTarget, KeepsLoan, total};
 
 use crate::target::{Target, take_step};
-use base::Steps;
 use pan_ast::{Failure, Place};
 use path_tree::Tree;
-use std::alloc::Global;
 use std::sync::ledger::Ledger;
 use type_defs::{Resolved, Shape};
 
@@ -59,20 +57,18 @@ pub(crate) fn visits_of(key: &str, resolved: &Resolved, whole: &Option<Tree>) ->
 /// So many visits.
 #[tactic(auto, using(crate::proofs::BareTypes::visits_end, crate::proofs::BareTypes::visits_more, crate::proofs::BareTypes::visits_leave))]
 pub(crate) fn visit_bare<L: Ledger>(
-    alloc: Global,
     place: &Place,
     visits: u64,
-    target: &mut Target,
-    steps: &mut Steps<L>,
+    target: &mut Target<'_, L>,
 ) -> Result<(), Failure>
     ensures path { target.new.path ≡ target.old.path }
     ensures tree { target.new.tree ≡ target.old.tree }
-    ensures fills { Fills result (target_store target.old) target.old.work
-        (target_store target.new) target.new.work (visited_times place.now visits) }
-    ensures counted { steps.new + target.new.work.left ≡ steps.old + target.old.work.left }
+    ensures fills { FillsTarget result target.old target.new (visited_times place.now visits) }
+    ensures counted { total target.new ≡ total target.old }
+    ensures lent { KeepsLoan target.old target.new }
 {
     for i in 0..visits {
-        take_step(alloc, place, target, steps)?;
+        take_step(place, target)?;
     }
     Ok(())
 }
@@ -80,20 +76,18 @@ pub(crate) fn visit_bare<L: Ledger>(
 /// So many visits for each of so many values.
 #[tactic(auto, using(crate::proofs::BareTypes::each_end, crate::proofs::BareTypes::each_more, crate::proofs::BareTypes::each_leaves))]
 pub(crate) fn visit_each<L: Ledger>(
-    alloc: Global,
     place: &Place,
     visits: u64,
     count: usize,
-    target: &mut Target,
-    steps: &mut Steps<L>,
+    target: &mut Target<'_, L>,
 ) -> Result<(), Failure>
     ensures path { target.new.path ≡ target.old.path }
-    ensures fills { Fills result (target_store target.old) target.old.work
-        (target_store target.new) target.new.work (each_visited place.now visits count) }
-    ensures counted { steps.new + target.new.work.left ≡ steps.old + target.old.work.left }
+    ensures fills { FillsTarget result target.old target.new (each_visited place.now visits count) }
+    ensures counted { total target.new ≡ total target.old }
+    ensures lent { KeepsLoan target.old target.new }
 {
     for i in 0..count {
-        visit_bare(alloc, place, visits, target, steps)?;
+        visit_bare(place, visits, target)?;
     }
     Ok(())
 }

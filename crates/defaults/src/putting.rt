@@ -1,13 +1,14 @@
 ghost use Rattle.std.specs.Prelude.{◌≡◌, IfOk, Some, option_copied, true};
 ghost use Rattle.path_tree.specs.Find.{get};
 ghost use Rattle.defaults.specs.Filled.{default_change, defaulted, is_missing};
-ghost use Rattle.defaults.specs.Fills.{Fills, target_store};
+ghost use Rattle.defaults.specs.Fills.{FillsTarget};
 
 use crate::target::{Target, fault};
 use base::Seq;
 use pan_ast::{Change, Code, Failure, Place};
 use path_tree::{Kind, PutError, Term, Tree};
 use std::alloc::{AllocError, Global};
+use std::sync::ledger::Ledger;
 use type_defs::{DefaultValue, push_terms};
 
 /// Whether a value is absent or undef.
@@ -43,27 +44,29 @@ fn default_change(
 /// as it is.
 #[inline(never)]
 #[tactic(auto, unfolding(crate::specs::Filled::defaulted))]
-pub(crate) fn put_missing(
-    alloc: Global,
+pub(crate) fn put_missing<L: Ledger>(
     place: &Place,
     default: &DefaultValue,
-    target: &mut Target,
+    target: &mut Target<'_, L>,
 ) -> Result<(), Failure>
     requires { is_missing (get target.now.path.items target.now.tree) ≡ true }
     ensures path { target.new.path ≡ target.old.path }
     ensures work { target.new.work ≡ target.old.work }
-    ensures fills { Fills result (target_store target.old) target.old.work
-        (target_store target.new) target.new.work
+    ensures steps { target.new.steps ≡ target.old.steps }
+    ensures fills { FillsTarget result target.old target.new
         (defaulted place.now (Some default.now) target.old.path.items) }
 {
-    let change = default_change(alloc, place, default, &target.path)?;
-    match target.tree.put(alloc, &target.path, default.tree().copy()?) {
+    let change = default_change(target.alloc, place, default, &target.path)?;
+    match target
+        .tree
+        .put(target.alloc, &target.path, default.tree().copy()?)
+    {
         Ok(()) => {
             target.log.push(change)?;
             Ok(())
         }
-        Err(PutError::TooLarge) => Err(fault(alloc, Code::TooLarge, place)),
-        Err(PutError::TooHigh) => Err(fault(alloc, Code::TooLarge, place)),
+        Err(PutError::TooLarge) => Err(fault(target.alloc, Code::TooLarge, place)),
+        Err(PutError::TooHigh) => Err(fault(target.alloc, Code::TooLarge, place)),
         Err(PutError::ThroughProperty(_)) => Ok(()),
         Err(PutError::KeyInList) => Ok(()),
         Err(PutError::IndexInDict) => Ok(()),

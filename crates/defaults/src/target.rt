@@ -1,8 +1,8 @@
-ghost use Rattle.std.specs.Prelude.{◌≡◌, ◌+◌, IfOk, option_copied};
+ghost use Rattle.std.specs.Prelude.{◌≡◌, IfOk, option_copied};
 ghost use Rattle.pan_ast.specs.Detail.{fault_at};
 ghost use Rattle.path_tree.specs.Find.{get};
 ghost use Rattle.defaults.specs.Filled.{visit};
-ghost use Rattle.defaults.specs.Fills.{Fills, IsFault, target_store};
+ghost use Rattle.defaults.specs.Fills.{FillsTarget, IsFault, KeepsLoan, total};
 
 use base::Steps;
 use pan_ast::{Change, Code, Failure, Fault, Place, Work};
@@ -11,13 +11,15 @@ use std::alloc::{AllocError, Global};
 use std::sync::ledger::Ledger;
 
 /// What is filled: the tree and the log of its changes, the path of the value that is filled now,
-/// and the work that is left.
+/// the work that is left, and the steps that are counted, which are lent by who began it.
 #[derive(Drop)]
-pub(crate) struct Target {
+pub(crate) struct Target<'s, L: Ledger> {
+    pub(crate) alloc: Global,
     pub(crate) tree: Tree,
     pub(crate) log: Vec<Change>,
     pub(crate) path: Vec<Term>,
     pub(crate) work: Work,
+    pub(crate) steps: &'s mut Steps<L>,
 }
 
 /// A value that was found, as one of its own.
@@ -30,7 +32,7 @@ pub(crate) fn copied(found: Option<&Tree>) -> Result<Option<Tree>, AllocError>
     }
 }
 
-impl Target {
+impl<'s, L: Ledger> Target<'s, L> {
     /// What stands at the path, looked up from the root.
     pub(crate) fn standing(&self) -> Result<Option<Tree>, AllocError>
         ensures { IfOk result (λ v. v ≡ get self.now.path.items self.now.tree) }
@@ -54,22 +56,17 @@ pub(crate) fn fault(alloc: Global, code: Code, place: &Place) -> Failure
 
 /// The step of a visit, for a binding at the place.
 #[tactic(auto, unfolding(crate::specs::Filled::visit))]
-pub(crate) fn take_step<L: Ledger>(
-    alloc: Global,
-    place: &Place,
-    target: &mut Target,
-    steps: &mut Steps<L>,
-) -> Result<(), Failure>
+pub(crate) fn take_step<L: Ledger>(place: &Place, target: &mut Target<'_, L>) -> Result<(), Failure>
     ensures path { target.new.path ≡ target.old.path }
     ensures tree { target.new.tree ≡ target.old.tree }
-    ensures fills { Fills result (target_store target.old) target.old.work
-        (target_store target.new) target.new.work (visit place.now) }
-    ensures counted { steps.new + target.new.work.left ≡ steps.old + target.old.work.left }
+    ensures fills { FillsTarget result target.old target.new (visit place.now) }
+    ensures counted { total target.new ≡ total target.old }
+    ensures lent { KeepsLoan target.old target.new }
 {
     if target.work.left == 0 {
-        return Err(fault(alloc, Code::WorkSpent, place));
+        return Err(fault(target.alloc, Code::WorkSpent, place));
     }
     target.work.left -= 1;
-    steps.tick();
+    target.steps.tick();
     Ok(())
 }

@@ -2,7 +2,7 @@ ghost use Rattle.std.specs.Prelude.{◌≡◌, ◌+◌, OnOk};
 ghost use Rattle.assign_rules.specs.Profiles.{IsLogOf};
 ghost use Rattle.type_defs.specs.BindingsSeen.{bindings_seen, bound_seen, bounds_seen};
 ghost use Rattle.defaults.specs.Filled.{all_filled, filled};
-ghost use Rattle.defaults.specs.Fills.{Fills, store, target_store};
+ghost use Rattle.defaults.specs.Fills.{Fills, FillsTarget, KeepsLoan, store, total};
 
 use crate::filling::fill_value;
 use crate::target::Target;
@@ -15,43 +15,31 @@ use std::sync::ledger::Ledger;
 use type_defs::{Bindings, Bound, push_terms};
 
 #[tactic(auto, using(crate::proofs::Lawful::leaving))]
-fn fill_bound<L: Ledger>(
-    alloc: Global,
-    bound: &Bound,
-    target: &mut Target,
-    steps: &mut Steps<L>,
-) -> Result<(), Failure>
-    ensures fills { let b = bound_seen bound.now in Fills result (target_store target.old)
-        target.old.work (target_store target.new) target.new.work
+fn fill_bound<L: Ledger>(bound: &Bound, target: &mut Target<'_, L>) -> Result<(), Failure>
+    ensures fills { let b = bound_seen bound.now in FillsTarget result target.old target.new
         (filled b.place b.resolved b.terms) }
-    ensures counted { steps.new + target.new.work.left ≡ steps.old + target.old.work.left }
+    ensures counted { total target.new ≡ total target.old }
+    ensures lent { KeepsLoan target.old target.new }
 {
     target.path.clear();
     push_terms(&mut target.path, bound.terms.as_slice())?;
     let found = target.standing()?;
     fill_value(
-        alloc,
         &bound.place,
         bound.resolved.as_resolved(),
         found.as_ref(),
         target,
-        steps,
     )
 }
 
 #[tactic(auto, using(crate::proofs::Loops::bounds_more, crate::proofs::Lawful::leaving))]
-fn fill_bounds<L: Ledger>(
-    alloc: Global,
-    bounds: &[Bound],
-    target: &mut Target,
-    steps: &mut Steps<L>,
-) -> Result<(), Failure>
-    ensures fills { Fills result (target_store target.old) target.old.work
-        (target_store target.new) target.new.work (all_filled (bounds_seen bounds.now)) }
-    ensures counted { steps.new + target.new.work.left ≡ steps.old + target.old.work.left }
+fn fill_bounds<L: Ledger>(bounds: &[Bound], target: &mut Target<'_, L>) -> Result<(), Failure>
+    ensures fills { FillsTarget result target.old target.new (all_filled (bounds_seen bounds.now)) }
+    ensures counted { total target.new ≡ total target.old }
+    ensures lent { KeepsLoan target.old target.new }
 {
     for bound in bounds {
-        fill_bound(alloc, bound, target, steps)?;
+        fill_bound(bound, target)?;
     }
     Ok(())
 }
@@ -69,15 +57,27 @@ fn fill_tree<L: Ledger>(
     ensures counted { steps.new + work.new.left ≡ steps.old + work.old.left }
 {
     let mut target = Target {
+        alloc,
         tree: mem::replace(tree, Tree::undef()),
         log: mem::replace(log, Vec::new(alloc)),
         path: Vec::new(alloc),
         work: *work,
+        steps,
     };
-    let filled = fill_bounds(alloc, bounds, &mut target, steps);
-    *tree = target.tree;
-    *log = target.log;
-    *work = target.work;
+    let filled = fill_bounds(bounds, &mut target);
+    let Target {
+        alloc: _,
+        tree: filled_tree,
+        log: longer,
+        path: _path,
+        work: left,
+        steps: lent,
+    } = target;
+    // (the loan ends by itself, so that what stands behind it is known)
+    let _steps = lent;
+    *tree = filled_tree;
+    *log = longer;
+    *work = left;
     filled
 }
 

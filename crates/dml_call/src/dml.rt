@@ -3,7 +3,7 @@ use base::Steps;
 use dml_eval::{Here, open_item};
 use dml_meaning::limits::MAX_OPEN_ITEMS;
 use dml_runner::DmlRunner;
-use dml_world::{Around, Evaluation, Exit, Live, SelfUse, Stop, World};
+use dml_world::{Around, Evaluation, Exit, Live, Stop, World};
 use pan_ast::{Item, Work};
 use path_tree::Tree;
 use std::alloc::Global;
@@ -18,19 +18,11 @@ impl DmlRunner for DmlEvaluator {
         alloc: Global,
         item: &Item,
         self_value: Tree,
-        self_use: SelfUse,
         around: &Around<'_>,
         world: &mut W,
         work: &mut Work,
         steps: &mut Steps<L>,
     ) -> Result<Tree, Stop> {
-        let inner = Around {
-            frame: around.frame,
-            self_use,
-            called: around.called,
-            calls_left: around.calls_left,
-            includes_left: around.includes_left,
-        };
         let mut evaluation = Evaluation {
             alloc,
             live: Live {
@@ -42,7 +34,7 @@ impl DmlRunner for DmlEvaluator {
             steps,
         };
         let here = Here {
-            around: &inner,
+            around,
             room: MAX_OPEN_ITEMS,
         };
         let end = open_item(item, here, &mut evaluation);

@@ -1,4 +1,5 @@
-ghost use Rattle.std.specs.Prelude.{◌≡◌, ◌++◌, IfOk, OnOk};
+ghost use Rattle.std.specs.Prelude.{◌≡◌, ◌++◌, is_some, map, IfOk, OnOk};
+ghost use Rattle.command_words.specs.Commands.{command_of};
 ghost use Rattle.end_notes.specs.Scan.{is_end, is_dashed, fits, stands_alone, takes_next, wrong_option, names_state, has_state, behind_option, places_in};
 
 use base::Text;
@@ -20,18 +21,40 @@ fn is_dashed(word: &[u8]) -> bool
     }
 }
 
+/// The texts of words.
+fn texts_of(alloc: Global, words: &[&str]) -> Result<Vec<Text>, AllocError>
+    ensures { IfOk result (λ texts. texts.items ≡ map (λ w. w.now) words.now) }
+{
+    let mut texts = Vec::with_capacity(alloc, words.len())?;
+    for word in words {
+        texts.push(Text::new(alloc, word)?)?;
+    }
+    Ok(texts)
+}
+
+fn push_words(into: &mut Vec<Text>, words: &[Text]) -> Result<(), AllocError>
+    ensures { OnOk result (into.new.items ≡ into.old.items ++ words.now) }
+{
+    for word in words {
+        into.push(word.share()?)?;
+    }
+    Ok(())
+}
+
+/// Whether the words are a command.
+fn is_command(alloc: Global, words: &[Text]) -> Result<bool, AllocError>
+    ensures { IfOk result (λ it. it ≡ is_some (command_of words.now)) }
+{
+    Ok(read_command(alloc, words)?.is_some())
+}
+
 /// Whether `build s o` with these words behind it is a command.
 fn fits(alloc: Global, words: &[Text]) -> Result<bool, AllocError>
     ensures { IfOk result (λ it. it ≡ fits words.now) }
 {
-    let mut all = Vec::new(alloc);
-    all.push(Text::new(alloc, "build")?)?;
-    all.push(Text::new(alloc, "s")?)?;
-    all.push(Text::new(alloc, "o")?)?;
-    for word in words {
-        all.push(word.share()?)?;
-    }
-    Ok(read_command(alloc, &all)?.is_some())
+    let mut all = texts_of(alloc, &["build", "s", "o"])?;
+    push_words(&mut all, words)?;
+    is_command(alloc, &all)
 }
 
 fn stands_alone(alloc: Global, words: &[Text]) -> Result<bool, AllocError>
@@ -103,15 +126,6 @@ fn behind_option(alloc: Global, words: &[Text]) -> Result<Next, AllocError>
         return Ok(Next::Free);
     }
     Ok(Next::Value)
-}
-
-fn push_words(into: &mut Vec<Text>, words: &[Text]) -> Result<(), AllocError>
-    ensures { OnOk result (into.new.items ≡ into.old.items ++ words.now) }
-{
-    for word in words {
-        into.push(word.share()?)?;
-    }
-    Ok(())
 }
 
 /// The words that are places.

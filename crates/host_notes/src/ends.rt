@@ -1,9 +1,9 @@
 use crate::notes::Told;
 use base::Text;
+use call_status::Status;
 use command_words::{Command, read_command};
 use end_notes::{Wrong, bad_rows_note, removals_note, trouble_note, usage_note, wrong_of};
 use outside::Trouble;
-use pan_top::Status;
 use std::alloc::AllocError;
 
 fn trouble_notes(rt: &HostRuntime, trouble: Option<&Trouble>) -> Result<Vec<u8>, AllocError> {

@@ -3,8 +3,8 @@ use crate::ends::end_notes;
 use crate::faults::report_notes;
 use crate::forms::form_in;
 use base::{Bytes, Text};
+use call_status::Status;
 use outside::Trouble;
-use pan_top::Status;
 use std::alloc::AllocError;
 use std::io::Write;
 

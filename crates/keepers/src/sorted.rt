@@ -1,4 +1,4 @@
-ghost use Rattle.std.specs.Prelude.{◌≡◌, ◌++◌, IfOk, OnOk};
+ghost use Rattle.std.specs.Prelude.{◌≡◌, ◌++◌, ◌∷◌, IfOk, OnOk};
 ghost use Rattle.keepers.specs.Keeping.{all_gone, all_set};
 ghost use Rattle.keepers.specs.Sorted.{without, with_row, Becomes};
 
@@ -30,6 +30,20 @@ fn without(alloc: Global, rows: &[StoredRow], name: &str) -> Result<Vec<StoredRo
     Ok(rest)
 }
 
+/// The rows so far, this one behind them, and the rest behind it.
+fn placed(
+    next: Vec<StoredRow>,
+    new: &StoredRow,
+    rest: &[StoredRow],
+) -> Result<Vec<StoredRow>, AllocError>
+    ensures { IfOk result (λ all. all.items ≡ next.items ++ new.now ∷ rest.now) }
+{
+    let mut all = next;
+    all.push(new.share()?)?;
+    add_copies(rest, &mut all)?;
+    Ok(all)
+}
+
 /// The rows with this one at its place, instead of the one with its name.
 fn with_row(
     alloc: Global,
@@ -42,20 +56,11 @@ fn with_row(
     for i in 0..rows.len() {
         match rows[i].name.as_str().cmp(new.name.as_str()) {
             Ordering::Less => next.push(rows[i].share()?)?,
-            Ordering::Equal => {
-                next.push(new.share()?)?;
-                add_copies(&rows[i + 1..], &mut next)?;
-                return Ok(next);
-            }
-            Ordering::Greater => {
-                next.push(new.share()?)?;
-                add_copies(&rows[i..], &mut next)?;
-                return Ok(next);
-            }
+            Ordering::Equal => return placed(next, new, &rows[i + 1..]),
+            Ordering::Greater => return placed(next, new, &rows[i..]),
         }
     }
-    next.push(new.share()?)?;
-    Ok(next)
+    placed(next, new, &[])
 }
 
 /// Takes the names out, one after the other.

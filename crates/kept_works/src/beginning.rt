@@ -1,6 +1,8 @@
 ghost use Rattle.std.specs.Prelude.{◌≡◌, IfOk, OnOk, Some, option_map, true};
 ghost use Rattle.kept_state.specs.Stored.{stored};
 ghost use Rattle.load_path.specs.Pictures.{are_short};
+ghost use Rattle.object_names.specs.Objects.{are_rising};
+ghost use Rattle.engine_turns.specs.Places.{file_names};
 ghost use Rattle.engine_turns.specs.States.{pictured};
 ghost use Rattle.engine_session.specs.Standing.{IsBegun, IsIn};
 ghost use Rattle.kept_works.specs.Kept.{is_under, begun_with, IsSoundFor};
@@ -9,6 +11,7 @@ use crate::pictures::picture_of;
 use base::{Seq, Text};
 use engine_rows::{RestoreError, restore};
 use engine_session::{Works, start};
+use engine_turns::Core;
 use kept_state::Kept;
 use load_path::Picture;
 use pan_ast::Limits;
@@ -40,6 +43,32 @@ fn replace<R: Runner>(
     *engine = new;
 }
 
+/// What is shared of an engine that goes on: its picture, and its directories for the runner and for its works.
+#[derive(Drop)]
+struct Shared {
+    picture: Picture,
+    of_runner: Seq<Text>,
+    directories: Seq<Text>,
+}
+
+/// Shares the picture and the directories of an engine's data.
+fn shared_of<T>(alloc: Global, core: &Core<T>) -> Result<Shared, AllocError>
+    requires rising { are_rising (file_names core.now.files.items) ≡ true }
+    requires short { are_short (pictured core.now.files.items) ≡ true }
+    ensures picture { IfOk result (λ shared. shared.picture ≡ pictured core.now.files.items) }
+    ensures of_runner { IfOk result (λ shared. shared.of_runner ≡ core.now.dirs) }
+    ensures directories { IfOk result (λ shared. shared.directories ≡ core.now.dirs) }
+{
+    let picture = picture_of(alloc, &core.files)?;
+    let of_runner = shared_texts(alloc, core.dirs.as_slice())?;
+    let directories = shared_texts(alloc, core.dirs.as_slice())?;
+    Ok(Shared {
+        picture,
+        of_runner,
+        directories,
+    })
+}
+
 /// Makes the engine this one, and gives the runner its files and its directories.
 fn resume<R: Runner>(
     alloc: Global,
@@ -50,10 +79,11 @@ fn resume<R: Runner>(
     ensures engine { OnOk result (works.new.engine ≡ engine) }
     ensures runs { R.runs_of works.new.runner ≡ R.runs_of works.old.runner }
 {
-    let core = engine.core();
-    let picture = picture_of(alloc, &core.files)?;
-    let of_runner = shared_texts(alloc, core.dirs.as_slice())?;
-    let directories = shared_texts(alloc, core.dirs.as_slice())?;
+    let Shared {
+        picture,
+        of_runner,
+        directories,
+    } = shared_of(alloc, engine.core())?;
     replace(
         &mut works.engine,
         &mut works.runner,

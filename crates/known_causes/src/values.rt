@@ -4,7 +4,7 @@ use dml_runner::DmlRunner;
 use engine_session::Works;
 use fault_causes::{Cause as Known, cause_of};
 use fault_notes::{Cause, Setter, shown_value};
-use object_run::Library;
+use object_run::{Library, Rest};
 use pan_ast::Place;
 use pan_blame::Leaf;
 use path_tree::Path;
@@ -13,14 +13,14 @@ use std::sync::ledger::Ledger;
 use wanted_types::wanted;
 use works_again::push_place;
 
-fn shown(alloc: Global, value: Option<String>) -> Result<Option<Bytes>, AllocError> {
+fn shown(alloc: Global, value: &Option<String>) -> Result<Option<Bytes>, AllocError> {
     match value {
         Some(text) => Ok(Some(Bytes::from_vec(shown_value(alloc, text.as_str())?)?)),
         None => Ok(None),
     }
 }
 
-fn setter_of(alloc: Global, leaf: Option<Leaf>) -> Result<Option<Setter>, AllocError> {
+fn setter_of(alloc: Global, leaf: &Option<Leaf>) -> Result<Option<Setter>, AllocError> {
     let Some(leaf) = leaf else {
         return Ok(None);
     };
@@ -32,6 +32,24 @@ fn setter_of(alloc: Global, leaf: Option<Leaf>) -> Result<Option<Setter>, AllocE
     }))
 }
 
+/// What a reader is told of a value at a path, for a fault at a place.
+fn told(
+    alloc: Global,
+    known: &Known<Rest>,
+    place: &Place,
+    path: &Path,
+) -> Result<Cause, AllocError> {
+    let bounds = known.built.rest.bindings().bounds();
+    let text = wanted(alloc, bounds, place, path.terms.as_slice())?;
+    Ok(Cause {
+        value: shown(alloc, &known.value)?,
+        wanted: Some(Bytes::from_vec(text)?),
+        looked_for: None,
+        set_by: setter_of(alloc, &known.setter)?,
+        trace: Seq::new(alloc),
+    })
+}
+
 /// What is known of the value at a path of an object, for a fault at a place.
 fn cause_at<D: DmlRunner, L: Ledger>(
     alloc: Global,
@@ -41,23 +59,10 @@ fn cause_at<D: DmlRunner, L: Ledger>(
     path: &Path,
     steps: &mut Steps<L>,
 ) -> Result<Cause, AllocError> {
-    let terms = path.terms.as_slice();
-    let Some(known) = cause_of(alloc, works, object, terms, steps)? else {
-        return Ok(Cause::unknown(alloc));
-    };
-    let Known {
-        built,
-        value,
-        setter,
-    } = known;
-    let text = wanted(alloc, built.rest.bindings().bounds(), place, terms)?;
-    Ok(Cause {
-        value: shown(alloc, value)?,
-        wanted: Some(Bytes::from_vec(text)?),
-        looked_for: None,
-        set_by: setter_of(alloc, setter)?,
-        trace: Seq::new(alloc),
-    })
+    match cause_of(alloc, works, object, path.terms.as_slice(), steps)? {
+        Some(known) => told(alloc, &known, place, path),
+        None => Ok(Cause::unknown(alloc)),
+    }
 }
 
 /// What is known of the value that a fault of an object is about.

@@ -14,7 +14,7 @@ use Rattle.validate.specs.declared.stop.Stop.TheVariants as check_stop
 use Rattle.validate.specs.Means.{Means}
 use Rattle.runner.specs.declared.ends.Built.{Built}
 use Rattle.template_meaning.specs.Program.{Site}
-use Rattle.template_run.specs.declared.site.Site.{Site as RSite}
+use Rattle.plain_statements.specs.declared.site.Site.{Site as RSite}
 use Rattle.object_meaning.specs.Rest.{Rest}
 use Rattle.object_meaning.specs.Checks.{means_of}
 

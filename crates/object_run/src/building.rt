@@ -6,7 +6,7 @@ ghost use Rattle.object_run.specs.Ended.{IsFilled, ended};
 ghost use Rattle.questions.specs.Contents.{Answers};
 ghost use Rattle.questions.specs.Told.{ToldEnough};
 ghost use Rattle.template_meaning.specs.Program.{no_program};
-ghost use Rattle.template_run.specs.Seen.{program_of, site_of};
+ghost use Rattle.plain_statements.specs.Seen.{program_of, site_of};
 
 use crate::rest::Rest;
 use base::Steps;
@@ -14,10 +14,11 @@ use defaults::fill;
 use dml_runner::DmlRunner;
 use dml_world::{Stop, World};
 use pan_ast::{Failure, Place, Work};
+use plain_statements::{Program, Site};
 use runner::Built;
 use std::alloc::Global;
 use std::sync::ledger::Ledger;
-use template_run::{Made, Program, Site, run_object};
+use template_run::{Made, run_object};
 
 /// What a build makes of a program, once its defaults are put into the tree.
 fn filled<W: World, L: Ledger>(

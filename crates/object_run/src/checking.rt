@@ -2,7 +2,7 @@ ghost use Rattle.std.specs.Prelude.{◌≡◌, ◌+◌};
 ghost use Rattle.dml_world.specs.Seen.{meter};
 ghost use Rattle.object_meaning.specs.Checks.{check_run};
 ghost use Rattle.object_run.specs.Testing.{case_of, case_site};
-ghost use Rattle.template_run.specs.Seen.{site_of};
+ghost use Rattle.plain_statements.specs.Seen.{site_of};
 ghost use Rattle.validate.specs.Exits.{Gives};
 
 use crate::rest::Rest;
@@ -11,12 +11,12 @@ use base::Steps;
 use dml_runner::DmlRunner;
 use dml_world::World;
 use pan_ast::Work;
+use plain_statements::Site;
 use runner::Built;
 use std::alloc::Global;
 use std::marker::PhantomData;
 use std::sync::ledger::Ledger;
-use template_run::Site;
-use validate::{Stop, check};
+use validate::{Stop, Subject, check};
 
 /// How a check ended, and the world that it leaves.
 #[derive(Drop)]
@@ -48,16 +48,13 @@ pub(crate) fn check_object<D: DmlRunner, T: Tested, W: World, L: Ledger>(
         dml: PhantomData,
         of: PhantomData,
     };
-    let end = check(
-        alloc,
-        &built.tree,
-        &rest.bindings,
-        &rest.valids,
-        &rest.header,
-        &mut tester,
-        work,
-        steps,
-    );
+    let subject = Subject {
+        root: &built.tree,
+        bindings: &rest.bindings,
+        valids: &rest.valids,
+        header: &rest.header,
+    };
+    let end = check(alloc, subject, &mut tester, work, steps);
     Tests {
         end,
         world: tester.world,

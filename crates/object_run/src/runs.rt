@@ -21,6 +21,7 @@ use dml_world::{Question, Stop};
 use load_path::Picture;
 use pan_ast::{Limits, Work};
 use path_tree::Name;
+use plain_statements::Site;
 use questions::Key;
 use read_sets::Trace;
 use run_world::{Kept, Notes, RunWorld, Words};
@@ -28,7 +29,6 @@ use runner::{BuildEnd, Built, CheckEnd, Known};
 use std::alloc::{AllocError, Global};
 use std::marker::PhantomData;
 use std::sync::ledger::{Blank, Ledger};
-use template_run::Site;
 
 /// How a run ended, what it leaves for the next one, and the work that it used.
 #[derive(Drop)]

@@ -4,7 +4,6 @@ ghost use Rattle.object_run.specs.Testing.{IsStopOf, case_means, case_of, case_s
 ghost use Rattle.object_meaning.proofs.BothLawful.{tests_leave};
 ghost use Rattle.dml_meaning.specs.declared.limits.TheConstants.{MAX_INCLUDES};
 ghost use Rattle.dml_world.specs.Answers.{looked_of};
-ghost use Rattle.dml_world.specs.declared.frame.SelfUse.TheVariants.{Changeable};
 ghost use Rattle.validate.specs.Means.{value_there};
 ghost use Rattle.object_run.specs.TestingSets.{IsCase-prop};
 
@@ -16,12 +15,12 @@ use dml_world::paths::{Looked, look_at};
 use dml_world::{Around, Frame, Question, SelfUse, World};
 use pan_ast::{Item, Place, Work};
 use path_tree::{Name, Path, Tree};
+use plain_statements::Site;
 use questions::Key;
 use runner::Built;
 use std::alloc::{AllocError, Global};
 use std::marker::{Brand, PhantomData};
 use std::sync::ledger::Ledger;
-use template_run::Site;
 use validate::{Evaluator, Stop};
 
 /// Of which object a check is, and over what was built.
@@ -71,10 +70,10 @@ fn stop_of(alloc: Global, stop: dml_world::Stop) -> Stop
 }
 
 /// What stands around a test, which is in no call of a function.
-fn around_in<'a>(frame: &'a Frame<'a>, max_recursion: u64) -> Around<'a>
+fn around_in<'a>(frame: &'a Frame<'a>, self_use: SelfUse, max_recursion: u64) -> Around<'a>
     ensures { result ≡ record {
       frame = frame.entry;
-      self_use = Changeable;
+      self_use = self_use;
       called = None;
       calls_left = max_recursion;
       includes_left = MAX_INCLUDES;
@@ -82,7 +81,7 @@ fn around_in<'a>(frame: &'a Frame<'a>, max_recursion: u64) -> Around<'a>
 {
     Around {
         frame,
-        self_use: SelfUse::Changeable,
+        self_use,
         called: None,
         calls_left: max_recursion,
         includes_left: MAX_INCLUDES,
@@ -108,7 +107,7 @@ impl<'a, D: DmlRunner, W: World, T: Tested> Evaluator for Tester<'a, D, W, T> {
 
     ghost leaves = { tests_leave (case_site T.case W.reading W.calls) W.plain T.case.built };
 
-    #[tactic(auto, using(crate::proofs::Stopping::stops))]
+    #[tactic(auto, using(crate::proofs::Stopping::stops), unfolding(dml_meaning::specs::Structures::dml_run))]
     fn value<L: Ledger>(
         &mut self,
         alloc: Global,
@@ -128,18 +127,9 @@ impl<'a, D: DmlRunner, W: World, T: Tested> Evaluator for Tester<'a, D, W, T> {
             dirs: self.site.dirs,
             max_iteration: self.site.limits.max_iteration,
         };
-        let around = around_in(&frame, self.site.limits.max_recursion);
+        let around = around_in(&frame, SelfUse::Fixed, self.site.limits.max_recursion);
         let value = self_value.copy()?;
-        match D::run_dml(
-            alloc,
-            item,
-            value,
-            SelfUse::Fixed,
-            &around,
-            &mut self.world,
-            work,
-            steps,
-        ) {
+        match D::run_dml(alloc, item, value, &around, &mut self.world, work, steps) {
             Ok(value) => Ok(value),
             Err(stop) => Err(stop_of(alloc, stop)),
         }
@@ -164,7 +154,7 @@ impl<'a, D: DmlRunner, W: World, T: Tested> Evaluator for Tester<'a, D, W, T> {
             dirs: self.site.dirs,
             max_iteration: self.site.limits.max_iteration,
         };
-        let around = around_in(&frame, self.site.limits.max_recursion);
+        let around = around_in(&frame, SelfUse::Changeable, self.site.limits.max_recursion);
         match look_at(
             alloc,
             place,

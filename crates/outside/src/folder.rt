@@ -112,7 +112,8 @@ impl Walk {
                 return Err(io::Error::other("too many entries"));
             }
             self.entries += 1;
-            if let Some(path) = path_of(self.alloc, folder, &entry?)? {
+            let path = path_of(self.alloc, folder, &entry?)?;
+            if let Some(path) = path {
                 found.push(path)?;
             }
         }
@@ -145,9 +146,10 @@ pub(crate) fn files_below<R: Files + AllocGlobal + Clone + Drop>(
     root: &str,
     place: &mut String,
 ) -> io::Result<Vec<Text>> {
-    let mut walk = Walk::new(rt.alloc());
     *place = String::from_str(rt.alloc(), root)?;
-    walk.list("", fs::read_dir(rt, root)?)?;
+    let entries = fs::read_dir(rt, root)?;
+    let mut walk = Walk::new(rt.alloc());
+    walk.list("", entries)?;
     for _ in 0..u64::MAX {
         let Some(next) = walk.pending.pop() else {
             break;

@@ -1,4 +1,4 @@
-ghost use Rattle.std.specs.Prelude.{◌≡◌, [], None, IfOk, option_copied};
+ghost use Rattle.std.specs.Prelude.{◌≡◌, ◌++◌, ◌∷◌, [], None, IfOk, option_copied};
 ghost use Rattle.outside.specs.Kept.{kept, without};
 
 use crate::error::StoreError;
@@ -55,6 +55,18 @@ fn take_out(alloc: Global, held: &[Held], name: &str) -> Result<Vec<Held>, Alloc
         }
     }
     Ok(rest)
+}
+
+/// The entries with other names, and behind them one with this name.
+fn put_in(alloc: Global, held: &[Held], name: &Text, bytes: &[u8]) -> Result<Vec<Held>, AllocError>
+    ensures { IfOk result (λ all. all.items ≡ without name.now held.now
+        ++ record { name = name.now; bytes = bytes.now } ∷ []) }
+{
+    let mut all = take_out(alloc, held, name.as_str())?;
+    let name = name.share()?;
+    let bytes = Bytes::from_slice(alloc, bytes)?;
+    all.push(Held { name, bytes })?;
+    Ok(all)
 }
 
 impl SureShelf {
@@ -130,13 +142,10 @@ impl Shelf for SureShelf {
 
     #[tactic(auto, using(crate::proofs::Keeping::cell_put))]
     fn put(&mut self, name: &str, bytes: &[u8]) -> Result<(), StoreError> {
-        let mut rest = take_out(self.alloc, &self.held, name)?;
         let name = Text::new(self.alloc, name)?;
-        let bytes = Bytes::from_slice(self.alloc, bytes)?;
-        let change = Change::Put(name.share()?);
-        rest.push(Held { name, bytes })?;
-        self.changes.push(change)?;
-        self.held = rest;
+        let held = put_in(self.alloc, &self.held, &name, bytes)?;
+        self.changes.push(Change::Put(name))?;
+        self.held = held;
         Ok(())
     }
 

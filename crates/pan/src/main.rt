@@ -8,13 +8,14 @@ mod causes;
 
 use crate::causes::EngineCauses;
 use base::{Steps, Text};
+use call_status::Status;
 use dml_call::DmlEvaluator;
 use end_notes::asked_of;
 use host_keeper::HostKeeper;
 use host_notes::{Aside, Told, write_notes};
 use object_run::Library;
 use outside::{HostLines, HostShelf, HostSink, HostSource, KeepingSink};
-use pan_top::{Devices, HandedBack, Status, pan};
+use pan_top::{Devices, HandedBack, pan};
 use std::alloc::AllocError;
 use std::marker::Brand;
 use std::process::ExitCode;
@@ -30,16 +31,21 @@ fn words(rt: &HostRuntime) -> io::Result<Vec<Text>> {
     Ok(words)
 }
 
+/// The words, or None where one of them is not UTF-8.
+fn read_words(rt: &HostRuntime) -> Result<Option<Vec<Text>>, AllocError> {
+    match words(rt) {
+        Ok(words) => Ok(Some(words)),
+        Err(error) if error.kind() == io::ErrorKind::OutOfMemory => Err(AllocError),
+        Err(_) => Ok(None),
+    }
+}
+
 fn run<L: Ledger>(rt: &HostRuntime, blank: Blank) -> Result<Status, AllocError>
     requires name { blank.name ≡ L.name }
     requires parts { blank.parts ≡ L.parts }
     requires some { 0 < blank.parts }
 {
-    let read = match words(rt) {
-        Ok(words) => Some(words),
-        Err(error) if error.kind() == io::ErrorKind::OutOfMemory => return Err(AllocError),
-        Err(_) => None,
-    };
+    let read = read_words(rt)?;
     let none = Vec::new(rt.alloc());
     // Words of which one is not UTF-8 are no command.
     let words = read.as_ref().unwrap_or(&none);

@@ -33,8 +33,8 @@ use Rattle.pan_top.specs.KeptBuilds.{KeptCall}
 use Rattle.pan_top.specs.KeptWatches.{KeptWatchCall}
 use Rattle.pan_top.specs.Demos.{shown_by, text_after}
 use Rattle.site_build.specs.Scenes.{Scene}
-use Rattle.pan_top.specs.declared.status.Status.{Status}
-use Rattle.pan_top.specs.declared.status.Status.TheVariants as S
+use Rattle.call_status.specs.declared.status.Status.{Status}
+use Rattle.call_status.specs.declared.status.Status.TheVariants as S
 use Rattle.pan_top.proofs.Counting.{counted_same}
 use Rattle.pan_top.proofs.Watched.{memory_wrote}
 

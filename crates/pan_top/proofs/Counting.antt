@@ -8,8 +8,9 @@ use Rattle.site_build.specs.Ends.{IsFailureOf}
 use Rattle.site_build.specs.declared.ends.Device.TheVariants as D
 use Rattle.site_build.specs.declared.ends.End.{End}
 use Rattle.site_build.specs.declared.ends.End.TheVariants as E
-use Rattle.pan_top.specs.Statuses.{status_after, status_of}
-use Rattle.pan_top.specs.declared.status.Status.TheVariants as S
+use Rattle.call_status.specs.Statuses.{status_after}
+use Rattle.pan_top.specs.Statuses.{status_of}
+use Rattle.call_status.specs.declared.status.Status.TheVariants as S
 
 -- no call failed
 pub counted_same : (failed : Type 0) (before now : ℕ) → now ≡ before → (failed → ⊥)

@@ -4,7 +4,7 @@ use Rattle.site_build.specs.Ends.{IsEndOf, OfSink}
 use Rattle.site_build.specs.declared.ends.End.{End}
 use Rattle.site_build.specs.declared.ends.End.TheVariants as E
 use Rattle.pan_top.specs.Statuses.{IsCut, Says, status_of}
-use Rattle.pan_top.specs.declared.status.Status.{Status}
+use Rattle.call_status.specs.declared.status.Status.{Status}
 
 -- a write that failed, or lacked memory
 pub sink_cut : (e : End) → IsEndOf OfSink e → IsCut (status_of e)

@@ -10,8 +10,9 @@ use Rattle.session.specs.Sessions.{Next, GoesOn, Quits, SpendsNumbers, IsTooMuch
 use Rattle.session.specs.declared.Ended.{Ended}
 use Rattle.session.specs.declared.Ended.TheVariants as ended
 use Rattle.pan_top.specs.Demos.{Shows}
-use Rattle.pan_top.specs.Statuses.{IsCut, Says, status_after}
-use Rattle.pan_top.specs.declared.status.Status.{Status}
+use Rattle.call_status.specs.Statuses.{status_after}
+use Rattle.pan_top.specs.Statuses.{IsCut, Says}
+use Rattle.call_status.specs.declared.status.Status.{Status}
 
 front : (a b : List ℕ) → take (length a) (a ++ b) ≡ a
 front [] b = refl

@@ -38,10 +38,10 @@ use Rattle.watch.specs.declared.ends.End.{End}
 use Rattle.watch.specs.declared.ends.End.TheVariants as ends
 use Rattle.pan_top.specs.Builds.{Wrote}
 use Rattle.site_build.specs.Scenes.{Scene}
-use Rattle.pan_top.specs.Statuses.{status_after}
+use Rattle.call_status.specs.Statuses.{status_after}
 use Rattle.pan_top.specs.Watches.{EndsWith, HasListed, Holds, IsOpening, IsPlayed, Plays, PlaysAll, PlaysTo, SourceAt, line_at, spot_in, status_at, unreported}
-use Rattle.pan_top.specs.declared.status.Status.{Status}
-use Rattle.pan_top.specs.declared.status.Status.TheVariants as S
+use Rattle.call_status.specs.declared.status.Status.{Status}
+use Rattle.call_status.specs.declared.status.Status.TheVariants as S
 use Rattle.pan_top.proofs.Counting.{counted_by, counted_same, not_out_after}
 
 -- what the source was opened at, by how the opening ended

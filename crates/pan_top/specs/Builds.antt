@@ -14,9 +14,10 @@ use Rattle.site_build.specs.declared.ends.Device.TheVariants as D
 use Rattle.site_build.specs.declared.ends.End.{End}
 use Rattle.site_build.specs.declared.ends.End.TheVariants as E
 use Rattle.site_build.specs.Scenes.{Scene}
-use Rattle.pan_top.specs.Statuses.{status_after, status_of, line_of, IsCut, Says}
-use Rattle.pan_top.specs.declared.status.Status.{Status}
-use Rattle.pan_top.specs.declared.status.Status.TheVariants as S
+use Rattle.call_status.specs.Statuses.{status_after}
+use Rattle.pan_top.specs.Statuses.{status_of, line_of, IsCut, Says}
+use Rattle.call_status.specs.declared.status.Status.{Status}
+use Rattle.call_status.specs.declared.status.Status.TheVariants as S
 
 -- what an end has written: a first part of the text where a write failed or memory was wanting,
 -- else

@@ -13,8 +13,8 @@ use Rattle.row_changes.specs.Stores.{Store}
 use Rattle.site_build.specs.Scenes.{Scene, OnlyWrites}
 use Rattle.pan_top.specs.Statuses.{Says}
 use Rattle.pan_top.specs.Watches.{WatchCall}
-use Rattle.pan_top.specs.declared.status.Status.{Status}
-use Rattle.pan_top.specs.declared.status.Status.TheVariants as S
+use Rattle.call_status.specs.declared.status.Status.{Status}
+use Rattle.call_status.specs.declared.status.Status.TheVariants as S
 
 -- words that are no command: a line is written
 pub record UsageCall (status : Status) (before after : Scene) : Type 0 where

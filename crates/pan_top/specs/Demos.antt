@@ -10,9 +10,10 @@ use Rattle.pan_ast.specs.declared.work.Limits.{Limits}
 use Rattle.rebuild.specs.Engines.{Meanings}
 use Rattle.session.specs.Sessions.{Next, state_in, end_of, end_line}
 use Rattle.site_build.specs.Scenes.{Scene, OnlyWrites}
-use Rattle.pan_top.specs.Statuses.{status_after, IsCut}
-use Rattle.pan_top.specs.declared.status.Status.{Status}
-use Rattle.pan_top.specs.declared.status.Status.TheVariants as S
+use Rattle.call_status.specs.Statuses.{status_after}
+use Rattle.pan_top.specs.Statuses.{IsCut}
+use Rattle.call_status.specs.declared.status.Status.{Status}
+use Rattle.call_status.specs.declared.status.Status.TheVariants as S
 
 abbrev pub limits_given : Demonstration → Limits
 limits_given d = record { max_iteration = d.iterations; max_recursion = d.recursion }

@@ -11,9 +11,10 @@ use Rattle.site_build.specs.Session.{TakesEarly, IsPerhapsOpened}
 use Rattle.site_build.specs.declared.ends.Device.TheVariants as D
 use Rattle.site_build.specs.declared.ends.End.{End}
 use Rattle.pan_top.specs.Builds.{Wrote}
-use Rattle.pan_top.specs.Statuses.{status_after, status_of, IsCut}
-use Rattle.pan_top.specs.declared.status.Status.{Status}
-use Rattle.pan_top.specs.declared.status.Status.TheVariants as S
+use Rattle.call_status.specs.Statuses.{status_after}
+use Rattle.pan_top.specs.Statuses.{status_of, IsCut}
+use Rattle.call_status.specs.declared.status.Status.{Status}
+use Rattle.call_status.specs.declared.status.Status.TheVariants as S
 
 module _ (pair : Pair) (status : Status) (before after : Scene) where
   -- it came to its end, and no call of a device failed

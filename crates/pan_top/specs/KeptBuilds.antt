@@ -10,9 +10,10 @@ use Rattle.rebuild.specs.Engines.{Meanings}
 use Rattle.session.specs.declared.Ended.{Ended}
 use Rattle.site_build.specs.Scenes.{Scene}
 use Rattle.pan_top.specs.Builds.{Wrote}
-use Rattle.pan_top.specs.Statuses.{IsCut, Says, status_after, status_of_kept}
-use Rattle.pan_top.specs.declared.status.Status.{Status}
-use Rattle.pan_top.specs.declared.status.Status.TheVariants as S
+use Rattle.call_status.specs.Statuses.{status_after}
+use Rattle.pan_top.specs.Statuses.{IsCut, Says, status_of_kept}
+use Rattle.call_status.specs.declared.status.Status.{Status}
+use Rattle.call_status.specs.declared.status.Status.TheVariants as S
 
 -- the line of an end, behind what was written
 abbrev pub Closes : End → Status → Option (List ℕ) → Option (List ℕ) → Type 0

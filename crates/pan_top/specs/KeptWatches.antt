@@ -12,8 +12,8 @@ use Rattle.site_build.specs.Scenes.{Scene}
 use Rattle.stored_rows.specs.declared.row.StoredRow.{StoredRow}
 use Rattle.pan_top.specs.KeptBuilds.{Closes}
 use Rattle.pan_top.specs.Watches.{Plays}
-use Rattle.pan_top.specs.declared.status.Status.{Status}
-use Rattle.pan_top.specs.declared.status.Status.TheVariants as S
+use Rattle.call_status.specs.declared.status.Status.{Status}
+use Rattle.call_status.specs.declared.status.Status.TheVariants as S
 
 module _ {T : Type 0} (means : Meanings T) (w : Work) (file : List ℕ) (status : Status)
     (before after : Scene) (store store_now : Store) where

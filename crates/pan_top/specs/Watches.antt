@@ -26,9 +26,10 @@ use Rattle.watch.specs.declared.ends.End.{End}
 use Rattle.watch.specs.declared.ends.End.TheVariants as W
 use Rattle.pan_top.specs.Builds.{Wrote}
 use Rattle.site_build.specs.Scenes.{Scene}
-use Rattle.pan_top.specs.Statuses.{status_after, Says}
-use Rattle.pan_top.specs.declared.status.Status.{Status}
-use Rattle.pan_top.specs.declared.status.Status.TheVariants as S
+use Rattle.call_status.specs.Statuses.{status_after}
+use Rattle.pan_top.specs.Statuses.{Says}
+use Rattle.call_status.specs.declared.status.Status.{Status}
+use Rattle.call_status.specs.declared.status.Status.TheVariants as S
 
 -- the status of a watcher whose lines did not end it, and the line of its end: where a text could
 -- not

@@ -3,8 +3,8 @@ ghost use Rattle.site_build.specs.Scenes.{scene};
 ghost use Rattle.pan_top.specs.Builds.{BuildCall};
 
 use crate::closing::close_build;
-use crate::status::Status;
 use base::Steps;
+use call_status::Status;
 use command_words::Work;
 use engine_session::Works;
 use outside::{Lines, Shelf, Sink, Source};

@@ -7,14 +7,26 @@ ghost use Rattle.pan_top.specs.Builds.{Wrote};
 ghost use Rattle.kept_build.specs.Ends.{IsFailure};
 ghost use Rattle.pan_top.specs.KeptBuilds.{Closes};
 ghost use Rattle.pan_top.specs.Statuses.{IsCut, Says, status_of, status_of_kept};
-ghost use Rattle.pan_top.specs.declared.status.Status.{Status};
+ghost use Rattle.call_status.specs.declared.status.Status.{Status};
 
-use crate::status::Status;
 use base::Text;
+use call_status::Status;
 use kept_build::End as KeptEnd;
 use outside::Sink;
 use site_build::{End, write};
 use std::alloc::{AllocError, Global};
+
+/// The status of a build that ended early.
+fn status_of(end: &End) -> Status
+    ensures { result ≡ status_of end.now }
+{
+    match end {
+        End::Source => Status::SourceFault,
+        End::Shelf | End::Publishing(_) => Status::ShelfFault,
+        End::Out => Status::OutFault,
+        End::Memory => Status::Memory,
+    }
+}
 
 /// Writes a line, and gives the status that goes with it, or that of the write that failed.
 pub fn say<O: Sink>(out: &mut O, line: &[u8], status: Status) -> Status
@@ -25,7 +37,7 @@ pub fn say<O: Sink>(out: &mut O, line: &[u8], status: Status) -> Status
 {
     match write(out, line) {
         Ok(()) => status,
-        Err(refused) => Status::of_end(&refused),
+        Err(refused) => status_of(&refused),
     }
 }
 

@@ -4,7 +4,7 @@ ghost use Rattle.engine_session.specs.Standing.{Counts};
 ghost use Rattle.pan_top.specs.Formats.{FormatCall};
 
 use crate::closing::close_build;
-use crate::status::Status;
+use call_status::Status;
 use command_words::Pair;
 use format_site::format_site;
 use outside::{Lines, Shelf, Sink, Source};

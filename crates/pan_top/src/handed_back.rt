@@ -1,6 +1,6 @@
 ghost use Rattle.std.specs.Prelude.{◌≡◌};
 
-use crate::status::Status;
+use call_status::Status;
 use engine_session::Works;
 use kept_build::KeptDevices;
 use runner::Runner;

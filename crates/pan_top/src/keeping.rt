@@ -4,8 +4,8 @@ ghost use Rattle.pan_top.specs.KeptBuilds.{KeptCall};
 ghost use Rattle.site_build.specs.Scenes.{scene};
 
 use crate::closing::close_kept;
-use crate::status::Status;
 use base::Steps;
+use call_status::Status;
 use engine_session::Works;
 use keepers::Keeper;
 use kept_build::{KeptDevices, KeptWork, build_kept};

@@ -3,11 +3,11 @@ ghost use Rattle.engine_session.specs.Standing.{Counts, counts};
 ghost use Rattle.outside.specs.Causes.{Counted};
 ghost use Rattle.pan_top.specs.Demos.{Shows, limits_given, shown_by};
 ghost use Rattle.site_build.specs.Scenes.{Scene};
-ghost use Rattle.pan_top.specs.declared.status.Status.{Status};
+ghost use Rattle.call_status.specs.declared.status.Status.{Status};
 
 use crate::closing::say;
-use crate::status::Status;
 use base::Steps;
+use call_status::Status;
 use command_words::Demonstration;
 use demo::{End, Plan, demo};
 use engine_session::Works;

@@ -20,12 +20,12 @@ ghost use Rattle.watch.specs.Sites.{IsReady, MayKeep};
 ghost use Rattle.watch.specs.declared.ends.End.TheVariants as ends;
 ghost use Rattle.site_build.specs.Scenes.{scene};
 ghost use Rattle.pan_top.specs.Watches.{EndsWith, HasListed, IsOpening, PlaysAll, SourceAt, WatchCall, held_by, line_at, status_at};
-ghost use Rattle.pan_top.specs.declared.status.Status.{Status};
+ghost use Rattle.call_status.specs.declared.status.Status.{Status};
 
 use crate::closing::{close_build, close_kept, say};
 use crate::handed_back::{HandedBack, beside, hand_back, hand_back_kept};
-use crate::status::Status;
 use base::{Steps, Text};
+use call_status::Status;
 use command_words::Work;
 use engine_session::{KeptTexts, Works, start};
 use keepers::Keeper;

@@ -1,4 +1,2 @@
 pub mod Items
-pub mod Programs
-pub mod Refused
 pub mod Stopping

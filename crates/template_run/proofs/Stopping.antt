@@ -1,39 +1,29 @@
 -- How a run ends where a part of it does: with what the part ends with, and at want of memory as
--- what
--- goes on behind it leaves no more work.
-use Rattle.std.proofs.Common.{◌≡◌, ap, refl, ℕ, ◌+◌, ◌-◌, ◌<◌, nat_eq, Bool, true, false, cond, List, ◌∷◌, [], ◌++◌, Option, Some, None, map, length, drop, get_or, arith}
-use Rattle.std.specs.Borrow.{Bor}
-use Rattle.path_tree.specs.Plain.{Plain}
+-- what goes on behind it leaves no more work.
+use Rattle.std.proofs.Common.{◌≡◌, ap, refl, ℕ, ◌+◌, ◌-◌, ◌<◌, nat_eq, Bool, true, false, cond, List, map, length, drop, get_or}
 use Rattle.pan_ast.specs.declared.place.Place.{Place}
-use Rattle.pan_ast.specs.declared.fault.Code.{Code}
 use Rattle.pan_ast.specs.declared.fault.Code.TheVariants as code
-use Rattle.pan_ast.specs.declared.syntax.Item.{Item as RItem}
 use Rattle.pan_ast.specs.declared.template.Statement.{Statement as RStatement}
-use Rattle.pan_ast.specs.Seen.{item_seen}
 use Rattle.pan_ast.specs.Templates.{Template, Statement}
 use Rattle.pan_ast.specs.TemplatesSeen.{statement_seen}
 use Rattle.questions.specs.Laws.{MayAsk}
 use Rattle.questions.specs.Contents.{Answers}
-use Rattle.questions.specs.Run.{Meter, Outcome, Done, ◌>>=◌, give, fail, beside, step, stepped}
-use Rattle.questions.specs.Told.{LeavesAtMost}
+use Rattle.questions.specs.Run.{Meter, Outcome, ◌>>=◌, give, fail, beside, step, stepped}
 use Rattle.questions.proofs.Runs.{Leaves, left_within}
 use Rattle.dml_meaning.specs.declared.limits.TheConstants.{MAX_INCLUDES}
 use Rattle.dml_meaning.specs.Laws.{IsReading}
-use Rattle.dml_meaning.specs.Lookups.{template_named}
 use Rattle.dml_meaning.proofs.Leaves.{pieces}
-use Rattle.dml_meaning.proofs.Leaving.{template_leaves}
 use Rattle.dml_world.specs.declared.stop.Stop.{Stop}
 use Rattle.dml_world.specs.declared.stop.Stop.TheVariants as stop
 use Rattle.dml_world.specs.Exits.{Stops}
 use Rattle.dml_world.proofs.Ends.{beside_leaves, stops_then}
-use Rattle.template_meaning.specs.Program.{Site, Program, Inside, around_in, at_top, no_program}
-use Rattle.template_meaning.specs.Statements.{Prefixed, default_run, defaults_run, form_run, included, may_stand, named_in, or_fail_about, statement_run, statements_run, template_run}
+use Rattle.template_meaning.specs.Program.{Site, Program, Inside, at_top, no_program}
+use Rattle.template_meaning.specs.Statements.{Prefixed, form_run, included, may_stand, named_in, statement_run, statements_run, template_run}
 use Rattle.template_meaning.specs.Objects.{object_run, run_top, top_place}
 use Rattle.template_meaning.proofs.EachStatement.{form_lawful, included_lawful, statements_lawful}
 use Rattle.template_meaning.proofs.OfObjects.{suits}
-use Rattle.template_meaning.proofs.Leaving.{defaults_leave, statements_leave, template_run_leaves}
-use Rattle.template_run.specs.Seen.{items_at}
-use Rattle.template_run.proofs.Items.{defaults_more, included_more, statements_more}
+use Rattle.template_meaning.proofs.Leaving.{statements_leave, template_run_leaves}
+use Rattle.template_run.proofs.Items.{included_more, statements_more}
 
 -- a run without state, beside one
 stops_beside : {X : Type 0} → (x : Stop) (s : Program) (m : Meter) (z : Outcome (Unit {0}) X)
@@ -47,19 +37,7 @@ step_beside : (b : Bool) (p : Place) (s : Program) (m : Meter) → stepped b p s
 step_beside true p s m = refl
 step_beside false p s m = refl
 
--- what is there, or a fault
-pub sought_leaves : {X : Type 0} → (c : Code) (p : Place) (d : List ℕ) (o : Option X)
-    → Leaves (or_fail_about c p d o)
-sought_leaves c p d (Some x) o s m = omega arith
-sought_leaves c p d None o s m = omega arith
-
 module _ (site : Site) (w : IsReading site.reading) where
-  pub named_leaves : (n : Inside) (p : Place) (name : List ℕ) (o : Answers) (s : Program)
-      (m : Meter) → LeavesAtMost m.left (named_in site n p name o s m)
-  named_leaves n p name o s m =
-      beside_leaves s m.left (template_named (around_in site n s) p name o tt m)
-      (template_leaves (around_in site n s) w p name o tt m)
-
   pub statements_stop : (x : Stop) (k : ℕ) (n : Inside) (q : Prefixed) (ss : List RStatement)
       (i : ℕ) (f : RStatement) (o : Answers) (s : Program) (m l : Meter) → i < length ss → f
       ≡ get_or ss i f → Stops x l (statement_run (included k site) site n q (statement_seen f) o s
@@ -99,25 +77,6 @@ module _ (site : Site) (w : IsReading site.reading) where
       (stops_then x l (named_in site n p name o s m)
       (λ z. template_run (included (k - 1) site) site n p name z o)
       (λ z. template_run_leaves site w (k - 1) n p name z o) end)
-
-  pub defaults_stop : (x : Stop) (n : Inside) (is : List (Bor RItem)) (i : ℕ) (f : Bor RItem)
-      (done : List Plain) (o : Answers) (s : Program) (m l : Meter) → i < length is → f
-      ≡ get_or is i f → Stops x l (default_run site n (item_seen f.now) o s m)
-      → Stops x l (defaults_run site n (items_at (drop i is)) done o s m)
-  defaults_stop x n is i f done o s m l below same end =
-      rw (defaults_more site n is i f done o s m below same)
-      (stops_then x l (default_run site n (item_seen f.now) o s m)
-      (λ t. defaults_run site n (items_at (drop (i + 1) is)) (done ++ t ∷ []) o)
-      (λ t. defaults_leave site w n (items_at (drop (i + 1) is)) (done ++ t ∷ []) o) end)
-
-  -- a value that cannot be kept
-  pub defaults_left : (n : Inside) (is : List (Bor RItem)) (i : ℕ) (f : Bor RItem)
-      (done : List Plain) (t : Plain) (o : Answers) (s c : Program) (m l : Meter) → i < length is
-      → f ≡ get_or is i f → default_run site n (item_seen f.now) o s m ≡ Done t c l
-      → LeavesAtMost l.left (defaults_run site n (items_at (drop i is)) done o s m)
-  defaults_left n is i f done t o s c m l below same made =
-      rw (defaults_more site n is i f done o s m below same, made)
-      (defaults_leave site w n (items_at (drop (i + 1) is)) (done ++ t ∷ []) o c l)
 
   top_leaves : (z : Template) → Leaves (run_top site z >>= (λ _. give z.place))
   top_leaves z =

@@ -1,4 +1,4 @@
--- What a function of the run returned, and left, is what a run by the definitions gives.
+-- What the statements of an object have made is what its run by the definitions gives.
 use Rattle.std.specs.Prelude.{◌≡◌, Result, Ok, Err}
 use Rattle.questions.specs.Contents.{Answers}
 use Rattle.questions.specs.Run.{Meter, Outcome, Done}
@@ -8,14 +8,8 @@ use Rattle.dml_world.specs.Exits.{Stops}
 use Rattle.pan_ast.specs.declared.place.Place.{Place}
 use Rattle.template_meaning.specs.Program.{Program, no_program}
 use Rattle.template_meaning.specs.Statements.{Run}
+use Rattle.plain_statements.specs.Seen.{program_of}
 use Rattle.template_run.specs.declared.objects.Made.{Made}
-use Rattle.template_run.specs.Seen.{program_of}
-
--- its value, with the program and the work that are left; or its fault or its question
-abbrev pub Comes : {X Y : Type 0} → (X → Y) → Result X Stop → Program → Meter → Outcome Program Y
-    → Type 0
-Comes view (Ok x) s m o = o ≡ Done (view x) s m
-Comes view (Err x) s m o = Stops x m o
 
 abbrev pub Makes : Result Made Stop → Meter → Outcome Program Place → Type 0
 Makes (Ok x) m o = o ≡ Done x.header (program_of x.program) m

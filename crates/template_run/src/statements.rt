@@ -4,22 +4,22 @@ ghost use Rattle.std.specs.Str.{bytes_eq};
 ghost use Rattle.pan_ast.specs.Seen.{item_seen};
 ghost use Rattle.pan_ast.specs.TemplatesSeen.{form_seen, statement_seen, template_seen};
 ghost use Rattle.template_meaning.specs.Statements.{form_run, include_run, include_value, included, may_include, may_stand, runs_once, starts, statement_run, statements_run, template_run};
-ghost use Rattle.template_run.specs.Executions.{Executes, KeepsLoans, total};
-ghost use Rattle.template_run.specs.Seen.{includes_in, inside_of, site_in};
+ghost use Rattle.plain_statements.specs.Executions.{Executes, KeepsLoans, total};
+ghost use Rattle.plain_statements.specs.Seen.{inside_of, site_in};
+ghost use Rattle.template_run.specs.Includes.{includes_in};
 
-use crate::assignments::{Assignment, assign};
-use crate::definitions::{add_valid, bind, define_function, define_type};
-use crate::dml::{find_named, run_in};
-use crate::execution::Execution;
-use crate::paths::{Prefix, run_prefix};
-use crate::site::Inside;
-use crate::variables::{Variable, run_variable};
 use dml_meaning::Test;
 use dml_runner::DmlRunner;
 use dml_world::leaf::{passed, passes, spend_step, stop_on};
 use dml_world::{SelfUse, Stop, World};
 use pan_ast::{Code, Item, Place, Statement, StatementForm, Template, TemplateKind};
 use path_tree::{Name, Tree};
+use plain_statements::assignments::{Assignment, assign};
+use plain_statements::definitions::{add_valid, bind, define_function, define_type};
+use plain_statements::dml::{find_named, run_in};
+use plain_statements::paths::{Prefix, run_prefix};
+use plain_statements::variables::{Variable, run_variable};
+use plain_statements::{Execution, Inside};
 use std::sync::ledger::Ledger;
 
 /// Whether a statement may stand in a template of a kind.

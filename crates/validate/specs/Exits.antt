@@ -14,7 +14,7 @@ use Rattle.validate.specs.declared.refusal.Misfit.{Misfit}
 use Rattle.validate.specs.declared.refusal.Refusal.{Refusal as RRefusal}
 use Rattle.validate.specs.declared.stop.Stop.{Stop}
 use Rattle.validate.specs.declared.stop.Stop.TheVariants as stop
-use Rattle.validate.specs.Refusals.{Refusal, Checks}
+use Rattle.validate.specs.Refusals.{Refusal}
 
 abbrev pub meter : Work → List Key → Meter
 meter work asked = record { left = work.left; asked = asked }
@@ -44,11 +44,6 @@ abbrev pub ComesOrRefuses : {X Y : Type 0} → (X → Y) → Result X Exit → M
 ComesOrRefuses view (Ok x) m o = o ≡ Done (Ok (view x)) tt m
 ComesOrRefuses view (Err (exit.Refused r)) m o = o ≡ Done (Err (refusal_seen r)) tt m
 ComesOrRefuses view (Err (exit.Stopped s)) m o = Ends s m o
-
-abbrev pub Judges : {X Y : Type 0} → (X → Y) → Result X Exit → Answers → Work → List Key → Work
-    → List Key → Checks Y → Type 0
-Judges view r answers before old after new run = ToldEnough answers old new (λ told.
-    ComesOrRefuses view r (meter after new) (run told tt (meter before old)))
 
 -- this fault, or want of memory
 abbrev pub IsFault : Stop → Fault → Type 0

@@ -11,6 +11,7 @@ pub mod Steady
 pub mod Sound
 -- How contracts say that code gives what runs give, and the steps that code makes one at a time.
 pub mod Exits
+pub mod Validations
 pub mod Keys
 pub mod Statements
 pub mod Walks

@@ -1,14 +1,15 @@
-ghost use Rattle.std.specs.Prelude.{◌≡◌, ◌+◌, ◌∷◌, [], IfOk};
+ghost use Rattle.std.specs.Prelude.{◌≡◌, ◌∷◌, [], IfOk};
 ghost use Rattle.pan_ast.specs.Detail.{fault_at, fault_with};
 ghost use Rattle.path_tree.specs.declared.path.Term.TheVariants as term;
 ghost use Rattle.validate.specs.Check.{visit};
-ghost use Rattle.validate.specs.Exits.{Gives, IsFault, IsRefusal, refusal_seen};
+ghost use Rattle.validate.specs.Exits.{IsFault, IsRefusal, refusal_seen};
+ghost use Rattle.validate.specs.Validations.{KeepsLoans, Validates, total};
 
 use crate::evaluator::Evaluator;
 use crate::refusal::{Exit, Misfit, Refusal};
 use crate::stop::Stop;
-use base::Steps;
-use pan_ast::{Code, Fault, Place, Work};
+use crate::validation::Validation;
+use pan_ast::{Code, Fault, Place};
 use path_tree::{Key, Term};
 use std::alloc::{AllocError, Global};
 use std::sync::ledger::Ledger;
@@ -46,21 +47,19 @@ pub(crate) fn fault(alloc: Global, code: Code, place: &Place) -> Stop
 #[inline(always)]
 #[tactic(auto, unfolding(crate::specs::Check::visit))]
 pub(crate) fn take_step<L: Ledger, E: Evaluator>(
-    alloc: Global,
     place: &Place,
-    evaluator: &E,
-    work: &mut Work,
-    steps: &mut Steps<L>,
+    validation: &mut Validation<'_, '_, E, L>,
 ) -> Result<(), Stop>
-    ensures gives { Gives (λ x. x) result E.answers work.old (E.asked evaluator.now) work.new
-        (E.asked evaluator.now) (visit place.now) }
-    ensures counted { steps.new + work.new.left ≡ steps.old + work.old.left }
+    ensures gives { Validates (λ x. x) result E.Evaluator validation.old validation.new
+        (visit place.now) }
+    ensures counted { total validation.new ≡ total validation.old }
+    ensures lent { KeepsLoans validation.old validation.new }
 {
-    if work.left == 0 {
-        return Err(fault(alloc, Code::WorkSpent, place));
+    if validation.work.left == 0 {
+        return Err(fault(validation.alloc, Code::WorkSpent, place));
     }
-    work.left -= 1;
-    steps.tick();
+    validation.work.left -= 1;
+    validation.steps.tick();
     Ok(())
 }
 

@@ -9,6 +9,7 @@ ghost use Rattle.validate.specs.Exits.{Comes, ComesOrRefuses, Gives, IsFault};
 ghost use Rattle.validate.specs.Refusals.{Refusal as Refused};
 ghost use Rattle.validate.specs.Sound.{ChecksSoundness};
 ghost use Rattle.validate.specs.Statements.{valids_seen};
+ghost use Rattle.validate.specs.Validations.{KeepsLoans, Validates, total};
 
 use crate::checking::check_value;
 use crate::evaluator::Evaluator;
@@ -16,6 +17,7 @@ use crate::leaf::{fault, fault_on};
 use crate::refusal::Exit;
 use crate::stop::Stop;
 use crate::undefs::first_undef;
+use crate::validation::Validation;
 use base::{Seq, Steps};
 use pan_ast::{Code, Place, Work};
 use path_tree::{Anchor, Path, Term, Tree};
@@ -65,83 +67,74 @@ fn placed(alloc: Global, bound: &Bound, checked: Result<(), Exit>) -> Result<(),
     }
 }
 
-fn check_undef<E: Evaluator>(
-    alloc: Global,
+fn check_undef<L: Ledger, E: Evaluator>(
     header: &Place,
     root: &Tree,
-    evaluator: &E,
-    work: &Work,
+    validation: &Validation<'_, '_, E, L>,
 ) -> Result<(), Stop>
-    ensures { Gives (λ x. x) result E.answers work.now (E.asked evaluator.now) work.now
-        (E.asked evaluator.now) (undef_run header.now (first_undef root.now)) }
+    ensures { Validates (λ x. x) result E.Evaluator validation.now validation.now
+        (undef_run header.now (first_undef root.now)) }
 {
-    match first_undef(alloc, root)? {
+    match first_undef(validation.alloc, root)? {
         None => Ok(()),
-        Some(terms) => Err(path_fault(alloc, Code::UndefLeft, header, &terms, &[])),
+        Some(terms) => Err(path_fault(validation.alloc, Code::UndefLeft, header, &terms, &[])),
     }
 }
 
 /// A binding and the value at its path, which is to conform to its type.
 #[tactic(auto, unfolding(crate::specs::Checked::bound_run))]
 fn check_there<L: Ledger, E: Evaluator>(
-    alloc: Global,
     bound: &Bound,
     value: &Tree,
-    evaluator: &mut E,
-    work: &mut Work,
-    steps: &mut Steps<L>,
+    validation: &mut Validation<'_, '_, E, L>,
 ) -> Result<(), Stop>
-    ensures gives { Gives (λ x. x) result E.answers work.old (E.asked evaluator.old) work.new
-        (E.asked evaluator.new) (bound_run E.means (bound_seen bound.now) (Some value.now)) }
-    ensures counted { steps.new + work.new.left ≡ steps.old + work.old.left }
+    ensures gives { Validates (λ x. x) result E.Evaluator validation.old validation.new
+        (bound_run E.means (bound_seen bound.now) (Some value.now)) }
+    ensures counted { total validation.new ≡ total validation.old }
+    ensures lent { KeepsLoans validation.old validation.new }
 {
     let place = &bound.place;
     let resolved = bound.resolved.as_resolved();
     placed(
-        alloc,
+        validation.alloc,
         bound,
-        check_value(alloc, place, resolved, value, evaluator, work, steps),
+        check_value(place, resolved, value, validation),
     )
 }
 
 /// A binding, whose path is to have a value.
 #[tactic(auto, unfolding(crate::specs::Checked::bound_run))]
 fn check_bound<L: Ledger, E: Evaluator>(
-    alloc: Global,
     root: &Tree,
     bound: &Bound,
-    evaluator: &mut E,
-    work: &mut Work,
-    steps: &mut Steps<L>,
+    validation: &mut Validation<'_, '_, E, L>,
 ) -> Result<(), Stop>
-    ensures gives { Gives (λ x. x) result E.answers work.old (E.asked evaluator.old) work.new
-        (E.asked evaluator.new) (bound_run E.means (bound_seen bound.now)
-        (get bound.now.terms root.now)) }
-    ensures counted { steps.new + work.new.left ≡ steps.old + work.old.left }
+    ensures gives { Validates (λ x. x) result E.Evaluator validation.old validation.new
+        (bound_run E.means (bound_seen bound.now) (get bound.now.terms root.now)) }
+    ensures counted { total validation.new ≡ total validation.old }
+    ensures lent { KeepsLoans validation.old validation.new }
 {
     let at = &bound.place;
     let terms = bound.terms.as_slice();
     let Some(value) = root.get(terms) else {
-        return Err(path_fault(alloc, Code::NoBoundPath, at, terms, &[]));
+        return Err(path_fault(validation.alloc, Code::NoBoundPath, at, terms, &[]));
     };
-    check_there(alloc, bound, value, evaluator, work, steps)
+    check_there(bound, value, validation)
 }
 
 #[tactic(auto, using(crate::proofs::Statements::bounds_more, crate::proofs::Leaving::leaving), unfolding(crate::specs::Checked::bounds_run))]
 fn check_bounds<L: Ledger, E: Evaluator>(
-    alloc: Global,
     root: &Tree,
     bounds: &[Bound],
-    evaluator: &mut E,
-    work: &mut Work,
-    steps: &mut Steps<L>,
+    validation: &mut Validation<'_, '_, E, L>,
 ) -> Result<(), Stop>
-    ensures gives { Gives (λ x. x) result E.answers work.old (E.asked evaluator.old) work.new
-        (E.asked evaluator.new) (bounds_run E.means root.now (bounds_seen bounds.now)) }
-    ensures counted { steps.new + work.new.left ≡ steps.old + work.old.left }
+    ensures gives { Validates (λ x. x) result E.Evaluator validation.old validation.new
+        (bounds_run E.means root.now (bounds_seen bounds.now)) }
+    ensures counted { total validation.new ≡ total validation.old }
+    ensures lent { KeepsLoans validation.old validation.new }
 {
     for bound in bounds {
-        check_bound(alloc, root, bound, evaluator, work, steps)?;
+        check_bound(root, bound, validation)?;
     }
     Ok(())
 }
@@ -149,48 +142,77 @@ fn check_bounds<L: Ledger, E: Evaluator>(
 /// A valid statement: the value at its path is to be there, and its item to give true.
 #[tactic(auto, unfolding(crate::specs::Checked::valid_run))]
 fn check_valid<L: Ledger, E: Evaluator>(
-    alloc: Global,
     root: &Tree,
     valid: &Valid,
-    evaluator: &mut E,
-    work: &mut Work,
-    steps: &mut Steps<L>,
+    validation: &mut Validation<'_, '_, E, L>,
 ) -> Result<(), Stop>
-    ensures gives { Gives (λ x. x) result E.answers work.old (E.asked evaluator.old) work.new
-        (E.asked evaluator.new) (valid_run E.means (valid_seen valid.now)
-        (get valid.now.terms root.now)) }
-    ensures counted { steps.new + work.new.left ≡ steps.old + work.old.left }
+    ensures gives { Validates (λ x. x) result E.Evaluator validation.old validation.new
+        (valid_run E.means (valid_seen valid.now) (get valid.now.terms root.now)) }
+    ensures counted { total validation.new ≡ total validation.old }
+    ensures lent { KeepsLoans validation.old validation.new }
 {
     let place = &valid.place;
     let terms = valid.terms.as_slice();
     let Some(value) = root.get(terms) else {
-        return Err(path_fault(alloc, Code::NoBoundPath, place, terms, &[]));
+        return Err(path_fault(validation.alloc, Code::NoBoundPath, place, terms, &[]));
     };
-    let holds = evaluator.value(alloc, &valid.template, &valid.body, value, work, steps)?;
+    let holds = validation.evaluator.value(
+        validation.alloc,
+        &valid.template,
+        &valid.body,
+        value,
+        &mut validation.work,
+        &mut *validation.steps,
+    )?;
     match holds.as_boolean() {
         Some(true) => Ok(()),
-        Some(false) => Err(path_fault(alloc, Code::FalseValid, place, terms, &[])),
-        None => Err(fault(alloc, Code::NotBoolean, place)),
+        Some(false) => Err(path_fault(validation.alloc, Code::FalseValid, place, terms, &[])),
+        None => Err(fault(validation.alloc, Code::NotBoolean, place)),
     }
 }
 
 #[tactic(auto, using(crate::proofs::Statements::valids_more, crate::proofs::Leaving::leaving), unfolding(crate::specs::Checked::valids_run))]
 fn check_valids<L: Ledger, E: Evaluator>(
-    alloc: Global,
     root: &Tree,
     valids: &[Valid],
-    evaluator: &mut E,
-    work: &mut Work,
-    steps: &mut Steps<L>,
+    validation: &mut Validation<'_, '_, E, L>,
 ) -> Result<(), Stop>
-    ensures gives { Gives (λ x. x) result E.answers work.old (E.asked evaluator.old) work.new
-        (E.asked evaluator.new) (valids_run E.means root.now (valids_seen valids.now)) }
-    ensures counted { steps.new + work.new.left ≡ steps.old + work.old.left }
+    ensures gives { Validates (λ x. x) result E.Evaluator validation.old validation.new
+        (valids_run E.means root.now (valids_seen valids.now)) }
+    ensures counted { total validation.new ≡ total validation.old }
+    ensures lent { KeepsLoans validation.old validation.new }
 {
     for valid in valids {
-        check_valid(alloc, root, valid, evaluator, work, steps)?;
+        check_valid(root, valid, validation)?;
     }
     Ok(())
+}
+
+/// What is checked: the tree of an object, its bindings and valid statements, and where its header
+/// stands.
+#[derive(Clone, Copy)]
+pub struct Subject<'a> {
+    pub root: &'a Tree,
+    pub bindings: &'a Bindings,
+    pub valids: &'a [Valid],
+    pub header: &'a Place,
+}
+
+/// That no undef is left, then each binding, then each valid statement.
+#[tactic(auto, using(crate::proofs::Leaving::leaving), unfolding(crate::specs::Checked::checked))]
+fn check_all<L: Ledger, E: Evaluator>(
+    subject: Subject<'_>,
+    validation: &mut Validation<'_, '_, E, L>,
+) -> Result<(), Stop>
+    ensures gives { Validates (λ x. x) result E.Evaluator validation.old validation.new
+        (checked E.means subject.entry.header.now subject.entry.root.now
+        (bindings_seen subject.entry.bindings.now) (valids_seen subject.entry.valids.now)) }
+    ensures counted { total validation.new ≡ total validation.old }
+    ensures lent { KeepsLoans validation.old validation.new }
+{
+    check_undef(subject.header, subject.root, validation)?;
+    check_bounds(subject.root, subject.bindings.bounds(), validation)?;
+    check_valids(subject.root, subject.valids, validation)
 }
 
 /// Checks an object's tree (Pan Book, "Validation"): that no undef is left, each binding in path
@@ -200,25 +222,36 @@ fn check_valids<L: Ledger, E: Evaluator>(
 /// F42, F26 and F40 of a valid statement stand at the statement. `Need` says that a key is asked
 /// whose content the evaluator does not know. Where memory is wanting, at least the work is left
 /// that the check leaves where it is told what was answered by then.
-#[tactic(auto, using(crate::proofs::Leaving::leaving), unfolding(crate::specs::Checked::checked))]
 pub fn check<L: Ledger, E: Evaluator>(
     alloc: Global,
-    root: &Tree,
-    bindings: &Bindings,
-    valids: &[Valid],
-    header: &Place,
+    subject: Subject<'_>,
     evaluator: &mut E,
     work: &mut Work,
     steps: &mut Steps<L>,
 ) -> Result<(), Stop>
     ensures gives { Gives (λ x. x) result E.answers work.old (E.asked evaluator.old) work.new
-        (E.asked evaluator.new) (checked E.means header.now root.now (bindings_seen bindings.now)
-        (valids_seen valids.now)) }
+        (E.asked evaluator.new) (checked E.means subject.entry.header.now subject.entry.root.now
+        (bindings_seen subject.entry.bindings.now) (valids_seen subject.entry.valids.now)) }
     ensures counted { steps.new + work.new.left ≡ steps.old + work.old.left }
 {
-    check_undef(alloc, header, root, evaluator, work)?;
-    check_bounds(alloc, root, bindings.bounds(), evaluator, work, steps)?;
-    check_valids(alloc, root, valids, evaluator, work, steps)
+    let mut validation = Validation {
+        alloc,
+        evaluator,
+        work: *work,
+        steps,
+    };
+    let end = check_all(subject, &mut validation);
+    let Validation {
+        alloc: _,
+        evaluator: lent_evaluator,
+        work: left,
+        steps: lent_steps,
+    } = validation;
+    // (each loan ends by itself, so that what stands behind it is known)
+    let _evaluator = lent_evaluator;
+    let _steps = lent_steps;
+    *work = left;
+    end
 }
 
 /// A law: a check gives no fault exactly where no undef is left, the value of each binding conforms

@@ -28,6 +28,14 @@ pub(crate) enum Side {
     Check,
 }
 
+/// Whose lines are done: the object, where its file begins, and which part of it they are.
+#[derive(Drop)]
+struct Part<'a> {
+    own: &'a Name,
+    place: Place,
+    side: Side,
+}
+
 /// How many bytes stand in front of the lines: the word `object`.
 const HEAD: usize = 6;
 
@@ -46,15 +54,14 @@ fn act_all<K: Known>(
     alloc: Global,
     picture: &Picture,
     known: &K,
-    place: &Place,
-    own: &Name,
-    side: Side,
+    part: &Part<'_>,
     bytes: &[u8],
     used: &mut Used,
 ) -> Result<Came, AllocError>
     ensures outcome { IfOk result (λ came. outcome_of came used.new.value
         (meter_of used.new.left used.new.trace)
-        ≡ all_acted place.now own.now (actions (action_of side) (drop HEAD bytes.now))
+        ≡ all_acted part.now.place part.now.own.now
+        (actions (action_of part.now.side) (drop HEAD bytes.now))
         (answers_of (words picture.now (K.numbers known.now) (K.objects known.now)))
         used.old.value (meter_of used.old.left used.old.trace)) }
     ensures numbered { OnOk result
@@ -64,8 +71,8 @@ fn act_all<K: Known>(
 {
     let mut at = HEAD;
     'lines: while bytes.len().saturating_sub(at) > 2 {
-        let action = action_of(side, bytes[at + 1], bytes[at + 2]);
-        match act(alloc, picture, known, place, own, action, used)? {
+        let action = action_of(part.side, bytes[at + 1], bytes[at + 2]);
+        match act(alloc, picture, known, &part.place, part.own, action, used)? {
             Came::Done => {}
             came => return Ok(came),
         }
@@ -79,15 +86,14 @@ fn act_on<K: Known>(
     alloc: Global,
     picture: &Picture,
     known: &K,
-    place: &Place,
-    own: &Name,
-    side: Side,
+    part: &Part<'_>,
     content: Option<&Content>,
     used: &mut Used,
 ) -> Result<Came, AllocError>
     ensures outcome { IfOk result (λ came. outcome_of came used.new.value
         (meter_of used.new.left used.new.trace)
-        ≡ file_run place.now own.now (action_of side) (file_content (option_copied content.entry))
+        ≡ file_run part.now.place part.now.own.now (action_of part.now.side)
+        (file_content (option_copied content.entry))
         (answers_of (words picture.now (K.numbers known.now) (K.objects known.now)))
         used.old.value (meter_of used.old.left used.old.trace)) }
     ensures numbered { OnOk result
@@ -96,16 +102,21 @@ fn act_on<K: Known>(
         (K.objects known.now)) used.new.trace) }
 {
     match content {
-        None => Ok(Came::Failed(fault_with(alloc, place, Code::NoTemplate, own.as_str())?)),
+        None => Ok(Came::Failed(fault_with(
+            alloc,
+            &part.place,
+            Code::NoTemplate,
+            part.own.as_str(),
+        )?)),
         Some(Content::TooLong) => Ok(Came::Failed(fault_with(
             alloc,
-            place,
+            &part.place,
             Code::FileTooLong,
-            own.as_str(),
+            part.own.as_str(),
         )?)),
         Some(Content::Bytes(bytes)) => {
             let bytes = bytes.as_slice();
-            act_all(alloc, picture, known, place, own, side, bytes, used)
+            act_all(alloc, picture, known, part, bytes, used)
         }
     }
 }
@@ -115,15 +126,14 @@ fn begin<K: Known>(
     alloc: Global,
     picture: &Picture,
     known: &K,
-    place: &Place,
-    own: &Name,
-    side: Side,
+    part: &Part<'_>,
     files: &[Text],
     used: &mut Used,
 ) -> Result<Came, AllocError>
     ensures outcome { IfOk result (λ came. outcome_of came used.new.value
         (meter_of used.new.left used.new.trace)
-        ≡ first_asked place.now files.now (file_run place.now own.now (action_of side))
+        ≡ first_asked part.now.place files.now
+        (file_run part.now.place part.now.own.now (action_of part.now.side))
         (answers_of (words picture.now (K.numbers known.now) (K.objects known.now)))
         used.old.value (meter_of used.old.left used.old.trace)) }
     ensures numbered { OnOk result
@@ -133,14 +143,14 @@ fn begin<K: Known>(
 {
     for file in files {
         if !step(&mut used.left) {
-            return Ok(Came::Failed(fault_at(alloc, place, Code::WorkSpent)?));
+            return Ok(Came::Failed(fault_at(alloc, &part.place, Code::WorkSpent)?));
         }
         let content = ask_file(picture, known, file.share()?, &mut used.trace)?;
         if content.is_some() {
-            return act_on(alloc, picture, known, place, own, side, content, used);
+            return act_on(alloc, picture, known, part, content, used);
         }
     }
-    act_on(alloc, picture, known, place, own, side, None, used)
+    act_on(alloc, picture, known, part, None, used)
 }
 
 /// How a run came out, and what it used.
@@ -171,6 +181,7 @@ pub(crate) fn run_object<K: Known>(
         line: 1,
         column: 1,
     };
+    let part = Part { own, place, side };
     let files = candidates(alloc, own.as_str(), ".pan", &[], dirs)?;
     let mut used = Used {
         value: Tree::undef(),
@@ -178,6 +189,6 @@ pub(crate) fn run_object<K: Known>(
         trace: Trace::new(alloc),
     };
     let files = files.as_slice();
-    let came = begin(alloc, picture, known, &place, own, side, files, &mut used)?;
+    let came = begin(alloc, picture, known, &part, files, &mut used)?;
     Ok(Ran { came, used })
 }

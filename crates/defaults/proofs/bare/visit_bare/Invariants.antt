@@ -1,8 +1,8 @@
-use Rattle.std.proofs.Common.{◌≡◌, ◌+◌, ◌-◌, List}
+use Rattle.std.proofs.Common.{◌≡◌, ◌-◌, List}
 use Rattle.questions.specs.Contents.{Answers}
 use Rattle.questions.specs.declared.key.Key.{Key}
 use Rattle.defaults.specs.Bare.{visited_times}
-use Rattle.defaults.specs.Fills.{meter, target_store}
+use Rattle.defaults.specs.Fills.{KeepsLoan, meter, target_store, total}
 use Rattle.defaults.proofs.bare.visit_bare.Given as goal
 
 -- what is done and what is left gives the whole
@@ -14,5 +14,6 @@ invariant-loop-i g l = record {
       → visited_times l.place (l.visits - l.i) answers (target_store l.target)
       (meter l.target.work asked) ≡ visited_times l.place l.visits answers
       (target_store l.fn.target) (meter l.fn.target.work asked);
-  counted : l.steps + l.target.work.left ≡ l.fn.steps + l.fn.target.work.left;
+  counted : total l.target ≡ total l.fn.target;
+  lent : KeepsLoan l.fn.target l.target;
 }

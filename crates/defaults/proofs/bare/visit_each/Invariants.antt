@@ -1,8 +1,8 @@
-use Rattle.std.proofs.Common.{◌≡◌, ◌+◌, ◌-◌, List}
+use Rattle.std.proofs.Common.{◌≡◌, ◌-◌, List}
 use Rattle.questions.specs.Contents.{Answers}
 use Rattle.questions.specs.declared.key.Key.{Key}
 use Rattle.defaults.specs.Bare.{each_visited}
-use Rattle.defaults.specs.Fills.{meter, target_store}
+use Rattle.defaults.specs.Fills.{KeepsLoan, meter, target_store, total}
 use Rattle.defaults.proofs.bare.visit_each.Given as goal
 
 -- what is done and what is left gives the whole
@@ -13,5 +13,6 @@ invariant-loop-i g l = record {
       → each_visited l.place l.visits (l.count - l.i) answers (target_store l.target)
       (meter l.target.work asked) ≡ each_visited l.place l.visits l.count answers
       (target_store l.fn.target) (meter l.fn.target.work asked);
-  counted : l.steps + l.target.work.left ≡ l.fn.steps + l.fn.target.work.left;
+  counted : total l.target ≡ total l.fn.target;
+  lent : KeepsLoan l.fn.target l.target;
 }

@@ -30,6 +30,7 @@ fill_values-loop-i-preserved g t c =
           (c.in_ok-fill_entry.ensures.fills answers asked))
           ∙ c.loop-i.invariant.fills answers asked;
       counted = search rules;
+      lent = search rules;
     }
 
 pub fill_fields-returns-in_err-fill_field-clause-fills : goal.fill_fields-returns-in_err-fill_field-clause-fills

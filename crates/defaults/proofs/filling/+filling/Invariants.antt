@@ -1,4 +1,4 @@
-use Rattle.std.proofs.Common.{◌≡◌, ◌+◌, ◌-◌, List, drop}
+use Rattle.std.proofs.Common.{◌≡◌, ◌-◌, List, drop}
 use Rattle.path_tree.specs.Children.{child_fields, child_items, fields_from}
 use Rattle.path_tree.specs.Find.{item_count}
 use Rattle.questions.specs.Contents.{Answers}
@@ -7,7 +7,7 @@ use Rattle.type_defs.specs.Resolved.{fields_of}
 use Rattle.type_defs.specs.ResolvedSeen.{resolved_seen}
 use Rattle.type_defs.specs.Tables.{all_seen}
 use Rattle.defaults.specs.Filled.{fields_filled, filled, items_filled, values_filled}
-use Rattle.defaults.specs.Fills.{meter, target_store}
+use Rattle.defaults.specs.Fills.{KeepsLoan, meter, target_store, total}
 use Rattle.defaults.specs.Steps.{IsKnown}
 use Rattle.defaults.proofs.filling.+filling.Given as goal
 
@@ -23,7 +23,8 @@ invariant-fill_items-loop-i g l =
           (target_store l.target) (meter l.target.work asked)
           ≡ items_filled f l.fn.target.path.items 0 (item_count (child_items l.value)) answers
           (target_store l.fn.target) (meter l.fn.target.work asked);
-      counted : l.steps + l.target.work.left ≡ l.fn.steps + l.fn.target.work.left;
+      counted : total l.target ≡ total l.fn.target;
+      lent : KeepsLoan l.fn.target l.target;
     }
 
 abbrev pub invariant-fill_values-loop-i : goal.invariant-fill_values-loop-i
@@ -37,7 +38,8 @@ invariant-fill_values-loop-i g l =
           (target_store l.target) (meter l.target.work asked)
           ≡ values_filled f l.fn.target.path.items (child_fields l.value) answers
           (target_store l.fn.target) (meter l.fn.target.work asked);
-      counted : l.steps + l.target.work.left ≡ l.fn.steps + l.fn.target.work.left;
+      counted : total l.target ≡ total l.fn.target;
+      lent : KeepsLoan l.fn.target l.target;
     }
 
 abbrev pub invariant-fill_fields-loop-field : goal.invariant-fill_fields-loop-field
@@ -51,5 +53,6 @@ invariant-fill_fields-loop-field g l =
           (target_store l.target) (meter l.target.work asked)
           ≡ run (fields_of (all_seen l.fields)) l.fn.target.path.items answers
           (target_store l.fn.target) (meter l.fn.target.work asked);
-      counted : l.steps + l.target.work.left ≡ l.fn.steps + l.fn.target.work.left;
+      counted : total l.target ≡ total l.fn.target;
+      lent : KeepsLoan l.fn.target l.target;
     }

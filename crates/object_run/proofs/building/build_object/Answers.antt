@@ -2,7 +2,7 @@ use Rattle.std.proofs.Common.{arith}
 use Rattle.questions.specs.Told.{only}
 use Rattle.dml_world.specs.Seen.{meter}
 use Rattle.object_meaning.specs.Builds.{built_run}
-use Rattle.template_run.specs.Seen.{site_of}
+use Rattle.plain_statements.specs.Seen.{site_of}
 use Rattle.object_run.proofs.Filling.{build_stops}
 use Rattle.object_run.proofs.building.build_object.Goals as goal
 

@@ -6,7 +6,7 @@ use Rattle.runner.specs.declared.ends.Built.{Built}
 use Rattle.template_meaning.specs.Program.{Program}
 use Rattle.object_meaning.specs.Rest.{Rest}
 use Rattle.object_meaning.specs.Builds.{with_store, rest_of}
-use Rattle.template_run.specs.Seen.{program_of}
+use Rattle.plain_statements.specs.Seen.{program_of}
 use Rattle.object_run.proofs.Filling.{filled_done, filled_failed, filled_left}
 use Rattle.object_run.proofs.building.filled.Goals as goal
 

@@ -5,7 +5,7 @@ use Rattle.site_build.specs.declared.ends.Device.TheVariants as D
 use Rattle.site_build.specs.declared.ends.End.TheVariants as E
 use Rattle.pan_top.specs.Builds.{Wrote}
 use Rattle.pan_top.specs.Statuses.{IsCut, status_of}
-use Rattle.pan_top.specs.declared.status.Status.TheVariants as S
+use Rattle.call_status.specs.declared.status.Status.TheVariants as S
 use Rattle.pan_top.proofs.Counting.{counted_behind, counted_by, counted_same, not_out}
 use Rattle.pan_top.proofs.Said.{said, own_or_cut}
 use Rattle.pan_top.proofs.closing.close_build.Goals as goal

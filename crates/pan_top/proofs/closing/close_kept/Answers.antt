@@ -5,7 +5,7 @@ use Rattle.site_build.proofs.Ending.{early_none}
 use Rattle.site_build.specs.declared.ends.Device.TheVariants as D
 use Rattle.pan_top.specs.KeptBuilds.{Closes}
 use Rattle.pan_top.specs.Statuses.{IsCut, status_of_kept}
-use Rattle.pan_top.specs.declared.status.Status.TheVariants as S
+use Rattle.call_status.specs.declared.status.Status.TheVariants as S
 use Rattle.pan_top.proofs.Counting.{counted_behind}
 use Rattle.pan_top.proofs.Said.{own_or_cut}
 use Rattle.pan_top.proofs.closing.close_kept.Goals as goal

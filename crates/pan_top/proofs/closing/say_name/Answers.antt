@@ -1,6 +1,6 @@
 use Rattle.std.proofs.Common.{◌≡◌, ◌++◌, codes, inr, refl, subst, ◌∙◌}
 use Rattle.pan_top.specs.Statuses.{Says}
-use Rattle.pan_top.specs.declared.status.Status.TheVariants as S
+use Rattle.call_status.specs.declared.status.Status.TheVariants as S
 use Rattle.site_build.proofs.Ending.{none_of}
 use Rattle.pan_top.proofs.Counting.{counted_same}
 use Rattle.pan_top.proofs.closing.say_name.Goals as goal

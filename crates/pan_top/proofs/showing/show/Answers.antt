@@ -4,7 +4,7 @@ use Rattle.session.specs.declared.Ended.TheVariants as ended
 use Rattle.demo.specs.Demo.{Breaks, Ends}
 use Rattle.demo.specs.declared.ends.End.TheVariants as ends
 use Rattle.pan_top.specs.Demos.{shown_by}
-use Rattle.pan_top.specs.declared.status.Status.TheVariants as S
+use Rattle.call_status.specs.declared.status.Status.TheVariants as S
 use Rattle.pan_top.proofs.Counting.{counted_on, counted_same}
 use Rattle.pan_top.proofs.Shown.{never_many, shown_plain, shown_said, shown_part}
 use Rattle.pan_top.proofs.showing.show.Goals as goal

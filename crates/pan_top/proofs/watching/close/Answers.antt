@@ -1,7 +1,7 @@
 use Rattle.std.proofs.Common.{◌≡◌, sym, subst, ◌∙◌, refl}
 use Rattle.watch.specs.declared.ends.End.TheVariants as W
 use Rattle.pan_top.specs.Watches.{EndsWith, line_at, status_at}
-use Rattle.pan_top.specs.declared.status.Status.TheVariants as S
+use Rattle.call_status.specs.declared.status.Status.TheVariants as S
 use Rattle.pan_top.proofs.Counting.{counted_behind, counted_by, counted_same}
 use Rattle.pan_top.proofs.watching.close.Goals as goal
 

@@ -2,7 +2,7 @@ use Rattle.std.proofs.Common.{ap, ◌∙◌}
 use Rattle.row_changes.specs.Stores.{store_of}
 use Rattle.site_build.specs.Scenes.{scene}
 use Rattle.watch.specs.Sites.{IsReady}
-use Rattle.pan_top.specs.Statuses.{status_after}
+use Rattle.call_status.specs.Statuses.{status_after}
 use Rattle.pan_top.specs.Watches.{held_by}
 use Rattle.pan_top.proofs.Counting.{counted_of}
 use Rattle.pan_top.proofs.Watched.{all_ended, all_halted}

@@ -11,7 +11,7 @@ use Rattle.row_changes.specs.Stores.{store_of}
 use Rattle.watch.specs.Played.{HasNames}
 use Rattle.site_build.specs.Scenes.{scene}
 use Rattle.site_build.specs.declared.ends.End.TheVariants as E
-use Rattle.pan_top.specs.declared.status.Status.TheVariants as S
+use Rattle.call_status.specs.declared.status.Status.TheVariants as S
 use Rattle.pan_top.proofs.Counting.{counted_same}
 use Rattle.pan_top.proofs.KeptEnds.{out_counted}
 use Rattle.pan_top.proofs.Watched.{memory_wrote, opened_only, plays}

@@ -9,7 +9,7 @@ use Rattle.site_build.specs.Session.{limits_of}
 use Rattle.site_build.specs.declared.ends.Device.TheVariants as D
 use Rattle.site_build.specs.declared.ends.End.TheVariants as E
 use Rattle.pan_top.specs.Watches.{Plays}
-use Rattle.pan_top.specs.declared.status.Status.TheVariants as S
+use Rattle.call_status.specs.declared.status.Status.TheVariants as S
 use Rattle.pan_top.proofs.Counting.{counted_of, counted_same}
 use Rattle.pan_top.proofs.Watched.{early_held, memory_wrote, not_sinks, plays, plays_from, ready_scene}
 use Rattle.pan_top.proofs.watching.watch_unkept.Goals as goal

@@ -2,8 +2,8 @@ use Rattle.std.proofs.Common.{arith}
 use Rattle.questions.specs.Told.{only}
 use Rattle.template_meaning.specs.Program.{no_program}
 use Rattle.template_meaning.proofs.Leaving.{object_leaves}
-use Rattle.template_run.specs.Executions.{meter_of}
-use Rattle.template_run.specs.Seen.{site_of}
+use Rattle.plain_statements.specs.Executions.{meter_of}
+use Rattle.plain_statements.specs.Seen.{site_of}
 use Rattle.template_run.proofs.Stopping.{object_stops}
 use Rattle.template_run.proofs.objects.run_from.Goals as goal
 

@@ -2,8 +2,8 @@ use Rattle.std.proofs.Common.{arith}
 use Rattle.pan_ast.specs.TemplatesSeen.{statement_seen}
 use Rattle.questions.specs.Told.{only}
 use Rattle.dml_world.specs.Seen.{meter}
-use Rattle.template_run.specs.Executions.{meter_of}
-use Rattle.template_run.specs.Seen.{inside_of, program_of, site_in}
+use Rattle.plain_statements.specs.Executions.{meter_of}
+use Rattle.plain_statements.specs.Seen.{inside_of, program_of, site_in}
 use Rattle.template_run.proofs.Stopping.{included_stops, statements_stop, step_stops}
 use Rattle.template_run.proofs.statements.+statements.Goals as goal
 

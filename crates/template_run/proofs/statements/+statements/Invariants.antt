@@ -2,8 +2,9 @@ use Rattle.std.proofs.Common.{◌≡◌, ◌+◌, ◌-◌, ◌*◌, None, drop, 
 use Rattle.pan_ast.specs.TemplatesSeen.{statement_seen}
 use Rattle.questions.specs.Told.{ToldEnough}
 use Rattle.template_meaning.specs.Statements.{statements_run}
-use Rattle.template_run.specs.Executions.{KeepsLoans, meter_of, total}
-use Rattle.template_run.specs.Seen.{includes_in, inside_of, program_of, site_in}
+use Rattle.plain_statements.specs.Executions.{KeepsLoans, meter_of, total}
+use Rattle.plain_statements.specs.Seen.{inside_of, program_of, site_in}
+use Rattle.template_run.specs.Includes.{includes_in}
 use Rattle.template_run.proofs.statements.+statements.Given as goal
 
 -- an include leaves one fewer that may be opened; inside one template the rank gets lower

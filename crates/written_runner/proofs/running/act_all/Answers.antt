@@ -11,9 +11,9 @@ pub lines-preserved : goal.lines-preserved
 lines-preserved g c =
     let l = c.lines in
     let bytes = c.args.bytes.now in
-    let place = c.args.place.now in
-    let own = c.args.own.now in
-    let act = action_of c.args.side in
+    let place = c.args.part.now.place in
+    let own = c.args.part.now.own.now in
+    let act = action_of c.args.part.now.side in
     let o = answers_of (words c.args.picture.now (g.K.Known.numbers c.args.known.now)
     (g.K.Known.objects c.args.known.now)) in
     let old = meter_of l.used.left l.used.trace in
@@ -37,9 +37,9 @@ pub returns-in_default : goal.returns-in_default
 returns-in_default g c =
     let l = c.lines in
     let bytes = c.args.bytes.now in
-    let place = c.args.place.now in
-    let own = c.args.own.now in
-    let act = action_of c.args.side in
+    let place = c.args.part.now.place in
+    let own = c.args.part.now.own.now in
+    let act = action_of c.args.part.now.side in
     let o = answers_of (words c.args.picture.now (g.K.Known.numbers c.args.known.now)
     (g.K.Known.objects c.args.known.now)) in
     let old = meter_of l.used.left l.used.trace in
@@ -61,10 +61,10 @@ pub returns-clause-outcome : goal.returns-clause-outcome
 returns-clause-outcome g c =
     let l = c.lines in
     let bytes = c.args.bytes.now in
-    let act = action_of c.args.side in
+    let act = action_of c.args.part.now.side in
     let o = answers_of (words c.args.picture.now (g.K.Known.numbers c.args.known.now)
     (g.K.Known.objects c.args.known.now)) in
     let over = lines_over act bytes l.at (let left = c.saturating_sub.ensures in let last =
     c.lines-test.false in omega (arith, left, last)) in
-    sym (ap (λ acts. all_acted c.args.place.now c.args.own.now acts o l.used.value
+    sym (ap (λ acts. all_acted c.args.part.now.place c.args.part.now.own.now acts o l.used.value
     (meter_of l.used.left l.used.trace)) over) ∙ l.invariant.outcome

@@ -8,10 +8,11 @@ use Rattle.written_runner.proofs.running.act_all.Given as goal
 -- what the lines left to do give is what all of them give
 abbrev pub invariant-lines : goal.invariant-lines
 invariant-lines g l = record {
-  outcome : all_acted l.place l.own (actions (action_of l.side) (drop l.at l.bytes))
+  outcome : all_acted l.part.place l.part.own.now
+      (actions (action_of l.part.side) (drop l.at l.bytes))
       (answers_of (words l.picture (g.K.Known.numbers l.known) (g.K.Known.objects l.known)))
       l.used.value (meter_of l.used.left l.used.trace)
-      ≡ all_acted l.place l.own (actions (action_of l.side) (drop 6 l.bytes))
+      ≡ all_acted l.part.place l.part.own.now (actions (action_of l.part.side) (drop 6 l.bytes))
       (answers_of (words l.picture (g.K.Known.numbers l.known) (g.K.Known.objects l.known)))
       l.fn.used.value (meter_of l.fn.used.left l.fn.used.trace);
   numbered : AreNumbered (words l.picture (g.K.Known.numbers l.known) (g.K.Known.objects l.known))

@@ -15,7 +15,7 @@ use Rattle.written_runner.proofs.running.begin.Goals as goal
 pub returns-then-is_some-clause-outcome : goal.returns-then-is_some-clause-outcome
 returns-then-is_some-clause-outcome g c =
     let used = c.loop-file.used in
-    let place = c.args.place.now in
+    let place = c.args.part.now.place in
     let numbers = g.K.Known.numbers c.args.known.now in
     let tells = words c.args.picture.now numbers (g.K.Known.objects c.args.known.now) in
     let o = answers_of tells in
@@ -23,7 +23,7 @@ returns-then-is_some-clause-outcome g c =
     let rest = drop (c.loop-file.file-index + 1) c.args.files.now in
     let e : drop c.loop-file.file-index c.args.files.now ≡ file ∷ rest =
     grind (arith, common_steps, c.file-item.is, c.loop-file-test.true) in
-    let run = file_run place c.args.own.now (action_of c.args.side) in
+    let run = file_run place c.args.part.now.own.now (action_of c.args.part.now.side) in
     let content = content_in c.args.picture.now file in
     let left : nat_eq used.left 0 ≡ false =
     not_zero (nat_eq used.left 0) c.step.result c.step.ensures.stepped c.if-not-step.false in
@@ -58,7 +58,7 @@ returns-then-is_some-clause-numbered g c =
 pub loop-file-preserved : goal.loop-file-preserved
 loop-file-preserved g c =
     let used = c.loop-file.used in
-    let place = c.args.place.now in
+    let place = c.args.part.now.place in
     let numbers = g.K.Known.numbers c.args.known.now in
     let tells = words c.args.picture.now numbers (g.K.Known.objects c.args.known.now) in
     let o = answers_of tells in
@@ -67,7 +67,7 @@ loop-file-preserved g c =
     let rest = drop (c.loop-file.file-index + 1) c.args.files.now in
     let e : drop c.loop-file.file-index c.args.files.now ≡ file ∷ rest =
     grind (arith, common_steps, c.file-item.is, c.loop-file-test.true) in
-    let run = file_run place c.args.own.now (action_of c.args.side) in
+    let run = file_run place c.args.part.now.own.now (action_of c.args.part.now.side) in
     let content = content_in c.args.picture.now file in
     let left : nat_eq used.left 0 ≡ false =
     not_zero (nat_eq used.left 0) c.step.result c.step.ensures.stepped c.if-not-step.false in

@@ -1,4 +1,0 @@
-use Rattle.check_engine.proofs.main.Given as goal
-
-abbrev pub ghosts-run : goal.ghosts-run
-ghosts-run a = record { name = a.blank.name; parts = 1 }

@@ -1,0 +1,4 @@
+pub mod Items
+pub mod Programs
+pub mod Refused
+pub mod Stopping
