@@ -1,6 +1,9 @@
 #!/usr/bin/env bash
 # The front door: finds the program, tells what a reader wants to know besides its text, and runs it.
 set -eu
+unset CDPATH
+# What is said beside the text changes neither it nor the status, also where nobody can read it.
+{ : >&2; } 2>/dev/null || exec 2>/dev/null
 here=$(dirname "$(readlink -f "$0")")
 # In the repository the helpers stand in contrib; contrib/install puts them into libexec/pan beside bin.
 tools=$here/contrib
@@ -64,7 +67,22 @@ The manual (man pan, docs/COMMANDS.md) says the rest, docs/FAULTS.md what a faul
 HELP
 }
 
-say() { echo "pan: $*" >&2; }
+say() { echo "pan: $*" >&2 || true; }
+
+# The notes of a script, where notes are wanted.
+note() { [ "${PAN_NOTES:-}" = off ] || "$tools/pan-notes" "$@" || true; }
+
+# A folder for what is read on the way, as long as the script runs.
+make_room() {
+  room=$(mktemp -d) || exit 7
+  trap 'rm -rf "$room"' EXIT
+}
+
+# Microseconds, whatever parts them from the seconds here.
+now() { echo "${EPOCHREALTIME//[!0-9]/}"; }
+
+# Writes a file to standard output.
+write() { cat -- "$1" || exit 7; }
 
 version() {
   local program version
@@ -84,9 +102,9 @@ has_mode() {
   return 1
 }
 
-# What the words name, as the program reads them where they are a command: `mode`, `source`, `out`, `include`, `state`, and
-# the options but for --most-removed and --state.
-mode='' source='' out='' path='' include='' state='' has_state='' options=()
+# What the words name, as the program reads them where they are a command: `mode`, `source`, `out`, `include`, `state`, the
+# options but for --most-removed and --state, how many places there are, and whether a word is no option and no place.
+mode='' source='' out='' path='' include='' state='' has_state='' options=() place_count=0 has_wrong=''
 read_words() {
   local word option='' places=()
   for word in "$@"; do
@@ -104,6 +122,7 @@ read_words() {
       --include=* | --max-iteration=* | --max-recursion=*) options+=("$word") ;;
       --most-removed=* | --state=*) ;;
       --include | --max-iteration | --max-recursion | --most-removed | --state | --) option=$word ;;
+      -?*) has_wrong=1 ;;
       *) places+=("$word") ;;
     esac
     case $word in
@@ -111,13 +130,24 @@ read_words() {
       --state | --state=*) has_state=1 state=${word#--state} state=${state#=} ;;
     esac
   done
+  case $option in '' | --) ;; *) has_wrong=1 ;; esac
   mode=${places[0]:-} source=${places[1]:-} out=${places[2]:-} path=${places[3]:-}
+  place_count=${#places[@]}
+  case $source in -*) source=./$source ;; esac
+  case $mode:$out in build:-* | watch:-*) out=./$out ;; esac
 }
 
-# Makes the folder of the profiles, so that it can be locked; gives the first part of its path that was not there.
+# The words of a command of the script's own: so many places at least, so many at most, and options of a build.
+want_places() {
+  if [ -n "$has_wrong$has_state" ] || [ "$place_count" -lt "$1" ] || [ "$place_count" -gt "$2" ]; then usage; fi
+  [ -n "$source" ] || usage
+}
+
+# Makes the folder of the profiles, so that it can be locked; gives the first part of its path that was not there. For
+# words that are no command, or a source that is no folder, nothing is made.
 make_out() {
   local missing=$out above
-  [ -d "$out" ] && return
+  if [ -d "$out" ] || [ ! -d "$source" ] || [ -n "$has_wrong" ]; then return; fi
   while above=$(dirname -- "$missing") && [ ! -e "$above" ] && [ "$above" != "$missing" ]; do missing=$above; done
   if mkdir -p -- "$out" 2>/dev/null; then echo "$missing"; fi
 }
@@ -164,43 +194,65 @@ holder_of() {
 }
 
 # The profiles below OUT: path, and what is another one for each file that was put.
-profiles() { find "$out" -type f -name '*.json' -printf '%P\t%i %T@\n' 2>/dev/null | LC_ALL=C sort || true; }
+profiles() {
+  find -H "$out" -type f -name '*.json' -printf '%P\t%i %T@\n' 2>/dev/null | LC_ALL=C sort || true
+}
+
+# Runs a build: its text is below the room, and where the faults are for other programs, so are these.
+run_build() {
+  if [ -z "$form" ]; then "$@" >"$room/text"; return; fi
+  PAN_NOTES=$form "$@" >"$room/text" 2>"$room/faults"
+}
+
+# What a build writes: its text, or the faults for other programs in place of it, but where it failed.
+tell_text() {
+  if [ -n "$form" ] && [ "$1" -le 1 ]; then placed <"$room/faults"; return; fi
+  [ -z "$form" ] || cat "$room/faults" >&2 || true
+  cat "$room/text"
+}
+
+# Slips in SOURCE are looked for while a build runs, and told behind it.
+seek_slips() { note source "$source" "${include:-.}" >"$room/slips" 2>&1 8<&- 9<&- & }
+tell_slips() { wait; cat "$room/slips" >&2 || true; }
 
 # A build as a child: its text is written when it has ended, and then the notes.
 build() {
   local program=$1 status=0 made made_state start
   shift
-  room=$(mktemp -d)
-  trap 'rm -rf "$room"' EXIT
+  make_room
   made=$(make_out)
   lock_out
   made_state=$(make_state)
   lock_state "$state"
   profiles >"$room/before"
-  "$tools/pan-notes" out "$out"
-  [ -z "$state" ] || "$tools/pan-notes" state "$source" "$out" "$state"
-  "$tools/pan-notes" source "$source" "${include:-.}" >"$room/notes" 2>&1 8<&- 9<&- &
-  start=${EPOCHREALTIME/./}
-  "$program" "$@" >"$room/text" || status=$?
+  note out "$out"
+  [ -z "$state" ] || note state "$source" "$out" "$state"
+  seek_slips
+  start=$(now)
+  run_build "$program" "$@" || status=$?
   unmake_state "$made_state"
-  [ -s "$room/text" ] && { cat "$room/text" || [ "$status" -gt 1 ] || status=7; }
-  if [ "$status" -eq 2 ] || [ "$status" -eq 3 ]; then
-    [ -z "$made" ] || unmake_out "$made"
-    wait
-    exit "$status"
-  fi
-  wait
-  cat "$room/notes" >&2
+  tell_text "$status" || [ "$status" -gt 1 ] || status=7
+  case $status in
+    2 | 3) wait; [ -z "$made" ] || unmake_out "$made"; exit "$status" ;;
+    8) tell_memory ;;
+  esac
+  tell_slips
   if [ "$status" -eq 13 ]; then tell_faults "$program"; exit 13; fi
-  "$tools/pan-notes" unused "$source" "$out" "$room/text"
+  note unused "$source" "$out" "${include:-.}" "$room/text"
+  note objects "$room/text"
   profiles >"$room/after"
-  "$tools/pan-notes" summary "$room/text" "$room/before" "$room/after" $((${EPOCHREALTIME/./} - start))
+  note summary "$room/text" "$room/before" "$room/after" $(($(now) - start))
   exit "$status"
 }
 
+# The program itself has no word for it.
+tell_memory() { [ "${PAN_NOTES:-}" = off ] || say "out of memory, or a pattern takes more room than patterns have"; }
+
 # Where a build changed nothing because too many files would have gone: the faults that took them away, by a build of the
 # same source with the same options, but without the bound, into a folder of its own.
-tell_faults() { "$1" build ${options[@]+"${options[@]}"} -- "$source" "$room/shelf" >"$room/report" || true; }
+tell_faults() {
+  [ "${PAN_NOTES:-}" = off ] || "$1" build ${options[@]+"${options[@]}"} -- "$source" "$room/shelf" >"$room/report" || true
+}
 
 # A list that the program will not take, as its folders would not lie below SOURCE.
 tell_include() {
@@ -213,20 +265,27 @@ tell_include() {
 watch() {
   make_out >/dev/null
   lock_out
-  "$tools/pan-notes" out "$out"
-  [ -z "$state" ] || "$tools/pan-notes" state "$source" "$out" "$state"
-  "$tools/pan-notes" source "$source" "${include:-.}"
+  note out "$out"
+  [ -z "$state" ] || note state "$source" "$out" "$state"
+  note source "$source" "${include:-.}"
   export GLIBC_TUNABLES=${GLIBC_TUNABLES:-$("$tools/pan-program" --tunables)}
   run_over_state "$@"
 }
 
-# Runs the program over the file of rows, which is locked.
+# Runs the program over the file of rows, which is locked. Where that was made for it the script stays behind the program
+# to take it away again, and hands signals on.
 run_over_state() {
-  local made_state status=0
+  local made_state status=0 child
   made_state=$(make_state)
   lock_state "$state"
   [ -n "$made_state" ] || exec "$@"
-  "$@" || status=$?
+  "$@" <&0 &
+  child=$!
+  trap 'kill "$child" 2>/dev/null' TERM INT HUP
+  while kill -0 "$child" 2>/dev/null; do
+    status=0
+    wait "$child" || status=$?
+  done
   unmake_state "$made_state"
   exit "$status"
 }
@@ -249,21 +308,28 @@ lay_out() {
   return "$status"
 }
 
-# A file gets its layout at once, with the rights that it has.
+# A file gets its layout at once, with the owner and the rights that it has. Where that cannot be written it stays as it is.
 replace() {
-  local file new
+  local file new=''
   file=$(readlink -f -- "$1")
-  new=$(mktemp "$(dirname -- "$file")/.format.XXXXXX")
-  chmod --reference="$file" "$new"
-  cat "$room/to/input.pan" >"$new"
-  mv -f -- "$new" "$file"
+  if new=$(mktemp "$(dirname -- "$file")/.format.XXXXXX") && cat "$room/to/input.pan" >"$new" && give_rights "$file" "$new" &&
+    mv -f -- "$new" "$file"; then return; fi
+  [ -z "$new" ] || rm -f -- "$new"
+  echo "shelf fault $1" >&2
+  return 4
+}
+
+# A file gets the owner, where this user may give it away, and the rights of another one.
+give_rights() {
+  chown --reference="$1" -- "$2" 2>/dev/null || true
+  chmod --reference="$1" -- "$2"
 }
 
 format_file() {
   local program=$1 file=$2
   lay_out "$program" "$file" || return
   if [ "$file" = - ]; then
-    if [ -z "$is_check" ]; then cat "$room/to/input.pan"; return; fi
+    if [ -z "$is_check" ]; then write "$room/to/input.pan"; return; fi
     file=$room/from/input.pan
   fi
   if cmp -s -- "$file" "$room/to/input.pan"; then return; fi
@@ -271,10 +337,24 @@ format_file() {
   replace "$file"
 }
 
+# The templates of a folder get their layout. A file that is put is nobody else's until it has the rights that it had.
+format_folder() {
+  local program=$1 status=0 owner rights name
+  out=$2
+  lock_out
+  find -H "$out" -type f -name '*.pan' -printf '%U:%G %m %P\0' >"$room/rights"
+  (umask 077; exec "$program" format -- "$out" "$out") || status=$?
+  while IFS=' ' read -r -d '' owner rights name; do
+    chown "$owner" -- "$out/$name" 2>/dev/null || true
+    chmod "$rights" -- "$out/$name"
+  done <"$room/rights"
+  return "$status"
+}
+
 # The templates of a folder that have another layout.
 check_folder() {
   local program=$1 folder=${2%/} status=0 name
-  "$program" format "$folder" "$room/shelf" >"$room/text" || status=$?
+  "$program" format -- "$folder" "$room/shelf" >"$room/text" || status=$?
   [ "$status" -le 1 ] || { cat "$room/text"; return "$status"; }
   grep -v '^files ' "$room/text" || true
   while IFS= read -r name; do
@@ -288,57 +368,101 @@ check_folder() {
 format_places() {
   local program=$1 place status=0 one
   shift
-  room=$(mktemp -d)
-  trap 'rm -rf "$room"' EXIT
+  make_room
   for place in "$@"; do
     one=0
+    case $place in -?*) place=./$place ;; esac
     if [ ! -d "$place" ]; then format_file "$program" "$place" || one=$?
     elif [ -n "$is_check" ]; then check_folder "$program" "$place" || one=$?
-    else "$program" format "$place" "$place" || one=$?; fi
+    else format_folder "$program" "$place" || one=$?; fi
     [ "$one" -le "$status" ] || status=$one
   done
   exit "$status"
 }
 
-# The words of a layout: two folders are the program's, any other places the script's.
+# The words of a layout: two folders are the program's, and any other places the script's.
 is_check=''
 format() {
-  local program=$1 word places=()
+  local program=$1 word has_ended='' places=()
   shift 2
   for word in "$@"; do
-    case $word in --check) is_check=1 ;; --?*) usage ;; *) places+=("$word") ;; esac
+    case $has_ended$word in
+      --) has_ended=1 ;;
+      --check) is_check=1 ;;
+      -?*) usage ;;
+      *) places+=("$word") ;;
+    esac
   done
-  if [ "${#places[@]}" -eq 0 ]; then usage; fi
-  if [ -z "$is_check" ] && [ "${#places[@]}" -eq 2 ] && [ ! -f "${places[0]}" ] && [ "${places[0]}" != - ]; then
-    out=${places[1]}
-    make_out >/dev/null
-    lock_out
-    exec "$program" format "${places[@]}"
-  fi
+  case ${#places[@]}$is_check in
+    0*) usage ;;
+    2)
+      if [ "${places[0]}" -ef "${places[1]}" ]; then
+        format_places "$program" "${places[0]}"
+      elif [ ! -f "${places[0]}" ] && [ ! -f "${places[1]}" ] && [ "${places[0]}" != - ]; then
+        source=${places[0]} out=${places[1]}
+        make_out >/dev/null
+        lock_out
+        exec "$program" format -- "${places[@]}"
+      fi
+      ;;
+  esac
   format_places "$program" "${places[@]}"
 }
 
-# What a watcher answers to one line about a site that is compiled and not published, as the text of the room.
+# What a watcher answers to one line about a site that is compiled and not published, as the text of the room. Where it
+# cannot, what it said last is told.
 ask() {
   local program=$1 line=$2 status=0
-  room=$(mktemp -d)
-  trap 'rm -rf "$room"' EXIT
+  make_room
   printf 'scan\nturn 1000000\n%s\nquit\n' "$line" >"$room/lines"
   "$program" watch ${options[@]+"${options[@]}"} -- "$source" "$room/out" <"$room/lines" >"$room/text" || status=$?
   if grep -qx 'source fault' "$room/text"; then status=3; fi
-  [ "$status" -eq 0 ] || exit "$status"
+  case $status in
+    0) return ;;
+    8) tell_memory ;;
+    *) tail -n 1 "$room/text" >&2 || true ;;
+  esac
+  exit "$status"
 }
 
 # The names behind a word in what is answered to a line.
-ask_names() {
+names_of() {
   ask "$1" "$2"
   if grep -qx 'bad line' "$room/text"; then say "$2: no file name below SOURCE"; exit 2; fi
-  sed -n "s/^$3 //p" "$room/text"
+  sed -n "s/^$3 //p" "$room/text" >"$room/names"
+  write "$room/names"
+}
+
+# The objects that an edit of a file can change.
+impact() {
+  local program=$1 file=$2
+  names_of "$program" "impact $file" touches
+  if [ -s "$room/names" ] || [ -e "$source/$file" ] || [ "${PAN_NOTES:-}" = off ]; then return; fi
+  say "$file: there is no such file below $source, and no object looks for it"
+}
+
+# Whether a word has the form of an absolute path: `/`, or a term behind each `/`.
+is_path() {
+  local paths='^(/|(/([^/{}]+|\{[^{}]*\}))+)$'
+  [[ $1 =~ $paths ]]
 }
 
 # What stands at a path, as `/hardware/cpus` or `/disks/0`, in a line of compact JSON; nothing where nothing does.
 value_at() {
-  LC_ALL=C awk -v path="$1" '
+  PAN_PATH=$1 LC_ALL=C awk '
+    # a path in which keys stand for the terms `{text}`: but for letters and digits that are not leading, each byte is `_`
+    # and two hexadecimal digits there
+    function with_keys(path,   i, byte, open, made) {
+      for (i = 0; i < 256; i++) hexadecimal[sprintf("%c", i)] = sprintf("%02x", i)
+      for (i = 1; i <= length(path); i++) {
+        byte = substr(path, i, 1)
+        if (byte == "{") { open = i; continue }
+        if (byte == "}") { if (i == open + 1) made = made "_"; open = 0; continue }
+        if (open && (byte !~ /[A-Za-z0-9]/ || (i == open + 1 && byte ~ /[0-9]/))) byte = "_" hexadecimal[byte]
+        made = made byte
+      }
+      return made
+    }
     function char(i) { return substr(text, i, 1) }
     function behind_text(i) { for (i++; char(i) != "\""; i++) if (char(i) == "\\") i++; return i + 1 }
     # the place behind the value at a place
@@ -358,14 +482,14 @@ value_at() {
       for (i++; char(i) !~ /[]}]/; i = behind_value(i) + (char(behind_value(i)) == ",")) {
         key = number++
         if (is_dict) { close_sign = behind_text(i); key = substr(text, i + 1, close_sign - i - 2); i = close_sign + 1 }
-        if (key == name) return i
+        if (key "" == name "") return i
       }
       return 0
     }
     {
       text = $0
       place = 1
-      count = split(path, names, "/")
+      count = split(with_keys(ENVIRON["PAN_PATH"]), names, "/")
       for (n = 1; n <= count && place; n++) if (names[n] != "") place = child_at(place, names[n])
       if (place) print substr(text, place, behind_value(place) - place)
     }'
@@ -374,13 +498,17 @@ value_at() {
 # The profile of an object, or what stands at a path of it.
 show() {
   local program=$1 object=$2 at=$3
+  if ! is_path "${at:-/}"; then say "$object $at: no path that begins with \`/\`"; exit 2; fi
   ask "$program" "show $object"
   if grep -qx 'bad line' "$room/text" || grep -qx 'no object' "$room/text"; then say "$object: no object"; exit 2; fi
-  if grep '^fault ' "$room/text" >&2; then exit 1; fi
+  if grep '^fault ' "$room/text" >"$room/own"; then tell_fault; exit 1; fi
   sed -n 's/^profile //p' "$room/text" | value_at "$at" >"$room/value"
   if [ ! -s "$room/value" ]; then say "$object: nothing at $at"; exit 1; fi
-  cat "$room/value"
+  write "$room/value"
 }
+
+# The fault of an object that was asked for a value.
+tell_fault() { cat "$room/own" >&2 || true; }
 
 # Where the values at and below a path of an object were set last.
 blame() {
@@ -388,9 +516,10 @@ blame() {
   ask "$program" "blame $object $at"
   if grep -qx 'bad line' "$room/text"; then say "$object $at: no object's name and a path that begins with \`/\`"; exit 2; fi
   if grep -qx 'no object' "$room/text"; then say "$object: no object"; exit 2; fi
-  if grep '^fault ' "$room/text" >&2; then exit 1; fi
+  if grep '^fault ' "$room/text" >"$room/own"; then tell_fault; exit 1; fi
   if grep -qx 'no path' "$room/text"; then say "$object: nothing at $at"; exit 1; fi
-  grep '^/' "$room/text"
+  grep '^/' "$room/text" >"$room/setters" || true
+  write "$room/setters"
 }
 
 # Lines on faults with the names of files as they are from here.
@@ -400,30 +529,11 @@ placed() {
   while IFS= read -r line; do printf '%s/%s\n' "${source%/}" "$line"; done
 }
 
-# The faults of a build for other programs, in place of its text.
-build_for_programs() {
-  local program=$1 status=0 made made_state
-  shift
-  room=$(mktemp -d)
-  trap 'rm -rf "$room"' EXIT
-  made=$(make_out)
-  lock_out
-  made_state=$(make_state)
-  lock_state "$state"
-  PAN_NOTES=$form "$program" "$@" >"$room/text" 2>"$room/faults" || status=$?
-  unmake_state "$made_state"
-  case $status in 2 | 3) [ -z "$made" ] || unmake_out "$made" ;; esac
-  if [ "$status" -gt 1 ]; then cat "$room/text"; cat "$room/faults" >&2; exit "$status"; fi
-  placed <"$room/faults"
-  exit "$status"
-}
-
-# Of the text of a build and of its notes what is told of the faults of one object.
+# Of the text of a build what is told of the fault of one object, and the note on it.
 of_object() { awk -v name="$1" '$1 == "fault" && $2 == name' "$room/text"; }
-notes_on() {
-  local place
-  place=$(awk 'NR == 1 { print $4 }' "$1")
-  [ -z "$place" ] || awk -v place="--> $place " 'BEGIN { RS = ""; ORS = "\n\n" } index($0, place)' "$room/notes"
+note_on() {
+  awk -v alone="  (object $1)" -v first="  (object $1, and " '
+    BEGIN { RS = ""; ORS = "\n\n" } index($0, alone) || index($0, first)' "$room/notes"
 }
 
 # Of lines as compilers print them the errors of one object, each with the notes behind it.
@@ -431,25 +541,56 @@ lines_on() {
   awk -v mark="(object $1)" '/: error: / { mine = index($0, mark) > 0 } mine'
 }
 
-# The faults of a build that is not published: all of them, or those of one object.
-check() {
-  local program=$1 status=0
-  room=$(mktemp -d)
-  trap 'rm -rf "$room"' EXIT
-  PAN_NOTES=${form:-${PAN_NOTES:-}} "$program" build ${options[@]+"${options[@]}"} -- "$source" "$room/out" \
-    >"$room/text" 2>"$room/notes" || status=$?
-  if [ "$status" -gt 1 ]; then cat "$room/text"; cat "$room/notes" >&2; exit "$status"; fi
-  if [ -z "$only" ] && [ -n "$form" ]; then placed <"$room/notes"; exit "$status"; fi
-  if [ -z "$only" ]; then grep -v '^run ' "$room/text"; cat "$room/notes" >&2; exit "$status"; fi
-  if ! grep -qxF "run $only" "$room/text"; then say "$only: no object"; exit 2; fi
-  of_object "$only" >"$room/own"
-  [ -s "$room/own" ] || exit 0
+# A build that is not published, with notes of a form: its text and its notes are below the room.
+try_build() {
+  PAN_NOTES=$2 "$1" build ${options[@]+"${options[@]}"} -- "$source" "$room/out" >"$room/text" 2>"$room/notes"
+}
+
+# The fault of one object for other programs, or as the build tells it.
+tell_own() {
   case $form in
     gcc) lines_on "$only" <"$room/notes" | placed ;;
     json) grep -F "{\"object\":\"$only\"," "$room/notes" ;;
-    *) cat "$room/own"; notes_on "$room/own" >&2 ;;
+    *) cat "$room/own" ;;
   esac
+}
+
+# The note on the fault of one object; where it stands with another object's, the lines that compilers would print.
+note_own() {
+  if [ -n "$form" ] || [ "${PAN_NOTES:-}" = off ]; then return; fi
+  note_on "$only" >"$room/note"
+  if [ ! -s "$room/note" ]; then
+    try_build "$1" gcc || true
+    lines_on "$only" <"$room/notes" >"$room/note"
+  fi
+  cat "$room/note" >&2 || true
+}
+
+check_object() {
+  if ! grep -qxF "run $only" "$room/text"; then say "$only: no object"; exit 2; fi
+  of_object "$only" >"$room/own"
+  [ -s "$room/own" ] || exit 0
+  tell_own >"$room/told"
+  write "$room/told"
+  note_own "$1"
   exit 1
+}
+
+# The faults of a build that is not published: all of them, or those of one object.
+check() {
+  local program=$1 status=0
+  make_room
+  seek_slips
+  try_build "$program" "${form:-${PAN_NOTES:-}}" || status=$?
+  tell_slips
+  if [ "$status" -eq 8 ]; then tell_memory; fi
+  if [ "$status" -gt 1 ]; then cat "$room/notes" >&2 || true; write "$room/text"; exit "$status"; fi
+  note objects "$room/text"
+  [ -z "$only" ] || check_object "$program"
+  if [ -n "$form" ]; then placed <"$room/notes" >"$room/told"; else grep -v '^run ' "$room/text" >"$room/told"; fi
+  write "$room/told"
+  [ -n "$form" ] || cat "$room/notes" >&2 || true
+  exit "$status"
 }
 
 # A number of a header's row, so many digits behind others.
@@ -473,8 +614,7 @@ tell_state() {
   local file=$1 rows='' all objects files header
   if ! command -v sqlite3 >/dev/null; then say "pan state wants sqlite3, which is not on the path"; exit 127; fi
   if [ ! -f "$file" ]; then say "$file: no such file"; exit 5; fi
-  room=$(mktemp -d)
-  trap 'rm -rf "$room"' EXIT
+  make_room
   lock_state "$file"
   cp -- "$file" "$room/rows"
   [ ! -f "$file-wal" ] || cp -- "$file-wal" "$room/rows-wal"
@@ -494,14 +634,16 @@ tell_state() {
 
 usage() { echo "usage fault"; help >&2; exit 2; }
 
-# --quiet, --format and --only stand anywhere before `--`.
-words=() is_quiet='' form='' only=''
+# --help, --quiet, --format and --only stand anywhere before `--`.
+words=() is_quiet='' form='' only='' has_only=''
 while [ $# -gt 0 ]; do
   case $1 in
+    --help) help; exit 0 ;;
+    --try) words+=("$@"); break ;;
     --quiet) is_quiet=1 ;;
-    --format | --only) [ $# -gt 1 ] || usage; if [ "$1" = --only ]; then only=$2; else form=$2; fi; shift ;;
+    --format | --only) [ $# -gt 1 ] || usage; if [ "$1" = --only ]; then has_only=1 only=$2; else form=$2; fi; shift ;;
     --format=*) form=${1#--format=} ;;
-    --only=*) only=${1#--only=} ;;
+    --only=*) has_only=1 only=${1#--only=} ;;
     --) words+=("$@"); break ;;
     *) words+=("$1") ;;
   esac
@@ -510,9 +652,9 @@ done
 set -- ${words[@]+"${words[@]}"}
 if [ -n "$is_quiet" ]; then export PAN_NOTES=off; fi
 case $form in '' | gcc | json) ;; *) usage ;; esac
+if [ -n "$has_only" ] && [ -z "$only" ]; then usage; fi
 
 case ${1:-} in
-  --help) help; exit 0 ;;
   --version) version; exit 0 ;;
   --prove | --release | --try) exec "$tools/pan-prove" "$@" ;;
   state)
@@ -526,22 +668,13 @@ program=$("$tools/pan-program")
 case ${1:-} in format) [ -z "$form$only" ] || usage; format "$program" "$@" ;; esac
 read_words "$@"
 case $mode in build) [ -z "$only" ] || usage ;; check) ;; *) [ -z "$form$only" ] || usage ;; esac
-case $mode in check | show | blame | impact | unused) [ -z "$has_state" ] || usage ;; esac
 [ "${PAN_NOTES:-}" = off ] || tell_include
 case $mode in
-  check) [ -n "$source" ] || usage; check "$program" ;;
-  show) [ -n "$out" ] || usage; show "$program" "$out" "$path"; exit ;;
-  blame) [ -n "$out" ] || usage; blame "$program" "$out" "${path:-/}"; exit ;;
-  impact) [ -n "$out" ] || usage; ask_names "$program" "impact $out" touches; exit ;;
-  unused) [ -n "$source" ] || usage; ask_names "$program" unused unused; exit ;;
-  build) if [ -n "$form" ] && [ -n "$out" ]; then build_for_programs "$program" "$@"; fi ;;
+  check) want_places 2 2; check "$program" ;;
+  show) want_places 3 4; show "$program" "$out" "$path"; exit ;;
+  blame) want_places 3 4; blame "$program" "$out" "${path:-/}"; exit ;;
+  impact) want_places 3 3; impact "$program" "$out"; exit ;;
+  unused) want_places 2 2; names_of "$program" unused unused; exit ;;
+  build | watch) if [ -n "$out" ]; then "$mode" "$program" "$@"; fi ;;
 esac
-if [ "${PAN_NOTES:-}" = off ] || [ -z "$out" ]; then
-  case $mode in build | watch) [ -z "$out" ] || { make_out >/dev/null; lock_out; }; run_over_state "$program" "$@" ;; esac
-  exec "$program" "$@"
-fi
-case $mode in
-  build) build "$program" "$@" ;;
-  watch) watch "$program" "$@" ;;
-  *) exec "$program" "$@" ;;
-esac
+exec "$program" "$@"

@@ -11,6 +11,7 @@
 - The layout of folders, files and standard input, and what only looks at it; what an edit touches, and what is unused.
 - Faults without a publication, faults for other programs, what stands in a profile, and who set it.
 - What contrib/install puts below a folder runs there, with nothing of the repository.
+- Devices that are full or closed, links, names like options', words too many, signals.
 
 The program is the one that the variable PAN names, else the one that contrib/pan-program finds.
 """
@@ -385,6 +386,124 @@ def layout(folder):
         yield f"examples/{example} is laid out", (ended.status, ended.text) == (0, "")
 
 
+def command(folder, name, text):
+    """A command of this name that goes before the system's own; gives the path to look for commands on."""
+    place = folder / "commands" / name
+    write(folder, f"commands/{name}", f"#!/bin/sh\n{text}\n")
+    place.chmod(0o755)
+    return f"{place.parent}:{os.environ['PATH']}"
+
+
+def rights(folder):
+    return {path.name: path.stat().st_mode & 0o777 for path in folder.glob("*.pan")}
+
+
+def kept_files(folder):
+    """What a layout leaves alone."""
+    own = {"a.pan": 0o600, "b.pan": 0o640, "c.pan": 0o755}
+    for name, mode in own.items():
+        write(folder, f"site/{name}", LOOSE)
+        (folder / "site" / name).chmod(mode)
+    full = command(folder, "cat", f'case $* in */to/input.pan) exit 1 ;; *) exec {shutil.which("cat")} "$@" ;; esac')
+    ended = pan(folder, "format", "site/a.pan", PATH=full)
+    yield "a layout that cannot be written", ended.status == 4 and "shelf fault site/a.pan" in ended.notes
+    yield "the file stays", [path.read_text() for path in (folder / "site").iterdir()] == [LOOSE] * 3
+    yield "alone", sorted(path.name for path in (folder / "site").iterdir()) == sorted(own)
+    ended = pan(folder, "format", "--", "site", "out")
+    yield "a folder behind --", (ended.status, ended.text) == (0, "files 3 ok 3 faults 0\n")
+    yield "is read alone", (folder / "site/a.pan").read_text() == LOOSE and (folder / "out/a.pan").read_text() == LAID_OUT
+    yield "a look at a file behind --", pan(folder, "format", "--check", "--", "site/a.pan").text == "differs site/a.pan\n"
+    ended = pan(folder, "format", "site")
+    yield "a folder keeps its rights", ended.status == 0 and rights(folder / "site") == own
+    write(folder, "site/a.pan", LOOSE)
+    ended = pan(folder, "format", "site/", "site")
+    yield "also where it is named twice", ended.status == 0 and rights(folder / "site") == own
+    yield "and is laid out", (folder / "site/a.pan").read_text() == LAID_OUT
+    write(folder, "-site/a.pan", LOOSE)
+    ended = pan(folder, "format", "--", "-site")
+    yield "a name like an option's", ended.status == 0 and (folder / "-site/a.pan").read_text() == LAID_OUT
+    yield "which is none else", pan(folder, "format", "-site").status == 2
+
+
+def status_of(folder, line):
+    """The status and the text of a line of a shell, in which `pan` is the script."""
+    surroundings = {**os.environ, "PAN": str(PROGRAM), "PAN_NOTES": ""}
+    line = line.replace("pan ", f"{TOP / 'pan'} ", 1)
+    ended = subprocess.run(["bash", "-c", line], cwd=folder, env=surroundings, stdout=subprocess.PIPE, text=True)
+    return ended.returncode, ended.stdout
+
+
+def unread(folder):
+    """Where nobody can read the notes or the text."""
+    machines(folder, 1)
+    text = (0, "run web1\nobjects 1 ok 1 faults 0 run 1\n")
+    yield "notes on a full device", status_of(folder, "pan build site out 2>/dev/full") == text
+    yield "and on none", status_of(folder, "pan build site out 2>&-") == text
+    write(folder, "site/web2.pan", "object template web2;\n'/port' = 1 + 'x';\n")
+    yield "with a fault", status_of(folder, "pan build site out 2>/dev/full")[0] == 1
+    for words in ("build site out", "check site", "show site web1", "blame site web1", "impact site web1.pan", "unused site"):
+        write(folder, "site/old.pan", "template old;\n")
+        yield f"the text of {words}", status_of(folder, f"pan {words} >/dev/full 2>&1")[0] == 7
+
+
+def slips(folder):
+    """Notes of all commands that build."""
+    machines(folder, 2)
+    (folder / "real").mkdir()
+    (folder / "out").symlink_to("real")
+    ended = pan(folder, "build", "site", "out")
+    yield "OUT is a link", ended.summary() == [2, 2, 0, 0, 2, 0] and "no machine looks at" not in ended.notes
+    write(folder, "real/package.json", "{}\n")
+    ended = pan(folder, "build", "site", "out", "--most-removed", "0")
+    yield "with files of others", ended.warns("out holds .json files", "1 (package.json)")
+    write(folder, "site/web3.pan", "object template web3;\n'/a' = if (exists('nosuch:/x')) 1 else 2;\n")
+    write(folder, "site/nosuch.pan", "template nosuch;\n")
+    write(folder, "site/\u00e9.pan", "template e;\n")
+    ended = pan(folder, "build", "site", "out")
+    yield "where an object could be", ended.status == 0 and "no machine looks at" not in ended.notes
+    write(folder, "site/web1.pan", "\ufeffobject template web1;\n")
+    for words in (["build", "site", "new", "--format", "gcc"], ["check", "site"], ["check", "site", "--format", "json"]):
+        yield f"a slip in {' '.join(words)}", pan(folder, *words).warns("byte order mark", "web1.pan")
+    ended = pan(folder, "check", "site", "--include", "typo")
+    yield "no object in a check", ended.warns("no folder typo") and ended.warns("no file below SOURCE")
+    yield "but without notes", pan(folder, "check", "site", "--include", "typo", "--quiet").notes == ""
+    ended = pan(folder, "impact", "site", "site/web2.pan")
+    yield "a file that is not there", ended.status == 0 and "no such file below site" in ended.notes
+    ended = pan(folder, "impact", "site", "common/base.pan")
+    yield "and one that is", ended.text == "web2\n" and not ended.notes
+    for words in (["check", "site", "--onyl", "web1"], ["unused", "site", "x"], ["impact", "site", "a.pan", "b.pan"]):
+        yield f"a word too many: {' '.join(words)}", pan(folder, *words).status == 2
+    yield "an object without a name", pan(folder, "check", "site", "--only", "").status == 2
+    yield "--help behind a word", pan(folder, "check", "--help").text.startswith("pan compiles templates")
+    machines(folder / "-s", 1)
+    ended = pan(folder / "-s", "build", "site", "out", "--include=.")
+    (folder / "-s/-o").mkdir()
+    ended = pan(folder, "build", "--", "-s", "-out")
+    yield "names like options'", ended.text.startswith("objects ") or ended.text.startswith("run ")
+    yield "and no word of other tools", not any(tool in ended.notes for tool in ("cd:", "find:"))
+    ended = pan(folder, "--quiet", "build", "nowhere", "new2/out")
+    yield "a source that is missing makes no folder", ended.status == 3 and not (folder / "new2").exists()
+    ended = pan(folder, "watch", "nowhere", "new2/out", given="quit\n")
+    yield "of a watcher neither", ended.status == 3 and not (folder / "new2").exists()
+
+
+def ended_watcher(folder):
+    """A signal to the script ends the program behind it too."""
+    machines(folder, 1)
+    surroundings = {**os.environ, "PAN": str(PROGRAM)}
+    words = [TOP / "pan", "watch", "site", "out", "--state", "s.db"]
+    watcher = subprocess.Popen(words, cwd=folder, env=surroundings, stdin=subprocess.PIPE, stdout=subprocess.PIPE, text=True)
+    watcher.stdin.write("scan\n")
+    watcher.stdin.flush()
+    watcher.stdout.readline()
+    watcher.terminate()
+    yield "a watcher that makes its file", watcher.wait(SECONDS) == 128 + 15
+    ended = pan(folder, "build", "site", "out", "--state", "s.db")
+    yield "leaves its locks", ended.status == 0 and "another pan works" not in ended.notes
+    watcher.stdin.close()
+    watcher.stdout.close()
+
+
 def touched(folder):
     machines(folder, 2)
     write(folder, "site/alone.pan", "object template alone;\n'/port' = 1;\n")
@@ -420,6 +539,14 @@ def checked(folder):
     yield "without a fault", (lambda e: (e.status, e.text))(pan(folder, "check", "site", "--only=web1")) == (0, "")
     yield "of no object", pan(folder, "check", "site", "--only", "web4").status == 2
     yield "of no folder", pan(folder, "check", "nowhere").status == 3
+    write(folder, "site/ports.pan", "template ports;\nbind '/port' = long(1..9);\n")
+    for name, port in {"web4": 10, "web5": 11}.items():
+        write(folder, f"site/{name}.pan", f"object template {name};\ninclude 'ports';\n'/port' = {port};\n")
+    ended = pan(folder, "check", "site", "--only", "web4")
+    yield "with its own value", "= value: 10" in ended.notes and "web5" not in ended.notes
+    ended = pan(folder, "check", "site", "--only", "web5")
+    yield "also behind another object", "web5.pan:3:1: note: set here: 11" in ended.notes and "web4" not in ended.notes
+    yield "and without notes", pan(folder, "check", "site", "--only", "web5", "--quiet").notes == ""
     yield "no word", [pan(folder, "check").status, pan(folder, "build", "site", "out", "--only", "web1").status] == [2, 2]
 
 
@@ -474,9 +601,14 @@ def shown(folder):
     for path, value in asked.items():
         ended = pan(folder, "show", "site", "web1", *([path] if path else []))
         yield f"what stands at {path}", (ended.status, ended.text) == (0, value + "\n")
-    for path in ("/a/d", "/a/b/2", "/a/b/x", "/a/c/x"):
+    for path in ("/a/d", "/a/b/2", "/a/b/01", "/a/b/x", "/a/c/x", "/{a b}"):
         ended = pan(folder, "show", "site", "web1", path)
         yield f"nothing at {path}", (ended.status, ended.text) == (1, "") and "nothing at" in ended.notes
+    for path in ("a", "/a/", "/{a"):
+        ended = pan(folder, "show", "site", "web1", path)
+        yield f"{path} is no path", ended.status == 2 and "begins with `/`" in ended.notes
+    write(folder, "site/web4.pan", "object template web4;\n'/{a/b}/{1}' = 'x';\n")
+    yield "a key in braces", pan(folder, "show", "site", "web4", "/{a/b}/{1}").text == '"x"\n'
     ended = pan(folder, "show", "site", "web2")
     yield "a fault", (ended.status, ended.text) == (1, "") and "fault F10 web2.pan:2:8" in ended.notes
     yield "no object", pan(folder, "show", "site", "web3").status == 2
@@ -521,6 +653,9 @@ def installed(folder):
     asked = "source there/share/bash-completion/completions/pan; COMP_WORDS=(pan bu); COMP_CWORD=1; _pan; echo ${COMPREPLY[*]}"
     said = subprocess.run(["bash", "-c", asked], cwd=folder, capture_output=True, text=True).stdout
     yield "completion", said == "build\n"
+    pan(folder, folder / "a & b%", script=TOP / "contrib/install")
+    unit = (folder / "a & b%/lib/systemd/system/pan-watch.service").read_text()
+    yield "an odd folder", f'ExecStart="{folder}/a & b%%/bin/pan-watch" ' in unit
 
 
 def vim(folder):
@@ -535,8 +670,8 @@ def vim(folder):
 
 def main():
     passed = failed = 0
-    parts = (words, found, notes, accidents, lock, state, kept_by_a_watcher, tuned, kept, layout, touched, checked)
-    parts += (for_programs, shown, blamed, installed, vim)
+    parts = (words, found, notes, accidents, lock, state, kept_by_a_watcher, tuned, kept, layout, kept_files, unread)
+    parts += (slips, ended_watcher, touched, checked, for_programs, shown, blamed, installed, vim)
     for part in parts:
         with tempfile.TemporaryDirectory() as room:
             for name, is_well in part(Path(room).resolve()):

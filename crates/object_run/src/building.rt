@@ -1,9 +1,10 @@
-ghost use Rattle.std.specs.Prelude.{◌≡◌, ◌+◌, Ok, map};
+ghost use Rattle.std.specs.Prelude.{◌≡◌, ◌+◌, List, Ok};
 ghost use Rattle.dml_world.specs.Exits.{Tells};
 ghost use Rattle.dml_world.specs.Seen.{meter};
 ghost use Rattle.object_meaning.specs.Builds.{build_ending, built_of, built_run, defaults_run};
 ghost use Rattle.object_run.specs.Ended.{IsFilled, ended};
 ghost use Rattle.questions.specs.Contents.{Answers};
+ghost use Rattle.questions.specs.declared.key.Key.{Key};
 ghost use Rattle.questions.specs.Told.{ToldEnough};
 ghost use Rattle.template_meaning.specs.Program.{no_program};
 ghost use Rattle.plain_statements.specs.Seen.{program_of, site_of};
@@ -21,18 +22,17 @@ use std::sync::ledger::Ledger;
 use template_run::{Made, run_object};
 
 /// What a build makes of a program, once its defaults are put into the tree.
-fn filled<W: World, L: Ledger>(
+fn filled<L: Ledger>(
     alloc: Global,
     header: Place,
     program: Program,
     site: &Site<'_>,
-    world: &W,
     work: &mut Work,
     steps: &mut Steps<L>,
 ) -> Result<Built<Rest>, Stop>
-    ensures gives { (told : Answers) → IsFilled result header site.now.object.now told
-        (program_of program) (meter work.old (W.asked world.now))
-        (meter work.new (W.asked world.now)) }
+    ensures gives { (told : Answers) (asked : List Key) → IsFilled result header
+        site.now.object.now told (program_of program) (meter work.old asked)
+        (meter work.new asked) }
     ensures counted { steps.new + work.new.left ≡ steps.old + work.old.left }
 {
     let Program {
@@ -81,5 +81,5 @@ pub(crate) fn build_object<D: DmlRunner, W: World, L: Ledger>(
     ensures counted { steps.new + work.new.left ≡ steps.old + work.old.left }
 {
     let Made { program, header } = run_object::<D, W, L>(alloc, site, world, work, steps)?;
-    filled(alloc, header, program, site, world, work, steps)
+    filled(alloc, header, program, site, work, steps)
 }

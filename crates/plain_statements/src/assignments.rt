@@ -23,12 +23,12 @@ use path_tree::{PutError, Term, Tree};
 use std::alloc::{AllocError, Global};
 use std::sync::ledger::Ledger;
 
-/// What is assigned to a path as it is written, and how.
+/// What a statement assigns, and how: to a path or a variable as it is written.
 #[derive(Clone, Copy)]
 pub struct Assignment<'a> {
     pub place: &'a Place,
     pub last: bool,
-    pub path: &'a Text,
+    pub target: &'a Text,
     pub conditional: bool,
     pub item: &'a Item,
 }
@@ -38,14 +38,14 @@ impl<'a> Assignment<'a> {
     pub fn new(
         place: &'a Place,
         last: bool,
-        path: &'a Text,
+        target: &'a Text,
         conditional: bool,
         item: &'a Item,
     ) -> Assignment<'a>
         ensures { result ≡ record {
           place = place.entry;
           last = last;
-          path = path.entry;
+          target = target.entry;
           conditional = conditional;
           item = item.entry;
         } }
@@ -53,7 +53,7 @@ impl<'a> Assignment<'a> {
         Assignment {
             place,
             last,
-            path,
+            target,
             conditional,
             item,
         }
@@ -84,7 +84,7 @@ fn put_at<D: DmlRunner, W: World, L: Ledger>(
     execution: &mut Execution<'_, '_, '_, D, W, L>,
 ) -> Result<(), Stop>
     ensures gives { Executes (λ u. u) result W.World execution.old execution.new
-        (put_run assignment.entry.place.now assignment.entry.path.now assignment.entry.last
+        (put_run assignment.entry.place.now assignment.entry.target.now assignment.entry.last
         terms.now value) }
     ensures counted { total execution.new ≡ total execution.old }
     ensures lent { KeepsLoans execution.old execution.new }
@@ -93,7 +93,7 @@ fn put_at<D: DmlRunner, W: World, L: Ledger>(
     let profile = &mut execution.program.profile;
     match profile.assign(alloc, place, terms, assignment.last, value) {
         Ok(()) => Ok(()),
-        Err(error) => Err(unassigned(alloc, place, assignment.path, error)),
+        Err(error) => Err(unassigned(alloc, place, assignment.target, error)),
     }
 }
 
@@ -127,7 +127,7 @@ fn assign_at<D: DmlRunner, W: World, L: Ledger>(
 ) -> Result<(), Stop>
     ensures gives { Executes (λ u. u) result W.World execution.old execution.new
         (assign_terms (site_in W.World inside.now) (inside_of inside.now)
-        assignment.entry.place.now assignment.entry.last assignment.entry.path.now
+        assignment.entry.place.now assignment.entry.last assignment.entry.target.now
         assignment.entry.conditional (item_seen assignment.entry.item.now) terms.now) }
     ensures counted { total execution.new ≡ total execution.old }
     ensures lent { KeepsLoans execution.old execution.new }
@@ -145,8 +145,8 @@ fn assign_at<D: DmlRunner, W: World, L: Ledger>(
     put_at(assignment, terms, value, execution)
 }
 
-/// An assignment (Pan Book, "Statements"): its path, whether that is final, whether it is set
-/// already, its DML, and the change.
+/// An assignment to a path (Pan Book, "Statements"): its terms, whether they are final, whether
+/// they are set already, its DML, and the change.
 #[tactic(auto, using(template_meaning::proofs::Leaving::leaving), unfolding(template_meaning::specs::Statements::assign_run))]
 pub fn assign<D: DmlRunner, W: World, L: Ledger>(
     assignment: Assignment<'_>,
@@ -156,11 +156,11 @@ pub fn assign<D: DmlRunner, W: World, L: Ledger>(
 ) -> Result<(), Stop>
     ensures gives { Executes (λ u. u) result W.World execution.old execution.new
         (assign_run (site_in W.World inside.now) (inside_of inside.now) prefix.now
-        assignment.entry.place.now assignment.entry.last assignment.entry.path.now
+        assignment.entry.place.now assignment.entry.last assignment.entry.target.now
         assignment.entry.conditional (item_seen assignment.entry.item.now)) }
     ensures counted { total execution.new ≡ total execution.old }
     ensures lent { KeepsLoans execution.old execution.new }
 {
-    let terms = path_terms(prefix, assignment.place, assignment.path, execution)?;
+    let terms = path_terms(prefix, assignment.place, assignment.target, execution)?;
     assign_at(assignment, terms.as_slice(), inside, execution)
 }

@@ -11,6 +11,7 @@ ghost use Rattle.plain_statements.specs.Executions.{Executes, KeepsLoans, total}
 ghost use Rattle.plain_statements.specs.Refusals.{IsUnset};
 ghost use Rattle.plain_statements.specs.Seen.{inside_of, program_of, site_in};
 
+use crate::assignments::Assignment;
 use crate::dml::run_in;
 use crate::execution::Execution;
 use crate::program::Program;
@@ -21,48 +22,11 @@ use dml_meaning::automatic_name;
 use dml_runner::DmlRunner;
 use dml_world::leaf::stop_on;
 use dml_world::{SelfUse, Stop, World};
-use pan_ast::{Code, Item, Place};
+use pan_ast::{Code, Place};
 use path_tree::{Kind, Tree, is_name};
 use std::alloc::{AllocError, Global};
 use std::sync::ledger::Ledger;
 use template_meaning::limits::MAX_LOAD_PATHS;
-
-/// A variable statement.
-#[derive(Clone, Copy)]
-pub struct Variable<'a> {
-    pub place: &'a Place,
-    pub last: bool,
-    pub name: &'a Text,
-    pub conditional: bool,
-    pub item: &'a Item,
-}
-
-impl<'a> Variable<'a> {
-    /// A variable statement, of its parts.
-    pub fn new(
-        place: &'a Place,
-        last: bool,
-        name: &'a Text,
-        conditional: bool,
-        item: &'a Item,
-    ) -> Variable<'a>
-        ensures { result ≡ record {
-          place = place.entry;
-          last = last;
-          name = name.entry;
-          conditional = conditional;
-          item = item.entry;
-        } }
-    {
-        Variable {
-            place,
-            last,
-            name,
-            conditional,
-            item,
-        }
-    }
-}
 
 /// Whether a value is a prefix of LOADPATH: an empty text or a template name.
 fn is_prefix(value: &Tree) -> bool
@@ -132,23 +96,24 @@ fn unset(alloc: Global, place: &Place, name: &Text, error: SetError) -> Stop
 /// Sets a variable.
 #[tactic(auto, using(crate::proofs::Refused::unset_comes), unfolding(template_meaning::specs::Statements::set_run))]
 fn set<D: DmlRunner, W: World, L: Ledger>(
-    variable: Variable<'_>,
+    assignment: Assignment<'_>,
     value: Tree,
     execution: &mut Execution<'_, '_, '_, D, W, L>,
 ) -> Result<(), Stop>
     ensures gives { Executes (λ u. u) result W.World execution.old execution.new
-        (set_run variable.entry.place.now variable.entry.last variable.entry.name.now value) }
+        (set_run assignment.entry.place.now assignment.entry.last
+        assignment.entry.target.now value) }
     ensures counted { total execution.new ≡ total execution.old }
     ensures lent { KeepsLoans execution.old execution.new }
 {
-    let (alloc, place) = (execution.alloc, variable.place);
-    if !is_value_for(variable.name, &value) {
+    let (alloc, place) = (execution.alloc, assignment.place);
+    if !is_value_for(assignment.target, &value) {
         return Err(stop_on(alloc, Code::BadArgument, place, ""));
     }
     let globals = &mut execution.program.globals;
-    match globals.set(variable.name, variable.last, value) {
+    match globals.set(assignment.target, assignment.last, value) {
         Ok(()) => Ok(()),
-        Err(error) => Err(unset(alloc, place, variable.name, error)),
+        Err(error) => Err(unset(alloc, place, assignment.target, error)),
     }
 }
 
@@ -175,48 +140,48 @@ fn is_set(program: &Program, name: &Text) -> bool
 /// A statement that may set its variable.
 #[tactic(auto, using(template_meaning::proofs::Leaving::leaving), unfolding(template_meaning::specs::Statements::variable_value))]
 fn run_value<D: DmlRunner, W: World, L: Ledger>(
-    variable: Variable<'_>,
+    assignment: Assignment<'_>,
     inside: &Inside<'_>,
     execution: &mut Execution<'_, '_, '_, D, W, L>,
 ) -> Result<(), Stop>
     ensures gives { Executes (λ u. u) result W.World execution.old execution.new
         (variable_value (site_in W.World inside.now) (inside_of inside.now)
-        variable.entry.place.now variable.entry.last variable.entry.name.now
-        variable.entry.conditional (item_seen variable.entry.item.now)) }
+        assignment.entry.place.now assignment.entry.last assignment.entry.target.now
+        assignment.entry.conditional (item_seen assignment.entry.item.now)) }
     ensures counted { total execution.new ≡ total execution.old }
     ensures lent { KeepsLoans execution.old execution.new }
 {
     let program = &execution.program;
-    if variable.conditional && is_set(program, variable.name) {
+    if assignment.conditional && is_set(program, assignment.target) {
         return Ok(());
     }
-    let self_value = present(program, variable.name)?;
-    let item = variable.item;
+    let self_value = present(program, assignment.target)?;
+    let item = assignment.item;
     let value = run_in(item, SelfUse::Changeable, self_value, inside, execution)?;
-    set(variable, value, execution)
+    set(assignment, value, execution)
 }
 
 /// A variable statement (Pan Book, "Variables"): whether its name may be set, whether it is set
 /// already, its DML, and the change.
 #[tactic(auto, unfolding(template_meaning::specs::Statements::variable_run))]
 pub fn run_variable<D: DmlRunner, W: World, L: Ledger>(
-    variable: Variable<'_>,
+    assignment: Assignment<'_>,
     inside: &Inside<'_>,
     execution: &mut Execution<'_, '_, '_, D, W, L>,
 ) -> Result<(), Stop>
     ensures gives { Executes (λ u. u) result W.World execution.old execution.new
         (variable_run (site_in W.World inside.now) (inside_of inside.now)
-        variable.entry.place.now variable.entry.last variable.entry.name.now
-        variable.entry.conditional (item_seen variable.entry.item.now)) }
+        assignment.entry.place.now assignment.entry.last assignment.entry.target.now
+        assignment.entry.conditional (item_seen assignment.entry.item.now)) }
     ensures counted { total execution.new ≡ total execution.old }
     ensures lent { KeepsLoans execution.old execution.new }
 {
-    let (place, name) = (variable.place, variable.name.as_str());
+    let (place, name) = (assignment.place, assignment.target.as_str());
     if automatic_name(name).is_some() {
         return Err(stop_on(execution.alloc, Code::GlobalChange, place, name));
     }
     if !execution.program.globals.may_set(name) {
         return Err(stop_on(execution.alloc, Code::Final, place, name));
     }
-    run_value(variable, inside, execution)
+    run_value(assignment, inside, execution)
 }

@@ -1,8 +1,10 @@
 ghost use Rattle.std.specs.Prelude.{◌≡◌, IfOk};
-ghost use Rattle.publication.specs.OwnNames.{json_name, dep_name};
+ghost use Rattle.publication.specs.Troubles.{name_of};
+ghost use Rattle.publication.specs.Wants.{bytes_of};
 
 use crate::profile::Profile;
-use base::Text;
+use crate::trouble::Which;
+use base::{Bytes, Text};
 use std::alloc::{AllocError, Global};
 use std::marker::Model;
 
@@ -36,25 +38,31 @@ impl<'p> NamedProfile<'p> {
         Ok(NamedProfile { profile, json, dep })
     }
 
-    /// The profile.
-    pub(crate) fn profile(&self) -> &Profile
-        ensures { result.now ≡ self.now }
+    /// The object's name.
+    pub(crate) fn object(&self) -> &Text
+        ensures { result.now ≡ self.now.name }
     {
-        self.profile
+        &self.profile.name
     }
 
-    /// The name of its first file.
-    pub(crate) fn json_name(&self) -> &Text
-        ensures { result.now ≡ json_name self.now.name }
+    /// The name of one of its files.
+    pub(crate) fn file_name(&self, which: Which) -> &Text
+        ensures { result.now ≡ name_of which self.now.name }
     {
-        &self.json
+        match which {
+            Which::Json => &self.json,
+            Which::Dep => &self.dep,
+        }
     }
 
-    /// The name of its second file.
-    pub(crate) fn dep_name(&self) -> &Text
-        ensures { result.now ≡ dep_name self.now.name }
+    /// The bytes of one of its files.
+    pub(crate) fn bytes(&self, which: Which) -> &Bytes
+        ensures { result.now ≡ bytes_of which self.now }
     {
-        &self.dep
+        match which {
+            Which::Json => &self.profile.json,
+            Which::Dep => &self.profile.dep,
+        }
     }
 }
 

@@ -13,8 +13,8 @@ ghost use Rattle.std.specs.Prelude.{◌+◌, ◌||◌, length};
 ghost use Rattle.publication.specs.Bounds.{Bounded, RemovesWithin, is_within, may_stand_after, removals_in, stays};
 ghost use Rattle.publication.specs.Changing.{done, holds, Tells};
 ghost use Rattle.publication.specs.Logs.{BringsBytes, LoggedBy, Logged, LogsPut, Removes, Writes, put_of, removed};
-ghost use Rattle.publication.specs.OwnNames.{is_own, json_name, dep_name};
-ghost use Rattle.publication.specs.Wants.{wants_of, proper, goes, wanted};
+ghost use Rattle.publication.specs.OwnNames.{is_own};
+ghost use Rattle.publication.specs.Wants.{bytes_of, wants_of, proper, goes, wanted};
 ghost use Rattle.publication.specs.Published.{call_of, Knows, Came, BringsFile, BringsProfile, Partly, Placing, Clearing, Sweeps, Interrupted, InterruptedWithin, Holding, one_or_none, Covers, Names, Published, Drops, Dropping, Bringing, MayBring, may_stand_in};
 ghost use Rattle.publication.specs.Listings.{IsAbsentUnless, Lists};
 ghost use Rattle.std.specs.HashSet.{contains};
@@ -125,8 +125,8 @@ fn wanted_names(alloc: Global, profiles: &[NamedProfile<'_>]) -> Result<HashSet<
     let room = profiles.len().saturating_add(profiles.len());
     let mut names = HashSet::with_capacity(alloc, room)?;
     for profile in profiles {
-        add_name(&mut names, profile.json_name())?;
-        add_name(&mut names, profile.dep_name())?;
+        add_name(&mut names, profile.file_name(Which::Json))?;
+        add_name(&mut names, profile.file_name(Which::Dep))?;
     }
     Ok(names)
 }
@@ -257,35 +257,33 @@ impl Publisher {
     fn bring_file<H: Shelf>(
         &mut self,
         shelf: &mut H,
-        object: &Text,
-        name: &Text,
+        profile: &NamedProfile<'_>,
         which: Which,
-        bytes: &Bytes,
         held: &mut Vec<u8>,
     ) -> Result<Option<Trouble>, AllocError>
         requires open { IsSome (H.opened shelf.old) }
-        requires own { is_own (name_of which object.now) ≡ true }
-        requires named { name.now ≡ name_of which object.now }
+        requires own { is_own (name_of which profile.now.name) ≡ true }
         requires knows { Knows self.old (H.cell shelf.old) }
-        ensures ok { IfOk result (λ trouble. BringsFile object.now which bytes.now trouble
-            (H.fault_count shelf.old) (H.fault_count shelf.new) (H.cell shelf.old)
-            (H.cell shelf.new)) }
+        ensures ok { IfOk result (λ trouble. BringsFile profile.now.name which
+            (bytes_of which profile.now) trouble (H.fault_count shelf.old)
+            (H.fault_count shelf.new) (H.cell shelf.old) (H.cell shelf.new)) }
         ensures knows { OnOk result (Knows self.new (H.cell shelf.new)) }
-        ensures unsettles { OnErr result (AllBut (H.cell shelf.old) (name_of which object.now)
-            (H.cell shelf.new)) }
+        ensures unsettles { OnErr result (AllBut (H.cell shelf.old)
+            (name_of which profile.now.name) (H.cell shelf.new)) }
         ensures later { H.fault_count shelf.old ≤ H.fault_count shelf.new }
         ensures opened { H.opened shelf.new ≡ H.opened shelf.old }
         ensures keys { OnOk result ((n : List ℕ) → may_stand_in self.new n
-            ≡ (bytes_eq (name_of which object.now) n || may_stand_in self.old n)) }
+            ≡ (bytes_eq (name_of which profile.now.name) n || may_stand_in self.old n)) }
         ensures most { self.new.most ≡ self.old.most }
         ensures removals { removals_in (H.changes shelf.new) ≡ removals_in (H.changes shelf.old) }
-        ensures log { IfOk result (λ trouble. IfSome (H.cell shelf.old (name_of which object.now))
-            (LogsPut (name_of which object.now) bytes.now (option_map call_of trouble)
-            (H.changes shelf.old) (H.changes shelf.new))) }
+        ensures log { IfOk result (λ trouble.
+            IfSome (H.cell shelf.old (name_of which profile.now.name))
+            (LogsPut (name_of which profile.now.name) (bytes_of which profile.now)
+            (option_map call_of trouble) (H.changes shelf.old) (H.changes shelf.new))) }
     {
-        match self.bring(shelf, name, bytes, held)? {
+        match self.bring(shelf, profile.file_name(which), profile.bytes(which), held)? {
             Some(call) => Ok(Some(Trouble {
-                object: object.share()?,
+                object: profile.object().share()?,
                 which,
                 call,
             })),
@@ -293,50 +291,7 @@ impl Publisher {
         }
     }
 
-    /// The files of an object, which have these names, get their bytes, or gives the call that failed.
-    fn bring_files<H: Shelf>(
-        &mut self,
-        shelf: &mut H,
-        profile: &Profile,
-        json_name: &Text,
-        dep_name: &Text,
-        held: &mut Vec<u8>,
-    ) -> Result<Option<Trouble>, AllocError>
-        requires open { IsSome (H.opened shelf.old) }
-        requires proper { proper (wants_of (profile.now ∷ [])) ≡ true }
-        requires json { json_name.now ≡ name_of Which.Json profile.now.name }
-        requires dep { dep_name.now ≡ name_of Which.Dep profile.now.name }
-        requires knows { Knows self.old (H.cell shelf.old) }
-        ensures ok { IfOk result (λ trouble. BringsProfile profile.now trouble
-            (H.fault_count shelf.old) (H.fault_count shelf.new) (H.cell shelf.old)
-            (H.cell shelf.new)) }
-        ensures knows { OnOk result (Knows self.new (H.cell shelf.new)) }
-        ensures err { OnErr result (Partly profile.now (H.cell shelf.old) (H.cell shelf.new)) }
-        ensures later { H.fault_count shelf.old ≤ H.fault_count shelf.new }
-        ensures opened { H.opened shelf.new ≡ H.opened shelf.old }
-        ensures keys { IfOk result (λ trouble. MayBring profile.now trouble
-            (may_stand_in self.old) (may_stand_in self.new)) }
-        ensures most { self.new.most ≡ self.old.most }
-        ensures removals { removals_in (H.changes shelf.new) ≡ removals_in (H.changes shelf.old) }
-        ensures log { IfOk result (λ trouble. Tells (H.cell shelf.old) → H.changes shelf.new
-            ≡ done (H.changes shelf.old) (put_of (H.cell shelf.old) profile.now trouble)) }
-    {
-        let json = &profile.json;
-        if let Some(trouble) = self.bring_file(
-            shelf,
-            &profile.name,
-            json_name,
-            Which::Json,
-            json,
-            held,
-        )? {
-            return Ok(Some(trouble));
-        }
-        let dep = &profile.dep;
-        self.bring_file(shelf, &profile.name, dep_name, Which::Dep, dep, held)
-    }
-
-    /// The same of an object with the names of its files.
+    /// Both files of an object get their bytes, or gives the call that failed.
     fn bring_profile<H: Shelf>(
         &mut self,
         shelf: &mut H,
@@ -360,13 +315,10 @@ impl Publisher {
         ensures log { IfOk result (λ trouble. Tells (H.cell shelf.old) → H.changes shelf.new
             ≡ done (H.changes shelf.old) (put_of (H.cell shelf.old) profile.now trouble)) }
     {
-        self.bring_files(
-            shelf,
-            profile.profile(),
-            profile.json_name(),
-            profile.dep_name(),
-            held,
-        )
+        if let Some(trouble) = self.bring_file(shelf, profile, Which::Json, held)? {
+            return Ok(Some(trouble));
+        }
+        self.bring_file(shelf, profile, Which::Dep, held)
     }
 
     /// Each profile's files get their bytes, in the order of the list; calls that fail are added to the troubles.

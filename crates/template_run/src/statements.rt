@@ -18,7 +18,7 @@ use plain_statements::assignments::{Assignment, assign};
 use plain_statements::definitions::{add_valid, bind, define_function, define_type};
 use plain_statements::dml::{find_named, run_in};
 use plain_statements::paths::{Prefix, run_prefix};
-use plain_statements::variables::{Variable, run_variable};
+use plain_statements::variables::run_variable;
 use plain_statements::{Execution, Inside};
 use std::sync::ledger::Ledger;
 
@@ -144,8 +144,8 @@ fn run_form<D: DmlRunner, W: World, L: Ledger>(
             conditional,
             item,
         } => {
-            let variable = Variable::new(place, *last, name, *conditional, item);
-            run_variable(variable, inside, execution)?;
+            let assignment = Assignment::new(place, *last, name, *conditional, item);
+            run_variable(assignment, inside, execution)?;
         }
         StatementForm::Function { name, body } => define_function(
             place, name, body, inside, execution,

@@ -1,9 +1,9 @@
 -- What a type wants at a path below it, as words; nothing where it says nothing there.
-use Rattle.std.specs.Prelude.{ℕ, List, [], ◌∷◌, ◌++◌, bytes_eq, if◌then◌else◌, Option, Some, None, codes}
+use Rattle.std.specs.Prelude.{ℕ, List, [], ◌∷◌, bytes_eq, if◌then◌else◌, Option, Some, None}
 use Rattle.path_tree.specs.declared.path.Term.{Term}
 use Rattle.path_tree.specs.declared.path.Term.TheVariants as term
 use Rattle.type_defs.specs.Resolved.{Resolved, Known, Shape, OfBase, Named, Ranged, ListOf, DictOf, Link, Record, Choice, Fields, none, more}
-use Rattle.wanted_types.specs.Words.{keys_in, names, type_text}
+use Rattle.wanted_types.specs.Words.{fields_words, keys_in, type_text}
 
 -- by the terms behind a first one that is an index, or a key
 abbrev pub below_index : (List Term → Option (List ℕ)) → List Term → Option (List ℕ)
@@ -18,7 +18,7 @@ below_key f (term.Key k ∷ ms) = f k ms
 
 -- of a key that no field has: the keys that there are
 abbrev pub no_field : Fields → List Term → Option (List ℕ)
-no_field fs [] = Some (codes "one of the fields " ++ names (keys_in fs))
+no_field fs [] = Some (fields_words (keys_in fs))
 no_field fs (m ∷ ms) = None
 
 -- the type itself, or what its shape wants below

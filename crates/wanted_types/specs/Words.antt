@@ -56,20 +56,10 @@ abbrev pub dict_words : List (List ℕ) → List ℕ
 dict_words [] = codes "a dict"
 dict_words (key ∷ keys) = codes "a dict with " ++ names (key ∷ keys)
 
-abbrev mutual
-  -- a type, without its test
-  pub words : Resolved → List ℕ
-  words (Known s c n d) = shape_words s
-
-  pub shape_words : Shape → List ℕ
-  shape_words (OfBase b) = base_word b
-  shape_words (Named t) = words t
-  shape_words (Ranged t r) = words t ++ range_text r
-  shape_words (ListOf t r) = codes "list" ++ range_text r ++ codes " of " ++ words t
-  shape_words (DictOf t r) = codes "dict" ++ range_text r ++ codes " of " ++ words t
-  shape_words (Link t) = codes "a link to " ++ words t
-  shape_words (Record e fs) = dict_words (keys_in fs)
-  shape_words (Choice texts) = choices texts
+-- the keys that a dict may have, for one who looks for a key among them
+abbrev pub fields_words : List (List ℕ) → List ℕ
+fields_words [] = codes "a dict without keys"
+fields_words (key ∷ keys) = codes "one of the fields " ++ names (key ∷ keys)
 
 abbrev mutual
   -- a value has to pass a test, that of the type or of one that it names
@@ -89,6 +79,21 @@ abbrev mutual
 abbrev pub test_text : Bool → List ℕ
 test_text true = codes " that passes its test"
 test_text false = []
+
+abbrev mutual
+  -- a type, without its test
+  pub words : Resolved → List ℕ
+  words (Known s c n d) = shape_words s
+
+  pub shape_words : Shape → List ℕ
+  shape_words (OfBase b) = base_word b
+  shape_words (Named t) = words t
+  shape_words (Ranged t r) = words t ++ range_text r
+  shape_words (ListOf t r) = codes "list" ++ range_text r ++ codes " of " ++ words t
+  shape_words (DictOf t r) = codes "dict" ++ range_text r ++ codes " of " ++ words t
+  shape_words (Link t) = codes "a link to " ++ words t ++ test_text (is_tested t)
+  shape_words (Record e fs) = dict_words (keys_in fs)
+  shape_words (Choice texts) = choices texts
 
 abbrev pub type_text : Resolved → List ℕ
 type_text t = words t ++ test_text (is_tested t)

@@ -3,7 +3,7 @@ ghost use Rattle.std.specs.List.{flat_map};
 ghost use Rattle.type_defs.specs.Resolved.{fields_of};
 ghost use Rattle.type_defs.specs.ResolvedSeen.{resolved_seen, shape_seen};
 ghost use Rattle.type_defs.specs.Tables.{all_seen};
-ghost use Rattle.wanted_types.specs.Words.{base_word, choices, dict_words, end_text, is_tested, keys_in, later_names, names, quoted, range_text, rest_mark, shape_tested, shape_words, test_text, type_text, words};
+ghost use Rattle.wanted_types.specs.Words.{base_word, choices, dict_words, end_text, fields_words, is_tested, keys_in, later_names, names, quoted, range_text, rest_mark, shape_tested, shape_words, test_text, type_text, words};
 
 use base::Text;
 use itoa::Buffer;
@@ -122,6 +122,16 @@ fn push_field_names(into: &mut Vec<u8>, keys: &[Text]) -> Result<(), AllocError>
     push_names(into, keys)
 }
 
+#[tactic(auto, using(crate::proofs::Dicts::fields_with, crate::proofs::Dicts::fields_without))]
+fn push_keys(into: &mut Vec<u8>, keys: &[Text]) -> Result<(), AllocError>
+    ensures { OnOk result (into.new.items ≡ into.old.items ++ fields_words keys.now) }
+{
+    if keys.is_empty() {
+        return into.extend_from_slice(b"a dict without keys");
+    }
+    push_field_names(into, keys)
+}
+
 /// The keys of fields, for one who looks for a key among them.
 pub(crate) fn push_fields(
     alloc: Global,
@@ -129,10 +139,10 @@ pub(crate) fn push_fields(
     fields: &[RecordField],
 ) -> Result<(), AllocError>
     ensures { OnOk result (into.new.items ≡ into.old.items
-        ++ (codes "one of the fields " ++ names (keys_in (fields_of (all_seen fields.now))))) }
+        ++ fields_words (keys_in (fields_of (all_seen fields.now)))) }
 {
     let keys = keys_in(alloc, fields)?;
-    push_field_names(into, &keys)
+    push_keys(into, &keys)
 }
 
 fn push_dict_names(into: &mut Vec<u8>, keys: &[Text]) -> Result<(), AllocError>
@@ -218,10 +228,12 @@ fn push_many(
 #[cycle(wording)]
 fn push_link(alloc: Global, into: &mut Vec<u8>, inner: &Resolved) -> Result<(), AllocError>
     ensures { OnOk result (into.new.items ≡ into.old.items
-        ++ (codes "a link to " ++ words (resolved_seen inner.now))) }
+        ++ (codes "a link to " ++ words (resolved_seen inner.now)
+        ++ test_text (is_tested (resolved_seen inner.now)))) }
 {
     into.extend_from_slice(b"a link to ")?;
-    push_words(alloc, into, inner)
+    push_words(alloc, into, inner)?;
+    push_test(into, is_tested(inner))
 }
 
 /// Whether a value of a type has to pass a test.

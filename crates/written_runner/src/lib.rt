@@ -1,5 +1,5 @@
-//! A runner whose templates are short lists of questions: it meets each clause of `Runner`, and histories of the engine
-//! are tried over it.
+//! A runner whose templates are short lists of questions: it meets each clause of `Runner`, and sessions over devices in
+//! memory are tried over it.
 //!
 //! A template is the word `object` and three bytes for each line: a byte between, an operation, and a letter. The last
 //! line gives the object's tree.

@@ -18,5 +18,6 @@ pub returns-clause-gives : goal.returns-clause-gives
 unfolding built_run
 returns-clause-gives g c = λ keys.
     let made = c.run_object.ensures.gives keys in
-    let filled = c.filled.ensures.gives (only keys g.W.World.answers) in
+    let filled = c.filled.ensures.gives (only keys g.W.World.answers)
+    (g.W.World.asked c.run_object.new.world) in
     grind (arith, made, filled)

@@ -11,8 +11,7 @@ use Rattle.object_run.proofs.Filling.{filled_done, filled_failed, filled_left}
 use Rattle.object_run.proofs.building.filled.Goals as goal
 
 pub returns-in-Err-Fault-clause-gives : goal.returns-in-Err-Fault-clause-gives
-returns-in-Err-Fault-clause-gives g c = λ told.
-    let asked = g.W.World.asked c.args.world.now in
+returns-in-Err-Fault-clause-gives g c = λ told asked.
     let after = meter c.fill.new.work asked in
     let failed = filled_failed told (program_of c.args.program) (meter c.args.work.now asked) after
     _ _ _ c.into_parts-tree.ensures.tree c.into_parts-tree.ensures.log
@@ -21,8 +20,7 @@ returns-in-Err-Fault-clause-gives g c = λ told.
     (sym c.in_ok-new-in-Err-Fault.ensures.ok)
 
 pub returns-clause-gives : goal.returns-clause-gives
-returns-clause-gives g c = λ told.
-    let asked = g.W.World.asked c.args.world.now in
+returns-clause-gives g c = λ told asked.
     let after = meter c.fill.new.work asked in
     let program = program_of c.args.program in
     let filled = store c.fill.new.tree c.fill.new.log in (
@@ -39,8 +37,7 @@ returns-clause-gives g c = λ told.
     )
 
 pub returns-in_err-new-in-Err-Fault-clause-gives : goal.returns-in_err-new-in-Err-Fault-clause-gives
-returns-in_err-new-in-Err-Fault-clause-gives g c = λ told.
-    let asked = g.W.World.asked c.args.world.now in
+returns-in_err-new-in-Err-Fault-clause-gives g c = λ told asked.
     let after = meter c.fill.new.work asked in
     let failed = filled_failed told (program_of c.args.program) (meter c.args.work.now asked) after
     _ _ _ c.into_parts-tree.ensures.tree c.into_parts-tree.ensures.log
@@ -48,16 +45,14 @@ returns-in_err-new-in-Err-Fault-clause-gives g c = λ told.
     grind (arith, failed)
 
 pub returns-in-Err-Memory-clause-gives : goal.returns-in-Err-Memory-clause-gives
-returns-in-Err-Memory-clause-gives g c = λ told.
-    let asked = g.W.World.asked c.args.world.now in
+returns-in-Err-Memory-clause-gives g c = λ told asked.
     filled_left told (program_of c.args.program) (meter c.args.work.now asked)
     (meter c.fill.new.work asked) _ _ c.into_parts-tree.ensures.tree
     c.into_parts-tree.ensures.log (rw c.in-Err-Memory.field-0-is at
     (c.in-Err-Memory.ensures.fills told asked))
 
 pub returns-in_err-share-clause-gives : goal.returns-in_err-share-clause-gives
-returns-in_err-share-clause-gives g c = λ told.
-    let asked = g.W.World.asked c.args.world.now in
+returns-in_err-share-clause-gives g c = λ told asked.
     let after = meter c.fill.new.work asked in
     let done = filled_done told (program_of c.args.program) (meter c.args.work.now asked) after _ _
     (store c.fill.new.tree c.fill.new.log) c.into_parts-tree.ensures.tree

@@ -9,8 +9,8 @@ use Rattle.plain_statements.proofs.variables.run_value.Goals as goal
 pub returns-in_err-self_value-clause-gives : goal.returns-in_err-self_value-clause-gives
 returns-in_err-self_value-clause-gives g c = λ keys.
     let leaves = variable_value_leaves (site_in g.W.World c.args.inside.now) g.W.World.plain
-    (inside_of c.args.inside.now) c.args.variable.place.now c.args.variable.last
-    c.args.variable.name.now c.args.variable.conditional (item_seen c.args.variable.item.now)
-    (only keys g.W.World.answers) (program_of c.args.execution.now.program)
-    (meter_of g.W.World c.args.execution.now) in
+    (inside_of c.args.inside.now) c.args.assignment.place.now c.args.assignment.last
+    c.args.assignment.target.now c.args.assignment.conditional
+    (item_seen c.args.assignment.item.now) (only keys g.W.World.answers)
+    (program_of c.args.execution.now.program) (meter_of g.W.World c.args.execution.now) in
     grind (arith, leaves)

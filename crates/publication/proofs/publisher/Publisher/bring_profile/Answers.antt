@@ -6,7 +6,7 @@ use Rattle.publication.proofs.Files.{json_failed, json_done, partly}
 use Rattle.publication.specs.OwnNames.{json_name}
 use Rattle.publication.proofs.Keys.{first_keys, keys_result}
 use Rattle.publication.proofs.Logging.{first_log, second_result, at_name}
-use Rattle.publication.proofs.publisher.Publisher.bring_files.Goals as goal
+use Rattle.publication.proofs.publisher.Publisher.bring_profile.Goals as goal
 
 pub returns-in-Some-clause-ok : goal.returns-in-Some-clause-ok
 returns-in-Some-clause-ok g c =
